@@ -1,0 +1,18 @@
+//! Addresses, ranges and blocks, and the small types and text shapes that every other crate speaks.
+#![tactic(auto)]
+
+mod addr;
+mod block;
+mod bytes;
+mod list;
+mod memory;
+mod range;
+mod text;
+
+pub use addr::Addr;
+pub use block::Block;
+pub use bytes::Bytes;
+pub use list::List;
+pub use memory::Memory;
+pub use range::{Range, range_of};
+pub use text::Text;
