@@ -4,6 +4,8 @@
 mod addr;
 mod block;
 mod bytes;
+mod digits;
+mod line;
 mod list;
 mod memory;
 mod range;
@@ -12,6 +14,8 @@ mod text;
 pub use addr::Addr;
 pub use block::Block;
 pub use bytes::Bytes;
+pub use digits::decimal;
+pub use line::{cut_at, is_blank, skip_mark, trim_blanks};
 pub use list::List;
 pub use memory::Memory;
 pub use range::{Range, range_of};
