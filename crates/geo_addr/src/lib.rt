@@ -2,6 +2,7 @@
 #![tactic(auto)]
 
 mod addr;
+mod bits;
 mod block;
 mod bytes;
 mod digits;
@@ -12,6 +13,7 @@ mod range;
 mod text;
 
 pub use addr::Addr;
+pub use bits::one_list_of_bits;
 pub use block::Block;
 pub use bytes::Bytes;
 pub use digits::decimal;
