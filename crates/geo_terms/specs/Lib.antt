@@ -1,0 +1,10 @@
+pub mod Cuts
+pub mod DelegationForm
+pub mod First
+pub mod Numbers
+pub mod NoteText
+pub mod PlaceForm
+pub mod Precedence
+pub mod Report
+pub mod SourceForm
+pub mod Sources
