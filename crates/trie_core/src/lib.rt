@@ -1,0 +1,4 @@
+//! The store of a search tree's nodes, and what its nodes mean.
+#![tactic(auto)]
+
+pub mod laws;
