@@ -1,0 +1,29 @@
+use Rattle.std.proofs.Common.{◌≡◌, ◌≤◌, ℕ, ◌++◌, ◌∙◌, sym, arith, rules, length, take}
+use Rattle.std.proofs.lemmas.Grind.{common_steps}
+use Rattle.std.specs.Prelude.{Some}
+use Rattle.geo_outside.proofs.Reading.{first_more, first_all, first_long}
+use Rattle.geo_outside.proofs.whole.read_whole.Goals as goal
+
+pub returns-then-n-eq0-clause-bytes : goal.returns-then-n-eq0-clause-bytes
+returns-then-n-eq0-clause-bytes g c w told =
+    let now = c.loop-piece.invariant.same ∙ told in
+    let place : c.len-in-loop-piece.result ≡ length c.loop-piece.bytes.items = omega arith in
+    first_all _ _ c.read_at.new.into _ c.in-Ok.n place c.if-n-eq0.true (c.in-Ok.ensures.held w now) (λ file is. c.in-Ok.ensures.bytes w file now is) (c.loop-piece.invariant.first w told)
+
+pub loop-piece-preserved : goal.loop-piece-preserved
+loop-piece-preserved g c =
+    record {
+      room = search rules;
+      same = search rules;
+      read_faults = search rules;
+      put_faults = search rules;
+      misses = search rules;
+      given = grind (arith, common_steps);
+      few = grind (arith, common_steps);
+      first = λ w told.
+          let now = c.loop-piece.invariant.same ∙ told in
+          let place : c.len-in-loop-piece.result ≡ length c.loop-piece.bytes.items = omega arith in
+          let more : c.extend_from_slice.new.self.items ≡ c.loop-piece.bytes.items ++ take c.in-Ok.n c.read_at.new.into = grind (arith, common_steps) in
+          let room : c.in-Ok.n ≤ length c.read_at.new.into = omega (arith, c.in-Ok.ensures.room) in
+          first_more _ _ c.read_at.new.into _ _ c.in-Ok.n place room (c.in-Ok.ensures.held w now) (λ file is. c.in-Ok.ensures.bytes w file now is) more (c.loop-piece.invariant.first w told);
+    }
