@@ -1,2 +1,4 @@
 pub mod Blocks
 pub mod BitsLemmas
+pub mod Cuts
+pub mod Decimals

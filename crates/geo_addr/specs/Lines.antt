@@ -1,6 +1,7 @@
 -- The shapes that all text files share: pieces between a separator, lines and blanks.
 -- A byte is its number: 9 is the tab, 10 the line feed, 13 the carriage return, 32 the space.
 use Rattle.std.specs.Prelude.{ℕ, ◌-◌, ◌||◌, ◌==◌, Bool, nat_eq, if◌then◌else◌, List, [], ◌∷◌, Option, None, Some, length, take, drop}
+use Rattle.std.specs.Str.Lines.{strip_carriage_return}
 use Rattle.std.specs.List.{enumerate_from, prefix_len, slice_split, starts_with, suffix_len}
 
 -- the pieces of a text between the separators, of which there is always one more than of these
@@ -12,18 +13,12 @@ abbrev pub pieces_after : ℕ → Option (List ℕ) → List (List ℕ)
 pieces_after separator None = []
 pieces_after separator (Some text) = pieces separator text
 
--- a piece without the one carriage return at its end
-abbrev pub without_return : List ℕ → List ℕ
-without_return [] = []
-without_return (b ∷ []) = if b == 13 then [] else b ∷ []
-without_return (b ∷ c ∷ more) = b ∷ without_return (c ∷ more)
-
--- each piece is a line, but an empty one after the last line feed is none
+-- each piece is a line, less the one carriage return at its end; an empty piece after the last line feed is none
 abbrev pub lines_of_pieces : List (List ℕ) → List (List ℕ)
 lines_of_pieces [] = []
 lines_of_pieces ([] ∷ []) = []
-lines_of_pieces ((b ∷ bs) ∷ []) = without_return (b ∷ bs) ∷ []
-lines_of_pieces (piece ∷ next ∷ more) = without_return piece ∷ lines_of_pieces (next ∷ more)
+lines_of_pieces ((b ∷ bs) ∷ []) = strip_carriage_return (b ∷ bs) ∷ []
+lines_of_pieces (piece ∷ next ∷ more) = strip_carriage_return piece ∷ lines_of_pieces (next ∷ more)
 
 -- the lines of a text
 abbrev pub lines_of : List ℕ → List (List ℕ)

@@ -24,6 +24,7 @@ fn are_digits(text: &[u8]) -> bool
 }
 
 // The value of at most 38 digits, which fits 128 bits.
+
 fn digits_value(text: &[u8]) -> u128
     requires few { length text.now ≤ 38 }
     requires digits { IsTrue (list_all is_ascii_digit text.now) }

@@ -17,7 +17,7 @@ pub use bits::one_list_of_bits;
 pub use block::Block;
 pub use bytes::Bytes;
 pub use digits::decimal;
-pub use line::{cut_at, is_blank, skip_mark, trim_blanks};
+pub use line::{Line, Lines, cut_at, is_blank, skip_mark, trim_blanks};
 pub use list::List;
 pub use memory::Memory;
 pub use range::{Range, range_of};

@@ -1,26 +1,37 @@
-ghost use Rattle.std.specs.Prelude.{◌≡◌, ◌+◌, ◌-◌, ◌<◌, ◌≤◌, ◌^◌, ◌∷◌, ◌++◌, ◌==◌, length, position, MatchOption, All, ◌≢◌};
+ghost use Rattle.std.specs.Prelude.{◌≡◌, ◌+◌, ◌-◌, ◌<◌, ◌≤◌, ◌^◌, ◌∷◌, ◌++◌, ◌==◌, length, MatchOption, All, ◌≢◌};
+ghost use Rattle.std.specs.Iterator.{YieldsFirstBy, item_count};
+ghost use Rattle.std.specs.List.{position_or_len};
 ghost use Rattle.std.specs.Option.{option_copied};
-ghost use Rattle.geo_addr.specs.Lines.{is_blank, pieces, pieces_after, trimmed, trimmed_start, trimmed_end, without_mark, without_return};
+ghost use Rattle.geo_addr.specs.Lines.{is_blank, numbered_lines, pieces, pieces_after, trimmed, trimmed_start, trimmed_end, without_mark};
+ghost use Rattle.std.specs.Str.Lines.{strip_carriage_return};
 
 use memchr::memchr;
+use std::marker::Model;
 
 /// The text before the first `separator`, and the text after it, which is `None` where there is no separator.
+
 pub fn cut_at(text: &[u8], separator: u8) -> (&[u8], Option<&[u8]>)
     ensures pieces { pieces separator text.now ≡ result.0.now ∷ pieces_after separator (option_copied result.1) }
     ensures free { All (λ b. b ≢ separator) result.0.now }
     ensures joined { MatchOption result.1 (text.now ≡ result.0.now) (λ after. text.now ≡ result.0.now ++ separator ∷ after.now) }
 {
-    match first_place(text, separator) {
-        None => (text, None),
-        Some(place) => (&text[..place], Some(&text[place + 1..])),
+    let place = first_place(text, separator);
+    if place == text.len() {
+        return (text, None);
     }
+    (&text[..place], Some(&text[place + 1..]))
 }
 
-// Where the byte stands first.
-fn first_place(text: &[u8], byte: u8) -> Option<usize>
-    ensures { result ≡ position (λ b. b == byte) text.now }
+// Where the byte stands first, or the text's length where it does not.
+#[tactic(auto, using(crate::proofs::Cuts::finding))]
+fn first_place(text: &[u8], byte: u8) -> usize
+    ensures place { result ≡ position_or_len (λ b. b == byte) text.now }
+    ensures within { result ≤ length text.now }
 {
-    memchr(byte, text)
+    match memchr(byte, text) {
+        Some(place) => place,
+        None => text.len(),
+    }
 }
 
 /// Whether the byte is a blank: a space or a tab.
@@ -75,10 +86,72 @@ pub fn skip_mark(file: &[u8]) -> &[u8]
 
 // The line that a piece between line feeds is: without the one carriage return at its end.
 fn without_return(piece: &[u8]) -> &[u8]
-    ensures { result.now ≡ without_return piece.now }
+    ensures { result.now ≡ strip_carriage_return piece.now }
 {
     match piece {
         [line @ .., b'\r'] => line,
         _ => piece,
+    }
+}
+
+/// A line of a file: its number, from 1, and its bytes without the line end.
+#[derive(Clone, Copy, Debug)]
+pub struct Line<'a> {
+    pub number: u64,
+    pub text: &'a [u8],
+}
+
+/// The lines of a file in order, each with its number.
+///
+/// Contracts see the list of the lines that are left, each a number and its bytes.
+#[derive(Drop)]
+pub struct Lines<'a> {
+    // The number of the line before.
+    number: u64,
+    left: &'a [u8],
+}
+
+impl<'a> Model for Lines<'a> {
+    ghost use Rattle.std.specs.Prelude.{ℕ, ◌+◌, ◌^◌, ◌<◌, List, length};
+    ghost use Rattle.std.specs.List.{enumerate_from};
+    ghost use Rattle.geo_addr.specs.Lines.{lines_of};
+
+    ghost Value = { List (ℕ × List ℕ) };
+
+    ghost view = { λ l. enumerate_from (l.number + 1) (lines_of l.left.now) };
+
+    ghost invariant = { λ l. l.number + length l.left.now < 2 ^ 64 };
+}
+
+impl<'a> Lines<'a> {
+    /// The lines of a file, after the byte order mark at its start, if it has one.
+    pub fn of(file: &'a [u8]) -> Lines<'a>
+        ensures { result ≡ numbered_lines file.now }
+    {
+        Lines {
+            number: 0,
+            left: skip_mark(file),
+        }
+    }
+}
+
+impl<'a> Iterator for Lines<'a> {
+    type Item = Line<'a>;
+
+    ghost next_gives = { YieldsFirstBy (λ line. (line.number, line.text.now)) (λ left. left) };
+
+    ghost remaining = { item_count (λ left. left) };
+
+    fn next(&mut self) -> Option<Line<'a>> {
+        if self.left.is_empty() {
+            return None;
+        }
+        let (piece, after) = cut_at(self.left, b'\n');
+        self.left = after.unwrap_or(&[]);
+        self.number += 1;
+        Some(Line {
+            number: self.number,
+            text: without_return(piece),
+        })
     }
 }
