@@ -1,11 +1,10 @@
 -- Lemmas on cutting a text at a byte.
-use Rattle.std.proofs.Common.{◌≡◌, ◌≢◌, ℕ, ◌+◌, ◌-◌, ◌<◌, ◌≤◌, Bool, true, false, List, [], ◌∷◌, ◌++◌, length, take, drop, get_or, arith, refl, ap, subst, sym, ◌∙◌, eqb}
-use Rattle.std.specs.List.{All, position_or_len, slice_split}
+use Rattle.std.proofs.Common.{◌≡◌, ◌≢◌, ℕ, ◌+◌, ◌<◌, Bool, true, false, List, [], ◌∷◌, ◌++◌, length, take, drop, get_or, arith, refl, subst, sym, eqb}
+use Rattle.std.specs.List.{position_or_len, slice_split}
 use Rattle.std.proofs.lemmas.List.Sums.{position_or_len_is, fails_before_first, passes_at_first, split_at_first}
 use Rattle.std.proofs.lemmas.List.Splits.{slice_split_first, slice_split_none}
 use Rattle.std.proofs.lemmas.Bool.Decides.{nat_tests}
-use Rattle.std.proofs.lemmas.Grind.{common_steps}
-use Rattle.memchr.specs.Find.{IsFirst, Nowhere, NoneBefore, Passes, is_byte}
+use Rattle.memchr.specs.Find.{Nowhere, NoneBefore, Passes, is_byte}
 
 -- where a byte stands first
 abbrev place_of : ℕ → List ℕ → ℕ
@@ -36,7 +35,7 @@ joined_at_place byte xs i at within =
     let test : eqb (get_or xs (place_of byte xs) 0) byte ≡ true = passes_at_first (λ b. eqb b byte) xs 0 there in
     let is : get_or xs (place_of byte xs) 0 ≡ byte = grind (arith, nat_tests) in
     let cut : xs ≡ take (place_of byte xs) xs ++ (byte ∷ drop (place_of byte xs + 1) xs) =
-        subst (λ (b : ℕ). xs ≡ take (place_of byte xs) xs ++ (b ∷ drop (place_of byte xs + 1) xs)) is (split_at_first (λ b. eqb b byte) xs 0 there) in
+    subst (λ (b : ℕ). xs ≡ take (place_of byte xs) xs ++ (b ∷ drop (place_of byte xs + 1) xs)) is (split_at_first (λ b. eqb b byte) xs 0 there) in
     subst (λ (n : ℕ). xs ≡ take n xs ++ (byte ∷ drop (n + 1) xs)) (sym at) cut
 
 false_from_not : (b : Bool) → (b ≡ true → ⊥) → b ≡ false

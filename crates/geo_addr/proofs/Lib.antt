@@ -2,3 +2,4 @@ pub mod Blocks
 pub mod BitsLemmas
 pub mod Cuts
 pub mod Decimals
+pub mod LineLemmas

@@ -13,11 +13,15 @@ abbrev pub pieces_after : ℕ → Option (List ℕ) → List (List ℕ)
 pieces_after separator None = []
 pieces_after separator (Some text) = pieces separator text
 
--- each piece is a line, less the one carriage return at its end; an empty piece after the last line feed is none
+-- what stands after the last line feed is a line where it is not empty
+abbrev pub last_line : List ℕ → List (List ℕ)
+last_line [] = []
+last_line (b ∷ bs) = strip_carriage_return (b ∷ bs) ∷ []
+
+-- each piece is a line, less the one carriage return at its end
 abbrev pub lines_of_pieces : List (List ℕ) → List (List ℕ)
 lines_of_pieces [] = []
-lines_of_pieces ([] ∷ []) = []
-lines_of_pieces ((b ∷ bs) ∷ []) = strip_carriage_return (b ∷ bs) ∷ []
+lines_of_pieces (piece ∷ []) = last_line piece
 lines_of_pieces (piece ∷ next ∷ more) = strip_carriage_return piece ∷ lines_of_pieces (next ∷ more)
 
 -- the lines of a text

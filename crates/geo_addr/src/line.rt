@@ -2,7 +2,7 @@ ghost use Rattle.std.specs.Prelude.{◌≡◌, ◌+◌, ◌-◌, ◌<◌, ◌≤
 ghost use Rattle.std.specs.Iterator.{YieldsFirstBy, item_count};
 ghost use Rattle.std.specs.List.{position_or_len};
 ghost use Rattle.std.specs.Option.{option_copied};
-ghost use Rattle.geo_addr.specs.Lines.{is_blank, numbered_lines, pieces, pieces_after, trimmed, trimmed_start, trimmed_end, without_mark};
+ghost use Rattle.geo_addr.specs.Lines.{is_blank, lines_of, numbered_lines, pieces, pieces_after, trimmed, trimmed_start, trimmed_end, without_mark};
 ghost use Rattle.std.specs.Str.Lines.{strip_carriage_return};
 
 use memchr::memchr;
@@ -146,12 +146,23 @@ impl<'a> Iterator for Lines<'a> {
         if self.left.is_empty() {
             return None;
         }
-        let (piece, after) = cut_at(self.left, b'\n');
-        self.left = after.unwrap_or(&[]);
+        let (text, after) = cut_line(self.left);
+        self.left = after;
         self.number += 1;
-        Some(Line {
-            number: self.number,
-            text: without_return(piece),
-        })
+        let number = self.number;
+        Some(Line { number, text })
+    }
+}
+
+// The first line of a text that is not empty, and what stands after its line feed.
+fn cut_line(text: &[u8]) -> (&[u8], &[u8])
+    requires { 0 < length text.now }
+    ensures lines { lines_of text.now ≡ result.0.now ∷ lines_of result.1.now }
+    ensures shorter { length result.1.now < length text.now }
+{
+    let (piece, after) = cut_at(text, b'\n');
+    match after {
+        Some(after) => (without_return(piece), after),
+        None => (without_return(piece), &[]),
     }
 }

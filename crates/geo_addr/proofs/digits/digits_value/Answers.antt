@@ -1,5 +1,4 @@
-use Rattle.std.proofs.Common.{◌≡◌, ◌*◌, ◌+◌, ◌-◌, ◌<◌, ◌≤◌, get_or, arith, ap, sym, ◌∙◌}
-use Rattle.std.specs.Str.Parse.{digits_value}
+use Rattle.std.proofs.Common.{◌≤◌, arith}
 use Rattle.geo_addr.proofs.Decimals.{digit_at, next_power, room, value_more}
 use Rattle.geo_addr.proofs.digits.digits_value.Goals as goal
 

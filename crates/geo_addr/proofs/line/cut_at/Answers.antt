@@ -1,4 +1,4 @@
-use Rattle.std.proofs.Common.{◌≡◌, ◌+◌, ◌-◌, ◌<◌, ◌≤◌, length, arith, sym, take, ◌∙◌}
+use Rattle.std.proofs.Common.{◌≡◌, ◌<◌, length, arith, sym, take, ◌∙◌}
 use Rattle.std.proofs.lemmas.List.{get_or-take, length-take-le, take_rest}
 use Rattle.geo_addr.proofs.Cuts.{free_before, joined_at_place, one_piece, pieces_at_place}
 use Rattle.geo_addr.proofs.line.cut_at.Goals as goal

@@ -1,4 +1,4 @@
-use Rattle.std.proofs.Common.{◌≡◌, ℕ, length}
+use Rattle.std.proofs.Common.{◌≡◌, length}
 use Rattle.geo_addr.specs.Lines.{trimmed_start}
 use Rattle.geo_addr.proofs.line.trim_start.Given as goal
 
