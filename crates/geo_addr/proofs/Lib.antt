@@ -3,3 +3,6 @@ pub mod BitsLemmas
 pub mod Cuts
 pub mod Decimals
 pub mod LineLemmas
+mod Blocks
+mod PartLemmas
+mod V4Lemmas
