@@ -1,8 +1,8 @@
-pub mod Blocks
 pub mod BitsLemmas
 pub mod Cuts
 pub mod Decimals
 pub mod LineLemmas
 mod Blocks
+pub mod Blocks
 mod PartLemmas
 mod V4Lemmas

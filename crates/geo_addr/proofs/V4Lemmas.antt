@@ -2,11 +2,11 @@
 use Rattle.std.proofs.Common.{◌≡◌, ℕ, ◌+◌, ◌*◌, ◌<◌, ◌≤◌, Bool, true, false, ◌&&◌, not, List, [], ◌∷◌, length, Ok, Err, Result, refl, sym, ap, ◌∙◌, subst, arith}
 use Rattle.std.specs.Str.Parse.{digits_value}
 use Rattle.std.proofs.lemmas.Bool.{and_left, and_right}
-use Rattle.geo_addr.specs.Parts.{pieces, is_number}
+use Rattle.geo_addr.specs.Lines.{pieces}
 use Rattle.geo_addr.specs.Ipv4Texts.{is_part, is_octet, are_four, ipv4_of, octets_number}
 use Rattle.geo_addr.specs.declared.fault.AddrFault.{AddrFault}
 use Rattle.geo_addr.specs.declared.fault.AddrFault.TheVariants.{Form, Octet}
-use Rattle.geo_addr.proofs.PartLemmas.{pieces_number, one_piece}
+use Rattle.geo_addr.proofs.PartLemmas.{pieces_digits, one_piece}
 
 early_fails : (test : List ℕ → Bool) (a b c : List ℕ) (parts : List (List ℕ)) → (test a && test b && test c) ≡ false → are_four test (a ∷ b ∷ c ∷ parts) ≡ false
 early_fails test a b c [] fails = refl
@@ -45,8 +45,8 @@ pub record AreParts (a b c d : List ℕ) : Type 0 where
 
 pub no_octets : (a b c d : List ℕ) → AreParts a b c d → (is_octet a && is_octet b && is_octet c && is_octet d) ≡ false → Err Octet ≡ ipv4_of (a ∷ b ∷ c ∷ pieces 46 d)
 unfolding ipv4_of
-no_octets a b c d h fails = rw (pieces_number 46 10 3 d refl h.fourth, h.first, h.second, h.third, h.fourth, fails) refl
+no_octets a b c d h fails = rw (pieces_digits 1 3 d h.fourth, h.first, h.second, h.third, h.fourth, fails) refl
 
 pub four_octets : (a b c d : List ℕ) (n : ℕ) → AreParts a b c d → (is_octet a && is_octet b && is_octet c && is_octet d) ≡ true → n ≡ octets_number (a ∷ b ∷ c ∷ d ∷ []) → Ok n ≡ ipv4_of (a ∷ b ∷ c ∷ pieces 46 d)
 unfolding ipv4_of
-four_octets a b c d n h octets is = rw (pieces_number 46 10 3 d refl h.fourth, h.first, h.second, h.third, h.fourth, octets) (ap Ok is)
+four_octets a b c d n h octets is = rw (pieces_digits 1 3 d h.fourth, h.first, h.second, h.third, h.fourth, octets) (ap Ok is)

@@ -4,11 +4,12 @@ use Rattle.std.specs.Str.Parse.{digits_value}
 use Rattle.std.specs.Int.Digits.{number_from_digits}
 use Rattle.geo_addr.specs.declared.fault.AddrFault.{AddrFault}
 use Rattle.geo_addr.specs.declared.fault.AddrFault.TheVariants.{Form, Octet}
-use Rattle.geo_addr.specs.Parts.{pieces, is_number}
+use Rattle.geo_addr.specs.Decimals.{has_digits}
+use Rattle.geo_addr.specs.Lines.{pieces}
 
 -- a part: one to three decimal digits
 abbrev pub is_part : List ℕ → Bool
-is_part part = is_number 10 3 part
+is_part part = has_digits 1 3 part
 
 -- an octet: a part with no zero in front of another digit, and at most 255
 unfoldable pub is_octet : List ℕ → Bool

@@ -23,7 +23,7 @@ pub fn parse_addr(text: &[u8]) -> Result<Addr, AddrFault>
         return Err(AddrFault::Form);
     }
     match read_v4(text) {
-        Ok(number) => Ok(Addr(u128::from(number))),
+        Ok(number) => Ok(Addr(number)),
         Err(fault) => Err(fault),
     }
 }

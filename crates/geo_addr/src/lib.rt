@@ -11,7 +11,6 @@ mod fault;
 mod line;
 mod list;
 mod memory;
-mod parts;
 mod range;
 mod text;
 mod v4;

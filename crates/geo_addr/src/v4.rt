@@ -1,14 +1,24 @@
-ghost use Rattle.std.specs.Prelude.{◌≡◌, ◌∷◌, ◌≤◌, true, false, MatchBool};
+ghost use Rattle.std.specs.Prelude.{◌≡◌, ◌∷◌, ◌≤◌, true, false, MatchBool, MatchOption};
 ghost use Rattle.std.specs.Str.Parse.{digits_value};
-ghost use Rattle.geo_addr.specs.Ipv4Texts.{ipv4_in, ipv4_of, is_octet};
-ghost use Rattle.geo_addr.specs.Parts.{pieces};
+ghost use Rattle.geo_addr.specs.Ipv4Texts.{ipv4_in, ipv4_of, is_octet, is_part};
+ghost use Rattle.geo_addr.specs.Lines.{pieces};
 
+use crate::digits::decimal;
 use crate::fault::AddrFault;
-use crate::parts::{cut_at, number};
+use crate::line::cut_at;
+
+/// The number that a part spells: one to three digits.
+fn part(text: &[u8]) -> Option<u128>
+    ensures { MatchOption result
+        (is_part text.now ≡ false)
+        (λ value. (is_part text.now ≡ true) × (value ≡ digits_value 10 text.now)) }
+{
+    decimal(text, 1, 3)
+}
 
 #[tactic(auto, unfolding(crate::specs::Ipv4Texts::is_octet))]
 /// Whether a part that spells `value` is an octet: no zero in front, and at most 255.
-fn is_octet(part: &[u8], value: u32) -> bool
+fn is_octet(part: &[u8], value: u128) -> bool
     requires { value ≡ digits_value 10 part.now }
     ensures { MatchBool result
         ((is_octet part.now ≡ true) × (value ≤ 255))
@@ -19,34 +29,34 @@ fn is_octet(part: &[u8], value: u32) -> bool
 
 #[tactic(auto, unfolding(crate::specs::Ipv4Texts::ipv4_of))]
 /// The address that four decimal numbers with dots between them spell.
-pub(crate) fn read_v4(text: &[u8]) -> Result<u32, AddrFault>
+pub(crate) fn read_v4(text: &[u8]) -> Result<u128, AddrFault>
     ensures { result ≡ ipv4_in text.now }
 {
-    let Some((a, rest)) = cut_at(text, b'.') else {
+    let (a, Some(rest)) = cut_at(text, b'.') else {
         return Err(AddrFault::Form);
     };
-    let Some((b, rest)) = cut_at(rest, b'.') else {
+    let (b, Some(rest)) = cut_at(rest, b'.') else {
         return Err(AddrFault::Form);
     };
-    let Some((c, d)) = cut_at(rest, b'.') else {
+    let (c, Some(d)) = cut_at(rest, b'.') else {
         return Err(AddrFault::Form);
     };
     read_parts(a, b, c, d)
 }
 
-fn read_parts(a: &[u8], b: &[u8], c: &[u8], d: &[u8]) -> Result<u32, AddrFault>
+fn read_parts(a: &[u8], b: &[u8], c: &[u8], d: &[u8]) -> Result<u128, AddrFault>
     ensures { result ≡ ipv4_of (a.now ∷ b.now ∷ c.now ∷ pieces 46 d.now) }
 {
-    let Some(first) = number(a, 10, 3) else {
+    let Some(first) = part(a) else {
         return Err(AddrFault::Form);
     };
-    let Some(second) = number(b, 10, 3) else {
+    let Some(second) = part(b) else {
         return Err(AddrFault::Form);
     };
-    let Some(third) = number(c, 10, 3) else {
+    let Some(third) = part(c) else {
         return Err(AddrFault::Form);
     };
-    let Some(fourth) = number(d, 10, 3) else {
+    let Some(fourth) = part(d) else {
         return Err(AddrFault::Form);
     };
     if is_octet(a, first) && is_octet(b, second) && is_octet(c, third) && is_octet(d, fourth) {

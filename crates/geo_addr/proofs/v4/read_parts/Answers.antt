@@ -7,34 +7,34 @@ use Rattle.geo_addr.proofs.v4.read_parts.Goals.{else-is_octet-via-then-is_octet+
 pub returns-in_default : goal.returns-in_default
 returns-in_default c = first_fails _ _ _ _ c.in_default.ensures
 
-pub returns-in_default-number : goal.returns-in_default-number
-returns-in_default-number c = second_fails _ _ _ _ c.in_default-number.ensures
+pub returns-in_default-part : goal.returns-in_default-part
+returns-in_default-part c = second_fails _ _ _ _ c.in_default-part.ensures
 
-pub returns-in_default-number-2 : goal.returns-in_default-number-2
-returns-in_default-number-2 c = third_fails _ _ _ _ c.in_default-number-2.ensures
+pub returns-in_default-part-2 : goal.returns-in_default-part-2
+returns-in_default-part-2 c = third_fails _ _ _ _ c.in_default-part-2.ensures
 
-pub returns-in_default-number-3 : goal.returns-in_default-number-3
-returns-in_default-number-3 c = fourth_fails _ _ _ _ c.in_default-number-3.ensures
+pub returns-in_default-part-3 : goal.returns-in_default-part-3
+returns-in_default-part-3 c = fourth_fails _ _ _ c.args.d.now c.in_default-part-3.ensures
 
 pub returns-then-is_octet-4 : goal.returns-then-is_octet-4
 returns-then-is_octet-4 c =
     let parts : AreParts _ _ _ _ = record {
       first = c.in-Some.ensures.0;
-      second = c.in-Some-number.ensures.0;
-      third = c.in-Some-number-2.ensures.0;
-      fourth = c.in-Some-number-3.ensures.0;
+      second = c.in-Some-part.ensures.0;
+      third = c.in-Some-part-2.ensures.0;
+      fourth = c.in-Some-part-3.ensures.0;
     } in
     let octets = and_from _ _ (and_from _ _ (and_from _ _ c.if-is_octet.ensures.0 c.if-is_octet-2.ensures.0) c.if-is_octet-3.ensures.0) c.if-is_octet-4.ensures.0 in
     four_octets _ _ _ _ _ parts octets
-    (omega (arith, c.in-Some.ensures.1, c.in-Some-number.ensures.1, c.in-Some-number-2.ensures.1, c.in-Some-number-3.ensures.1))
+    (omega (arith, c.in-Some.ensures.1, c.in-Some-part.ensures.1, c.in-Some-part-2.ensures.1, c.in-Some-part-3.ensures.1))
 
 pub returns-else-is_octet : goal.returns-else-is_octet
 returns-else-is_octet c =
     let parts : AreParts _ _ _ _ = record {
       first = c.in-Some.ensures.0;
-      second = c.in-Some-number.ensures.0;
-      third = c.in-Some-number-2.ensures.0;
-      fourth = c.in-Some-number-3.ensures.0;
+      second = c.in-Some-part.ensures.0;
+      third = c.in-Some-part-2.ensures.0;
+      fourth = c.in-Some-part-3.ensures.0;
     } in
     no_octets _ _ _ _ parts
     (elim c.else-is_octet.branch [
