@@ -2,7 +2,6 @@ pub mod BitsLemmas
 pub mod Cuts
 pub mod Decimals
 pub mod LineLemmas
-mod Blocks
 pub mod Blocks
 mod PartLemmas
 mod V4Lemmas

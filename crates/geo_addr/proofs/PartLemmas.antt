@@ -28,5 +28,5 @@ pub pieces_digits : (least most : ℕ) (text : List ℕ) → has_digits least mo
 pieces_digits least most text h = pieces_all is_ascii_digit 46 text refl (and_parts _ _ h).1
 
 -- a text that is one piece is that piece
-pub one_piece : (c : ℕ) (text part : List ℕ) → pieces c text ≡ part ∷ [] → part ≡ text
-one_piece c text part e = sym (ap (join_with_byte c) e) ∙ join_with_byte-slice_split c text
+pub whole_piece : (c : ℕ) (text part : List ℕ) → pieces c text ≡ part ∷ [] → part ≡ text
+whole_piece c text part e = sym (ap (join_with_byte c) e) ∙ join_with_byte-slice_split c text

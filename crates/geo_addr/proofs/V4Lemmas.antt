@@ -6,7 +6,7 @@ use Rattle.geo_addr.specs.Lines.{pieces}
 use Rattle.geo_addr.specs.Ipv4Texts.{is_part, is_octet, are_four, ipv4_of, octets_number}
 use Rattle.geo_addr.specs.declared.fault.AddrFault.{AddrFault}
 use Rattle.geo_addr.specs.declared.fault.AddrFault.TheVariants.{Form, Octet}
-use Rattle.geo_addr.proofs.PartLemmas.{pieces_digits, one_piece}
+use Rattle.geo_addr.proofs.PartLemmas.{pieces_digits, whole_piece}
 
 early_fails : (test : List ℕ → Bool) (a b c : List ℕ) (parts : List (List ℕ)) → (test a && test b && test c) ≡ false → are_four test (a ∷ b ∷ c ∷ parts) ≡ false
 early_fails test a b c [] fails = refl
@@ -15,7 +15,7 @@ early_fails test a b c (d ∷ e ∷ parts) fails = refl
 
 last_fails : (a b c d : List ℕ) (parts : List (List ℕ)) → pieces 46 d ≡ parts → is_part d ≡ false → are_four is_part (a ∷ b ∷ c ∷ parts) ≡ false
 last_fails a b c d [] cut fails = refl
-last_fails a b c d (part ∷ []) cut fails = rw (one_piece 46 d part cut) (and_right _ _ fails)
+last_fails a b c d (part ∷ []) cut fails = rw (whole_piece 46 d part cut) (and_right _ _ fails)
 last_fails a b c d (part ∷ next ∷ parts) cut fails = refl
 
 -- what is not four parts is not in form

@@ -23,7 +23,6 @@ pub use bytes::Bytes;
 pub use digits::decimal;
 pub use fault::AddrFault;
 pub use line::{Line, Lines, cut_at, is_blank, skip_mark, trim_blanks};
-pub use line::{cut_at, is_blank, skip_mark, trim_blanks};
 pub use list::List;
 pub use memory::Memory;
 pub use range::{Range, range_of};
