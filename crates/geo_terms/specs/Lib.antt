@@ -6,5 +6,6 @@ pub mod NoteText
 pub mod PlaceForm
 pub mod Precedence
 pub mod Report
+pub mod SaidOf
 pub mod SourceForm
 pub mod Sources

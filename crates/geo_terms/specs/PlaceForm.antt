@@ -1,5 +1,5 @@
 -- What a place is: a country (ISO 3166-1), a region (ISO 3166-2), a city and a postal code, as in RFC 8805 section 2.1.1.
-use Rattle.std.specs.Prelude.{ℕ, Bool, true, false, not, ◌&&◌, ◌||◌, nat_le, nat_eq, List, [], ◌∷◌, map, length, codes, if◌then◌else◌, IsTrue}
+use Rattle.std.specs.Prelude.{◌≡◌, ℕ, Bool, true, false, not, ◌&&◌, ◌||◌, nat_le, nat_eq, List, [], ◌∷◌, map, length, codes, if◌then◌else◌, IsTrue}
 use Rattle.std.specs.List.{list_all}
 use Rattle.std.specs.Char.{is_ascii_alphabetic, is_ascii_alphanumeric, is_ascii_uppercase, is_ascii_digit, to_ascii_uppercase}
 use Rattle.std.specs.Cmp.Lexicographic.{pointwise}
@@ -41,10 +41,6 @@ abbrev pub country_of_region : List ℕ → List ℕ
 country_of_region (a ∷ b ∷ rest) = a ∷ b ∷ []
 country_of_region _ = []
 
--- no byte is a small letter
-abbrev pub is_upper : List ℕ → Bool
-is_upper text = list_all (λ b. is_ascii_uppercase b || is_ascii_digit b || nat_eq b 45) text
-
 -- the longest city or postal code, in bytes
 abbrev pub longest : ℕ
 longest = 1024
@@ -56,14 +52,6 @@ nowhere = codes "ZZ"
 -- whether all four texts are empty
 abbrev pub is_blank : PlaceParts → Bool
 is_blank p = is_empty p.country && is_empty p.region && is_empty p.city && is_empty p.postal
-
--- what a `Place` keeps: its texts are in form and in upper case, and it says something
-pub record IsPlace (p : PlaceParts) : Type 0 where
-  pub country : IsTrue (is_empty p.country || (is_country p.country && is_upper p.country && not (same_text p.country nowhere)))
-  pub region : IsTrue (is_empty p.region || (is_region p.region && is_upper p.region && not (is_empty p.country)))
-  pub city : IsTrue (nat_le (length p.city) longest)
-  pub postal : IsTrue (nat_le (length p.postal) longest)
-  pub some : IsTrue (not (is_blank p))
 
 -- what four fields name: country and region in upper case, and where only the region is there, the country of the region
 abbrev pub parts_of : (country region city postal : List ℕ) → PlaceParts
@@ -77,3 +65,23 @@ parts_of country region city postal = record {
 -- whether a line with these texts says nothing
 abbrev pub says_nothing : PlaceParts → Bool
 says_nothing p = same_text p.country nowhere || is_blank p
+
+-- whether a field that may be empty is in form
+unfoldable pub country_fits : List ℕ → Bool
+country_fits country = is_empty country || is_country country
+
+unfoldable pub region_fits : List ℕ → Bool
+region_fits region = is_empty region || is_region region
+
+unfoldable pub lengths_fit : (city postal : List ℕ) → Bool
+lengths_fit city postal = nat_le (length city) longest && nat_le (length postal) longest
+
+-- what a `Place` keeps: its texts are in form, country and region in upper case, a region has its country, and the place says something
+pub record IsPlace (p : PlaceParts) : Type 0 where
+  pub country : IsTrue (country_fits p.country)
+  pub region : IsTrue (region_fits p.region)
+  pub lengths : IsTrue (lengths_fit p.city p.postal)
+  pub upper_country : upper p.country ≡ p.country
+  pub upper_region : upper p.region ≡ p.region
+  pub owned : p.country ≡ [] → p.region ≡ []
+  pub says : IsTrue (not (says_nothing p))

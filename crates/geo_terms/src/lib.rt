@@ -1,12 +1,17 @@
 //! Places, statements, notes and sources: what the readers make, and the definitions of who speaks for an address.
 #![tactic(auto)]
 
+mod fields;
+pub mod laws;
 mod note;
 mod place;
+mod places;
 mod source;
 mod statement;
 
-pub use note::{Note, Origin, Rule};
+pub use fields::place_of;
+pub use note::{Note, Origin, Rule, note_text};
 pub use place::{Place, PlaceFault, Said};
+pub use places::{Places, PlacesFault};
 pub use source::{Dump, Feed, Overrides, SourceFault, Stats};
 pub use statement::{Delegation, Entry, Override, Reference};

@@ -1,4 +1,8 @@
-use geo_addr::Text;
+ghost use Rattle.std.specs.Prelude.{◌≡◌, IfOk};
+ghost use Rattle.geo_terms.specs.NoteText.{code_of, kind_of, name_of, note_line};
+
+use geo_addr::{Memory, Text};
+use std::alloc::Global;
 
 /// The source that a note is about.
 #[derive(Debug, Drop, PartialEq, Eq)]
@@ -95,4 +99,92 @@ pub struct Note {
     pub origin: Origin,
     pub line: u64,
     pub rule: Rule,
+}
+
+impl Rule {
+    /// The code that a report prints.
+    #[tactic(auto, unfolding(crate::specs::NoteText::code_of))]
+    pub fn code(self) -> &'static str
+        ensures { result.now ≡ code_of self }
+    {
+        match self {
+            Rule::P01 => "P01",
+            Rule::P02 => "P02",
+            Rule::P03 => "P03",
+            Rule::P04 => "P04",
+            Rule::P05 => "P05",
+            Rule::P06 => "P06",
+            Rule::P07 => "P07",
+            Rule::P08 => "P08",
+            Rule::P09 => "P09",
+            Rule::P10 => "P10",
+            Rule::F01 => "F01",
+            Rule::F02 => "F02",
+            Rule::F03 => "F03",
+            Rule::F04 => "F04",
+            Rule::F05 => "F05",
+            Rule::F06 => "F06",
+            Rule::F07 => "F07",
+            Rule::F08 => "F08",
+            Rule::F09 => "F09",
+            Rule::F10 => "F10",
+            Rule::F11 => "F11",
+            Rule::S01 => "S01",
+            Rule::S02 => "S02",
+            Rule::S03 => "S03",
+            Rule::S04 => "S04",
+            Rule::S05 => "S05",
+            Rule::S06 => "S06",
+            Rule::S07 => "S07",
+            Rule::O01 => "O01",
+            Rule::O02 => "O02",
+            Rule::O03 => "O03",
+            Rule::O04 => "O04",
+            Rule::O05 => "O05",
+            Rule::O06 => "O06",
+            Rule::O07 => "O07",
+            Rule::O08 => "O08",
+        }
+    }
+}
+
+impl Origin {
+    /// The word that a report begins a line of this source with.
+    #[tactic(auto, unfolding(crate::specs::NoteText::kind_of))]
+    pub fn kind(&self) -> &'static str
+        ensures { result.now ≡ kind_of self.now }
+    {
+        match self {
+            Origin::Rpsl(_) => "rpsl",
+            Origin::Feed(_) => "feed",
+            Origin::Stats(_) => "stats",
+            Origin::Overrides => "overrides",
+        }
+    }
+
+    /// The slot or the URL of the source, and `-` for the overrides.
+    #[tactic(auto, unfolding(crate::specs::NoteText::name_of))]
+    pub fn name(&self) -> &str
+        ensures { result.now ≡ name_of self.now }
+    {
+        match self {
+            Origin::Rpsl(slot) | Origin::Stats(slot) => slot.as_str(),
+            Origin::Feed(url) => url.as_str(),
+            Origin::Overrides => "-",
+        }
+    }
+}
+
+/// The line of a note in a report: `rpsl SLOT LINE CODE`, `feed URL LINE CODE`, `stats SLOT LINE CODE`
+/// or `overrides - LINE CODE`, and a line feed.
+#[tactic(auto, unfolding(crate::specs::NoteText::note_line))]
+pub fn note_text(alloc: Global, note: &Note) -> Result<Text, Memory>
+    ensures { IfOk result (λ text. text ≡ note_line note.now) }
+{
+    let kind = note.origin.kind();
+    let name = note.origin.name();
+    let line = note.line;
+    let code = note.rule.code();
+    let text = format!(in alloc; "{kind} {name} {line} {code}\n")?;
+    Ok(Text::from_string(text))
 }

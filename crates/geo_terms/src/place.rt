@@ -1,4 +1,5 @@
-use geo_addr::Text;
+use geo_addr::{Memory, Text};
+use std::alloc::Global;
 use std::marker::Model;
 use thiserror::Error;
 
@@ -26,6 +27,22 @@ impl Model for Place {
     ghost inverse = { λ v. record { country = v.country; region = v.region; city = v.city; postal = v.postal } };
 }
 
+impl Place {
+    ghost use Rattle.std.specs.Prelude.{◌≡◌, IfOk};
+
+    /// A second copy of this place.
+    pub fn copied(&self, alloc: Global) -> Result<Place, Memory>
+        ensures { IfOk result (λ place. place ≡ self.now) }
+    {
+        Ok(Place {
+            country: self.country.copied(alloc)?,
+            region: self.region.copied(alloc)?,
+            city: self.city.copied(alloc)?,
+            postal: self.postal.copied(alloc)?,
+        })
+    }
+}
+
 /// What a line says of its addresses: nothing, or a place.
 #[derive(Debug, Drop, PartialEq, Eq)]
 pub enum Said {
@@ -44,4 +61,15 @@ pub enum PlaceFault {
     TooLong = 3,
     #[error("out of memory")]
     Memory = 4,
+}
+
+impl From<Memory> for PlaceFault {
+    ghost use Rattle.std.specs.Prelude.{◌≡◌};
+    ghost use Rattle.geo_terms.specs.declared.place.PlaceFault.{PlaceFault};
+
+    ghost from_gives = { λ _ fault. fault ≡ PlaceFault.Memory };
+
+    fn from(_refused: Memory) -> PlaceFault {
+        PlaceFault::Memory
+    }
 }

@@ -1,0 +1,112 @@
+-- Texts of a place in upper case are in form where they were in form before.
+use Rattle.std.proofs.Common.{◌≡◌, ℕ, ◌+◌, ◌-◌, ◌<◌, ◌≤◌, Bool, true, false, cond, not, ◌&&◌, ◌||◌, eqb, nat_le, List, [], ◌∷◌, map, length, get_or, IsTrue, refl, sym, ap, ◌∙◌, arith}
+use Rattle.std.specs.Char.{is_ascii_alphabetic, is_ascii_alphanumeric, to_ascii_uppercase}
+use Rattle.std.specs.List.{list_all}
+use Rattle.std.specs.Prelude.{nat_eq}
+use Rattle.std.proofs.lemmas.Bool.Decides.{nat_tests}
+use Rattle.std.proofs.lemmas.List.Folds.{list_all-map}
+use Rattle.std.proofs.lemmas.List.{length-map}
+use Rattle.std.proofs.lemmas.Str.Ascii.{uppercase-uppercase}
+use Rattle.geo_terms.specs.PlaceForm.{PlaceParts, IsPlace, is_empty, is_country, is_region, is_subdivision, upper, country_of_region, country_fits, region_fits, lengths_fit, parts_of, says_nothing}
+
+alphabetic-upper : (b : ℕ) → is_ascii_alphabetic (to_ascii_uppercase b) ≡ is_ascii_alphabetic b
+alphabetic-upper b = grind (arith, nat_tests)
+
+alphanumeric-upper : (b : ℕ) → is_ascii_alphanumeric (to_ascii_uppercase b) ≡ is_ascii_alphanumeric b
+alphanumeric-upper b = grind (arith, nat_tests)
+
+dash-upper : (b : ℕ) → nat_eq (to_ascii_uppercase b) 45 ≡ nat_eq b 45
+dash-upper b = grind (arith, nat_tests)
+
+upper-upper : (bs : List ℕ) → upper (upper bs) ≡ upper bs
+upper-upper [] = refl
+upper-upper (b ∷ bs) = rw (uppercase-uppercase b, upper-upper bs) refl
+
+is_empty-upper : (bs : List ℕ) → is_empty (upper bs) ≡ is_empty bs
+is_empty-upper [] = refl
+is_empty-upper (b ∷ bs) = refl
+
+all_alphanumeric-upper : (bs : List ℕ) → list_all is_ascii_alphanumeric (upper bs) ≡ list_all is_ascii_alphanumeric bs
+all_alphanumeric-upper [] = refl
+all_alphanumeric-upper (b ∷ bs) = rw (alphanumeric-upper b, all_alphanumeric-upper bs) refl
+
+is_subdivision-upper : (bs : List ℕ) → is_subdivision (upper bs) ≡ is_subdivision bs
+is_subdivision-upper bs = rw (is_empty-upper bs, length-map bs to_ascii_uppercase, all_alphanumeric-upper bs) refl
+
+is_country-upper : (bs : List ℕ) → is_country (upper bs) ≡ is_country bs
+is_country-upper [] = refl
+is_country-upper (a ∷ []) = refl
+is_country-upper (a ∷ b ∷ []) = rw (alphabetic-upper a, alphabetic-upper b) refl
+is_country-upper (a ∷ b ∷ c ∷ bs) = refl
+
+is_region-upper : (bs : List ℕ) → is_region (upper bs) ≡ is_region bs
+is_region-upper [] = refl
+is_region-upper (a ∷ []) = refl
+is_region-upper (a ∷ b ∷ []) = refl
+is_region-upper (a ∷ b ∷ c ∷ bs) = rw (alphabetic-upper a, alphabetic-upper b, dash-upper c, is_subdivision-upper bs) refl
+
+country_fits-upper : (bs : List ℕ) → country_fits (upper bs) ≡ country_fits bs
+unfolding country_fits
+country_fits-upper bs = rw (is_empty-upper bs, is_country-upper bs) refl
+
+region_fits-upper : (bs : List ℕ) → region_fits (upper bs) ≡ region_fits bs
+unfolding region_fits
+region_fits-upper bs = rw (is_empty-upper bs, is_region-upper bs) refl
+
+and_left : (x y : Bool) → (x && y) ≡ true → x ≡ true
+and_left true y h = refl
+and_left false y h = h
+
+-- a region that is in form begins with two letters
+region_letters : (a b c : ℕ) (bs : List ℕ) → IsTrue (region_fits (a ∷ b ∷ c ∷ bs)) → (is_ascii_alphabetic a && is_ascii_alphabetic b) ≡ true
+unfolding region_fits
+region_letters a b c bs h = and_left _ (nat_eq c 45) (and_left _ (is_subdivision bs) h)
+
+-- so its first two bytes are a country
+region_has_country : (region : List ℕ) → IsTrue (region_fits region) → IsTrue (country_fits (country_of_region region))
+unfolding region_fits country_fits
+region_has_country [] h = refl
+region_has_country (a ∷ []) h = refl
+region_has_country (a ∷ b ∷ []) h = absurd (let e : false ≡ true = h in cc)
+region_has_country (a ∷ b ∷ c ∷ bs) h = region_letters a b c bs h
+
+alphabetic_small : (b : ℕ) → is_ascii_alphabetic b ≡ true → b < 128
+alphabetic_small b h = grind (arith, nat_tests)
+
+and_right : (x y : Bool) → (x && y) ≡ true → y ≡ true
+and_right true y h = h
+and_right false y h = absurd (let e : false ≡ true = h in cc)
+
+-- the first two bytes of a region that is in form are ASCII
+pub letters_of_region : (region : List ℕ) → IsTrue (region_fits region) → 2 ≤ length region → (get_or region 0 0 < 128) × (get_or region 1 0 < 128)
+unfolding region_fits
+letters_of_region [] h n = absurd (omega arith)
+letters_of_region (a ∷ []) h n = absurd (let e : false ≡ true = h in cc)
+letters_of_region (a ∷ b ∷ []) h n = absurd (let e : false ≡ true = h in cc)
+letters_of_region (a ∷ b ∷ c ∷ bs) h n =
+    let both = region_letters a b c bs h in
+    (alphabetic_small a (and_left (is_ascii_alphabetic a) (is_ascii_alphabetic b) both), alphabetic_small b (and_right (is_ascii_alphabetic a) (is_ascii_alphabetic b) both))
+
+chosen_country : (country region : List ℕ) → IsTrue (country_fits country) → IsTrue (region_fits region) → IsTrue (country_fits (cond (is_empty country) (country_of_region region) country))
+chosen_country [] region c r = region_has_country region r
+chosen_country (a ∷ bs) region c r = c
+
+chosen_owns : (country region : List ℕ) → IsTrue (region_fits region) → upper (cond (is_empty country) (country_of_region region) country) ≡ [] → upper region ≡ []
+unfolding region_fits
+chosen_owns (a ∷ bs) region r e = absurd cc
+chosen_owns [] [] r e = refl
+chosen_owns [] (a ∷ []) r e = absurd (let e : false ≡ true = r in cc)
+chosen_owns [] (a ∷ b ∷ bs) r e = absurd cc
+
+-- fields that are in form and say something make a place
+pub place_in_form : (country region city postal : List ℕ) → IsTrue (country_fits country) → IsTrue (region_fits region) → IsTrue (lengths_fit city postal)
+    → says_nothing (parts_of country region city postal) ≡ false → IsPlace (parts_of country region city postal)
+place_in_form country region city postal c r l says = record {
+  country = country_fits-upper (cond (is_empty country) (country_of_region region) country) ∙ chosen_country country region c r;
+  region = region_fits-upper region ∙ r;
+  lengths = l;
+  upper_country = upper-upper (cond (is_empty country) (country_of_region region) country);
+  upper_region = upper-upper region;
+  owned = chosen_owns country region r;
+  says = rw says refl;
+}

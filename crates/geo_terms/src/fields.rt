@@ -1,0 +1,175 @@
+//! What four fields of a line say.
+ghost use Rattle.std.specs.Prelude.{◌≡◌, ◌<◌, ◌≤◌, ◌↔◌, length, IfOk, IfErr, OnOk, IsOkUnless, IsTrue, [], ◌∷◌};
+ghost use Rattle.std.specs.List.{list_all};
+ghost use Rattle.std.specs.Char.{is_ascii_alphanumeric};
+ghost use Rattle.geo_terms.specs.PlaceForm.{is_country, is_region, is_subdivision, upper, is_empty, country_of_region, longest, parts_of, says_nothing, country_fits, region_fits, lengths_fit};
+ghost use Rattle.geo_terms.specs.SaidOf.{said_of, said_by};
+
+use crate::place::{Place, PlaceFault, Said};
+use geo_addr::{Memory, Text};
+use std::alloc::Global;
+
+/// The longest city or postal code, in bytes.
+const LONGEST: usize = 1024;
+
+/// What the fields of a line say of its addresses: a place, or nothing where the country is `ZZ` or
+/// all fields are empty.
+///
+/// The fields are trimmed of blanks. Country and region are read in either case and kept in upper
+/// case; where only the region is there, its first two letters are the country.
+#[tactic(auto, unfolding(crate::specs::SaidOf::said_of))]
+pub fn place_of(
+    alloc: Global,
+    country: &str,
+    region: &str,
+    city: &str,
+    postal: &str,
+) -> Result<Said, PlaceFault>
+    ensures said { IfOk result (λ said. said_of country.now region.now city.now postal.now ≡ Ok said) }
+    ensures refused { IfErr (said_of country.now region.now city.now postal.now) (λ fault. result ≡ Err fault) }
+    ensures otherwise { OnOk (said_of country.now region.now city.now postal.now) (IsOkUnless result PlaceFault.Memory) }
+{
+    if !country_fits(country) {
+        return Err(PlaceFault::Country);
+    }
+    if !region_fits(region) {
+        return Err(PlaceFault::Region);
+    }
+    if !lengths_fit(city, postal) {
+        return Err(PlaceFault::TooLong);
+    }
+    Ok(said_in_form(alloc, country, region, city, postal)?)
+}
+
+// What fields that are in form say.
+#[tactic(auto, using(crate::proofs::PlaceLemmas::place_in_form))]
+fn said_in_form(
+    alloc: Global,
+    country: &str,
+    region: &str,
+    city: &str,
+    postal: &str,
+) -> Result<Said, Memory>
+    requires country { IsTrue (country_fits country.now) }
+    requires region { IsTrue (region_fits region.now) }
+    requires lengths { IsTrue (lengths_fit city.now postal.now) }
+    ensures { IfOk result (λ said. said ≡ said_by (parts_of country.now region.now city.now postal.now)) }
+{
+    let country = country_text(alloc, country, region)?;
+    let region = upper_text(alloc, region)?;
+    if says_nothing(&country, &region, city, postal) {
+        return Ok(Said::Nothing);
+    }
+    let city = Text::of(alloc, city)?;
+    let postal = Text::of(alloc, postal)?;
+    Ok(Said::At(Place {
+        country,
+        region,
+        city,
+        postal,
+    }))
+}
+
+// Whether these texts, in upper case, say nothing.
+fn says_nothing(country: &Text, region: &Text, city: &str, postal: &str) -> bool
+    ensures { result ≡ says_nothing (record { country = country.now; region = region.now; city = city.now; postal = postal.now }) }
+{
+    if country.as_str() == "ZZ" {
+        return true;
+    }
+    country.as_str().is_empty()
+        && region.as_str().is_empty()
+        && city.is_empty()
+        && postal.is_empty()
+}
+
+// The country in upper case: the field's own, or that of the region.
+#[tactic(auto, using(crate::proofs::PlaceLemmas::letters_of_region))]
+fn country_text(alloc: Global, country: &str, region: &str) -> Result<Text, Memory>
+    requires { IsTrue (region_fits region.now) }
+    ensures { IfOk result (λ text. text ≡ (parts_of country.now region.now [] []).country) }
+{
+    if !country.is_empty() {
+        return upper_text(alloc, country);
+    }
+    match region.as_bytes() {
+        [first, second, ..] => pair_text(alloc, *first, *second),
+        _ => Text::of(alloc, ""),
+    }
+}
+
+// Two ASCII letters as a text in upper case.
+fn pair_text(alloc: Global, first: u8, second: u8) -> Result<Text, Memory>
+    requires first { first < 128 }
+    requires second { second < 128 }
+    ensures { IfOk result (λ text. text ≡ upper (first ∷ second ∷ [])) }
+{
+    let mut pair = String::new(alloc);
+    pair.push(first.to_ascii_uppercase() as char)?;
+    pair.push(second.to_ascii_uppercase() as char)?;
+    Ok(Text::from_string(pair))
+}
+
+fn upper_text(alloc: Global, text: &str) -> Result<Text, Memory>
+    ensures { IfOk result (λ copy. copy ≡ upper text.now) }
+{
+    let mut copy = String::from_str(alloc, text)?;
+    copy.make_ascii_uppercase();
+    Ok(Text::from_string(copy))
+}
+
+#[tactic(auto, unfolding(crate::specs::PlaceForm::country_fits))]
+fn country_fits(country: &str) -> bool
+    ensures { result ≡ country_fits country.now }
+{
+    country.is_empty() || is_country(country.as_bytes())
+}
+
+#[tactic(auto, unfolding(crate::specs::PlaceForm::region_fits))]
+fn region_fits(region: &str) -> bool
+    ensures { result ≡ region_fits region.now }
+{
+    region.is_empty() || is_region(region.as_bytes())
+}
+
+#[tactic(auto, unfolding(crate::specs::PlaceForm::lengths_fit))]
+fn lengths_fit(city: &str, postal: &str) -> bool
+    ensures { result ≡ lengths_fit city.now postal.now }
+{
+    city.len() <= LONGEST && postal.len() <= LONGEST
+}
+
+fn is_country(text: &[u8]) -> bool
+    ensures { result ≡ is_country text.now }
+{
+    match text {
+        [first, second] => first.is_ascii_alphabetic() && second.is_ascii_alphabetic(),
+        _ => false,
+    }
+}
+
+fn is_region(text: &[u8]) -> bool
+    ensures { result ≡ is_region text.now }
+{
+    match text {
+        [first, second, dash, rest @ ..] => {
+            first.is_ascii_alphabetic()
+                && second.is_ascii_alphabetic()
+                && *dash == b'-'
+                && is_subdivision(rest)
+        }
+        _ => false,
+    }
+}
+
+fn is_subdivision(text: &[u8]) -> bool
+    ensures { result ≡ is_subdivision text.now }
+{
+    !text.is_empty() && text.len() <= 3 && is_alphanumeric(text)
+}
+
+fn is_alphanumeric(text: &[u8]) -> bool
+    ensures { result ≡ list_all is_ascii_alphanumeric text.now }
+{
+    text.iter().all(|byte| byte.is_ascii_alphanumeric())
+}

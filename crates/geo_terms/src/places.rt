@@ -1,0 +1,104 @@
+//! Numbers for places.
+ghost use Rattle.std.specs.Prelude.{◌≡◌, ℕ, ◌-◌, ◌^◌, ◌<◌, ◌≤◌, ◌↔◌, [], length, IfOk, OnOk, OnErr, IsNone, IfSome, IsTrue, Some};
+ghost use Rattle.std.specs.Option.{option_copied};
+ghost use Rattle.std.specs.List.{IsDistinct};
+ghost use Rattle.geo_terms.specs.Numbers.{number_of, place_at, same_place, with_place};
+
+use crate::place::Place;
+use geo_addr::Memory;
+use indexmap::IndexSet;
+use std::alloc::Global;
+use std::marker::Model;
+use thiserror::Error;
+
+/// Distinct places with their numbers, in the order in which they came.
+///
+/// The first place has number 1; a number that was given is never changed.
+#[derive(Drop)]
+pub struct Places {
+    alloc: Global,
+    places: IndexSet<Place>,
+}
+
+impl Model for Places {
+    ghost use Rattle.std.specs.Prelude.{List, ◌^◌, ◌<◌, length};
+    ghost use Rattle.std.specs.List.{IsDistinct};
+    ghost use Rattle.geo_terms.specs.PlaceForm.{PlaceParts};
+    ghost use Rattle.geo_terms.specs.Numbers.{same_place};
+
+    ghost Value = { List PlaceParts };
+
+    ghost view = { λ p. p.places.keys };
+
+    ghost invariant = { λ p. IsDistinct same_place p.places.keys × (length p.places.keys < 2 ^ 32) };
+}
+
+/// Why a place has no number.
+#[derive(Clone, Copy, Debug, PartialEq, Eq, Error)]
+pub enum PlacesFault {
+    #[error("no number is left")]
+    Full = 1,
+    #[error("out of memory")]
+    Memory = 2,
+}
+
+impl Places {
+    /// No places.
+    pub fn new(alloc: Global) -> Places
+        ensures { result ≡ [] }
+    {
+        Places {
+            alloc,
+            places: IndexSet::new(alloc),
+        }
+    }
+
+    /// The number of the place: the one that it has, or the next one.
+    #[tactic(auto, using(crate::proofs::NumberLemmas::position_after_insert))]
+    pub fn intern(&mut self, place: &Place) -> Result<u32, PlacesFault>
+        ensures number { IfOk result (λ number. number_of self.new place.now ≡ Some number) }
+        ensures table { OnOk result (self.new ≡ with_place self.old place.now) }
+        ensures known { IfSome (number_of self.old place.now) (λ number. result ≡ Ok number) }
+        ensures full { (result ≡ Err PlacesFault.Full) ↔ (IsNone (number_of self.old place.now) × (length self.old ≡ 2 ^ 32 - 1)) }
+        ensures err { OnErr result (self.new ≡ self.old) }
+    {
+        if let Some(index) = self.places.get_index_of(place) {
+            return Ok(index as u32 + 1);
+        }
+        if self.places.len() >= u32::MAX as usize {
+            return Err(PlacesFault::Full);
+        }
+        let Ok(copy) = place.copied(self.alloc) else {
+            return Err(PlacesFault::Memory);
+        };
+        let Ok((index, _)) = self.places.insert_full(copy) else {
+            return Err(PlacesFault::Memory);
+        };
+        Ok(index as u32 + 1)
+    }
+
+    /// The place of a number.
+    pub fn get(&self, number: u32) -> Option<&Place>
+        ensures { option_copied result ≡ place_at self.now number }
+    {
+        if number == 0 {
+            return None;
+        }
+        self.places.get_index(number as usize - 1)
+    }
+
+    /// How many places have a number.
+    pub fn len(&self) -> u32
+        ensures count { result ≡ length self.now }
+        ensures distinct { IsDistinct same_place self.now }
+    {
+        self.places.len() as u32
+    }
+
+    /// Whether no place has a number.
+    pub fn is_empty(&self) -> bool
+        ensures { IsTrue result ↔ (self.now ≡ []) }
+    {
+        self.places.is_empty()
+    }
+}
