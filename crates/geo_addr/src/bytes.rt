@@ -7,7 +7,7 @@ ghost use Rattle.std.specs.Ordering.{nat_cmp};
 ghost use Rattle.std.proofs.Common.{rules};
 
 use crate::memory::Memory;
-use std::alloc::Global;
+use std::alloc::{AllocError, Global};
 use std::cmp::Ordering;
 use std::hash::{Hash, Hasher};
 use std::marker::Model;
@@ -56,6 +56,15 @@ impl Bytes {
         ensures { IfOk result (λ b. b ≡ self.now) }
     {
         Bytes::of(alloc, self.as_slice())
+    }
+}
+
+impl Clone for Bytes {
+    ghost is_clone = { λ old new. new ≡ old };
+
+    fn clone(&self) -> Result<Bytes, AllocError> {
+        let bytes = self.bytes.clone()?;
+        Ok(Bytes { bytes })
     }
 }
 

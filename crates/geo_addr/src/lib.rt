@@ -27,3 +27,6 @@ pub use list::List;
 pub use memory::Memory;
 pub use range::{Range, range_of};
 pub use text::Text;
+
+#[cfg(test)]
+mod tests;

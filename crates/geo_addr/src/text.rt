@@ -7,7 +7,7 @@ ghost use Rattle.std.specs.Ordering.{nat_cmp};
 ghost use Rattle.std.proofs.Common.{rules};
 
 use crate::memory::Memory;
-use std::alloc::Global;
+use std::alloc::{AllocError, Global};
 use std::cmp::Ordering;
 use std::hash::{Hash, Hasher};
 use std::marker::Model;
@@ -56,6 +56,15 @@ impl Text {
         ensures { IfOk result (λ t. t ≡ self.now) }
     {
         Text::of(alloc, self.as_str())
+    }
+}
+
+impl Clone for Text {
+    ghost is_clone = { λ old new. new ≡ old };
+
+    fn clone(&self) -> Result<Text, AllocError> {
+        let text = self.text.clone()?;
+        Ok(Text { text })
     }
 }
 
