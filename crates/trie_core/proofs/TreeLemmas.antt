@@ -1,11 +1,15 @@
 -- Lemmas on reduced trees: what a constant tree is, the three laws, and what a renaming of the leaves keeps.
-use Rattle.std.proofs.Common.{◌≡◌, ◌≢◌, ℕ, zero, suc, ◌+◌, ◌-◌, ◌^◌, ◌<◌, ◌≤◌, max, ◌⊎◌, inl, inr, Bool, true, false, true≢false, if◌then◌else◌, List, ◌∷◌, length, Some, refl, sym, ◌∙◌, ap, subst, arith}
+use Rattle.std.proofs.Common.{◌≡◌, ◌≢◌, ℕ, zero, suc, ◌+◌, ◌-◌, ◌^◌, ◌<◌, ◌≤◌, max, ◌⊎◌, inl, inr, Bool, true, false, true≢false, if◌then◌else◌, List, ◌∷◌, length, Some, refl, sym, ◌∙◌, ap, subst, nat_eq, arith, rules}
 use Rattle.std.proofs.lemmas.Bool.{cases_lt}
 use Rattle.std.proofs.Math.Nat.{two-pow-succ}
 use Rattle.geo_addr.specs.Bits.{bits_of, number_of}
 use Rattle.geo_addr.proofs.BitsLemmas.{bits_of-lower, bits_of-upper, length-bits_of, OneListOfBits-each}
 use Rattle.trie_core.specs.Tree.{Tree, leaf, node, height, look, IsReduced, join, tree}
 use Rattle.trie_core.specs.Laws.{IsReducedWithin, SameLookups, IsEquality, Answers, Canonical, TreeOfFunction, OnlyTree}
+
+-- the test of two numbers tells equal leaves from others
+pub nat_equality : IsEquality nat_eq
+nat_equality x y = (λ e. search rules, λ e. search rules)
 
 module _ {A : Type 0} where
   -- a reduced tree that answers the same everywhere is that leaf

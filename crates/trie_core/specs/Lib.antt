@@ -1,2 +1,3 @@
-pub mod Tree
 pub mod Laws
+pub mod Store
+pub mod Tree

@@ -1,4 +1,11 @@
 //! The store of a search tree's nodes, and what its nodes mean.
 #![tactic(auto)]
 
+mod fault;
 pub mod laws;
+mod node;
+mod store;
+
+pub use fault::StoreFault;
+pub use node::{NodeId, Pair, Rec, Root};
+pub use store::Store;
