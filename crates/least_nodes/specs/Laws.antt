@@ -1,0 +1,36 @@
+-- The laws of the least tree, for every height and over every kind of leaf.
+use Rattle.std.specs.Prelude.{◌≡◌, ◌≢◌, ℕ, ◌^◌, ◌<◌, ◌≤◌, Bool, List, ◌∷◌, length, Some}
+use Rattle.geo_addr.specs.Bits.{bits_of}
+use Rattle.trie_core.specs.Tree.{Tree, look, tree}
+use Rattle.trie_core.specs.Laws.{IsReducedWithin, IsEquality}
+use Rattle.least_nodes.specs.NodeList.{Member, at, go, reached}
+use Rattle.least_nodes.specs.Layout.{below, IsNode, inner, laid}
+
+-- the walk from the first node answers as the tree does, along each list of n bits
+abbrev pub HasLookups : {A : Type 0} → ℕ → List (Member A × Member A) → Tree A → Type 0
+HasLookups n nodes t = (w : List Bool) → length w ≡ n → go nodes (at 0) w ≡ look t w
+
+-- the walk from the first node answers a function at each address of n bits
+abbrev pub Finds : {A : Type 0} → ℕ → List (Member A × Member A) → (ℕ → A) → Type 0
+Finds n nodes f = (a : ℕ) → a < 2 ^ n → go nodes (at 0) (bits_of n a) ≡ Some (f a)
+
+-- the bits that lead to a node of the tree lead to a position of the list, and those that lead to different nodes to different positions
+pub record StandApart {A : Type 0} (nodes : List (Member A × Member A)) (t : Tree A) : Type 0 where
+  pub stands : (p : List Bool) → IsNode (below t p) → (i : ℕ) × (reached nodes (at 0) p ≡ at i) × (i < length nodes)
+  pub apart : (p q : List Bool) → IsNode (below t p) → IsNode (below t q) → below t p ≢ below t q → reached nodes (at 0) p ≢ reached nodes (at 0) q
+
+-- distinct subtrees need distinct nodes
+abbrev pub Apart : Type 0 → Type 0
+Apart A = (n : ℕ) (t : Tree A) (nodes : List (Member A × Member A)) → IsReducedWithin n t → HasLookups n nodes t → StandApart nodes t
+
+-- no list of nodes with a reduced tree's lookups is shorter than the list of its different nodes
+abbrev pub Least : Type 0 → Type 0
+Least A = (eq : A → A → Bool) → IsEquality eq → (n : ℕ) (t : Tree A) (nodes : List (Member A × Member A)) → IsReducedWithin n t → HasLookups n nodes t → length (inner eq t) ≤ length nodes
+
+-- no list of nodes that answers a function is shorter than the list of the different nodes of the function's tree
+abbrev pub LeastFor : Type 0 → Type 0
+LeastFor A = (eq : A → A → Bool) → IsEquality eq → (f : ℕ → A) (n : ℕ) (nodes : List (Member A × Member A)) → Finds n nodes f → length (inner eq (tree eq f n 0)) ≤ length nodes
+
+-- the nodes that are written for a tree answer as the tree does
+abbrev pub LaidOut : Type 0 → Type 0
+LaidOut A = (eq : A → A → Bool) → IsEquality eq → (t : Tree A) (b : Bool) (w : List Bool) → go (laid eq t) (at 0) (b ∷ w) ≡ look t (b ∷ w)

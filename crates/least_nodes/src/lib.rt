@@ -1,0 +1,4 @@
+//! The order in which the nodes of a tree are written, and the law that no list of nodes is shorter.
+#![tactic(auto)]
+
+pub mod laws;
