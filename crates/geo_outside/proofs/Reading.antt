@@ -1,5 +1,5 @@
 -- Reading a file piece by piece.
-use Rattle.std.proofs.Common.{◌≡◌, ℕ, ◌+◌, ◌<◌, ◌≤◌, List, [], ◌++◌, length, take, drop, arith, refl, sym, ap, ◌∙◌, length-append}
+use Rattle.std.proofs.Common.{◌≡◌, ℕ, ◌+◌, ◌-◌, ◌<◌, ◌≤◌, min, List, [], ◌++◌, length, take, drop, arith, refl, sym, ap, ◌∙◌, length-append}
 use Rattle.std.specs.Prelude.{Option, None, Some, IsSome, IsSomeAnd}
 use Rattle.std.proofs.lemmas.List.{length-take, length-take-le, take_all}
 use Rattle.std.proofs.Math.Seq.{take-add}
@@ -30,3 +30,13 @@ first_all (Some file) bytes into at n place none some read first =
 pub first_long : (held : Option (List ℕ)) (bytes : List ℕ) (limit : ℕ) → limit < length bytes → AreFirst held bytes → IsSomeAnd held (λ file. limit < length file)
 first_long None bytes limit long first = omega (arith, ap length first)
 first_long (Some file) bytes limit long first = omega (arith, ap length first, length-take (length bytes) file)
+
+-- what a fake read copied
+pub copied_from : (file held into : List ℕ) (from most room n : ℕ) → Some file ≡ Some held → 1 ≤ most → 0 < room → n ≡ min most (min room (length file - from)) → take n into ≡ take n (drop from file) → IsReadFrom held from into n
+copied_from file held into from most room n same some wide amount bytes =
+    let e : file ≡ held = cc in
+    let fits : length file ≡ length held = ap length e in
+    record {
+      bytes = bytes ∙ ap (λ (f : List ℕ). take n (drop from f)) e;
+      end = (λ none. omega arith, λ past. omega arith);
+    }

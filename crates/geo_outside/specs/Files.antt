@@ -1,5 +1,6 @@
 -- Files by their names, what was put, and what one call does to both.
 use Rattle.std.specs.Prelude.{◌≡◌, ◌≢◌, ℕ, ◌≤◌, ◌↔◌, List, [], ◌∷◌, ◌++◌, length, take, drop}
+use Rattle.std.specs.List.{fold}
 use Rattle.std.specs.Ordering.{nat_cmp}
 use Rattle.std.specs.Cmp.Lexicographic.{slice_cmp}
 use Rattle.std.specs.FinMap as map
@@ -26,3 +27,7 @@ pub record Spoils (old new : Told) (name : List ℕ) : Type 0 where
 pub record IsReadFrom (file : List ℕ) (from : ℕ) (into : List ℕ) (n : ℕ) : Type 0 where
   pub bytes : take n into ≡ take n (drop from file)
   pub end : (n ≡ 0) ↔ (length file ≤ from)
+
+-- the files after these writes of names and bytes, one after another
+unfoldable pub files_after : List (List ℕ × List ℕ) → Files
+files_after writes = fold (λ files w. map.insert files w.0 w.1) map.empty writes

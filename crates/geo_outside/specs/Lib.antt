@@ -1,2 +1,5 @@
+pub mod Codes
 pub mod Count
 pub mod Files
+pub mod Puts
+pub mod Script

@@ -3,7 +3,9 @@ ghost use Rattle.std.specs.Prelude.{◌≡◌, ℕ, ◌+◌, ◌≤◌, ◌<◌,
 ghost use Rattle.std.specs.FinMap as map;
 ghost use Rattle.geo_outside.specs.Count.{Rose};
 ghost use Rattle.geo_outside.specs.Files.{Told, after_put, Spoils, IsReadFrom};
+ghost use Rattle.geo_outside.specs.declared.folder.OutErr.TheVariants.{Memory};
 
+use std::alloc::{AllocError, AllocFailed};
 use thiserror::Error;
 
 /// Why something was not written.
@@ -13,6 +15,30 @@ pub enum OutErr {
     Failed,
     #[error("out of memory")]
     Memory,
+}
+
+impl From<AllocError> for OutErr {
+    ghost from_gives = { λ _ e. e ≡ Memory };
+
+    fn from(_e: AllocError) -> OutErr {
+        OutErr::Memory
+    }
+}
+
+impl<T: Drop> From<AllocFailed<T>> for OutErr {
+    ghost from_gives = { λ _ e. e ≡ Memory };
+
+    fn from(_e: AllocFailed<T>) -> OutErr {
+        OutErr::Memory
+    }
+}
+
+impl From<geo_addr::Memory> for OutErr {
+    ghost from_gives = { λ _ e. e ≡ Memory };
+
+    fn from(_e: geo_addr::Memory) -> OutErr {
+        OutErr::Memory
+    }
 }
 
 /// Why a file was not read.
@@ -63,6 +89,7 @@ pub trait Folder {
         ensures failed { result ≡ Err OutErr.Failed → Rose (put_faults self.old) (put_faults self.new) }
         ensures spoilt { (w : Told) → told self.old ≡ Some w → result ≡ Err OutErr.Failed → (v : Told) × (told self.new ≡ Some v) × Spoils w v name.now }
         ensures memory { result ≡ Err OutErr.Memory → told self.new ≡ told self.old }
+        ensures memory_counts { result ≡ Err OutErr.Memory → (read_faults self.new ≡ read_faults self.old) × (put_faults self.new ≡ put_faults self.old) × (misses self.new ≡ misses self.old) }
 
         ensures read_faults { read_faults self.old ≤ read_faults self.new }
         ensures put_faults { put_faults self.old ≤ put_faults self.new }

@@ -1,7 +1,6 @@
-use Rattle.std.proofs.Common.{◌≡◌, ◌≤◌, ℕ, ◌++◌, ◌∙◌, sym, arith, rules, length, take}
+use Rattle.std.proofs.Common.{◌≡◌, ◌≤◌, ◌++◌, ◌∙◌, arith, rules, length, take}
 use Rattle.std.proofs.lemmas.Grind.{common_steps}
-use Rattle.std.specs.Prelude.{Some}
-use Rattle.geo_outside.proofs.Reading.{first_more, first_all, first_long}
+use Rattle.geo_outside.proofs.Reading.{first_more, first_all}
 use Rattle.geo_outside.proofs.whole.read_whole.Goals as goal
 
 pub returns-then-n-eq0-clause-bytes : goal.returns-then-n-eq0-clause-bytes
