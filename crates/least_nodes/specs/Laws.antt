@@ -1,5 +1,5 @@
 -- The laws of the least tree, for every height and over every kind of leaf.
-use Rattle.std.specs.Prelude.{◌≡◌, ◌≢◌, ℕ, ◌^◌, ◌<◌, ◌≤◌, Bool, List, ◌∷◌, length, Some}
+use Rattle.std.specs.Prelude.{◌≡◌, ℕ, ◌^◌, ◌<◌, ◌≤◌, Bool, List, ◌∷◌, length, Some}
 use Rattle.geo_addr.specs.Bits.{bits_of}
 use Rattle.trie_core.specs.Tree.{Tree, look, tree}
 use Rattle.trie_core.specs.Laws.{IsReducedWithin, IsEquality}
@@ -14,10 +14,10 @@ HasLookups n nodes t = (w : List Bool) → length w ≡ n → go nodes (at 0) w 
 abbrev pub Finds : {A : Type 0} → ℕ → List (Member A × Member A) → (ℕ → A) → Type 0
 Finds n nodes f = (a : ℕ) → a < 2 ^ n → go nodes (at 0) (bits_of n a) ≡ Some (f a)
 
--- the bits that lead to a node of the tree lead to a position of the list, and those that lead to different nodes to different positions
+-- the bits that lead to a node of the tree lead to a position of the list, and two that lead to one position lead to equal nodes of the tree
 pub record StandApart {A : Type 0} (nodes : List (Member A × Member A)) (t : Tree A) : Type 0 where
   pub stands : (p : List Bool) → IsNode (below t p) → (i : ℕ) × (reached nodes (at 0) p ≡ at i) × (i < length nodes)
-  pub apart : (p q : List Bool) → IsNode (below t p) → IsNode (below t q) → below t p ≢ below t q → reached nodes (at 0) p ≢ reached nodes (at 0) q
+  pub apart : (p q : List Bool) → IsNode (below t p) → IsNode (below t q) → reached nodes (at 0) p ≡ reached nodes (at 0) q → below t p ≡ below t q
 
 -- distinct subtrees need distinct nodes
 abbrev pub Apart : Type 0 → Type 0

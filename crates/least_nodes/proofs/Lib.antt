@@ -1,0 +1,4 @@
+pub mod Elements
+pub mod LaidLemmas
+pub mod Positions
+pub mod TreeParts
