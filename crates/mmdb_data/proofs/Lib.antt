@@ -1,0 +1,5 @@
+mod Vectors
+mod Places
+mod Heads
+mod Values
+mod ReadsBack
