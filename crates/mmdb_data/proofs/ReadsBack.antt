@@ -1,6 +1,6 @@
 -- What is written of a value is read again, whatever stands before and after it.
 use Rattle.std.proofs.Common.{◌≡◌, ℕ, zero, suc, ◌+◌, ◌*◌, ◌^◌, ◌<◌, ◌≤◌, Bool, true, false, List, [], ◌∷◌, ◌++◌, length, drop, Some, Result, Ok, Err, refl, sym, ap, ◌∙◌, append_assoc, arith}
-use Rattle.std.specs.Prelude.{ℤ, FitsSigned, max}
+use Rattle.std.specs.Prelude.{ℤ, pos, negsuc, FitsSigned, max}
 use Rattle.std.specs.Int.{w32, bytes_high_first, cast_signed, cast_unsigned}
 use Rattle.std.specs.Str.{IsUtf8}
 use Rattle.std.proofs.lemmas.Bool.{lt-ltb}
@@ -80,12 +80,16 @@ bytes_are section kind least greatest content value d c spelled low small of_kin
         scalar_again section levels at kind k least greatest value content y low small of_kind above below (here ∙ ap (λ (x : List ℕ). x ++ y) spelled)
         ∙ ap (λ (x : List ℕ). Ok (value content, at + length x, values_left k)) (sym spelled))
 
+unsigned_fits : (n : ℤ) → FitsSigned w32 n → cast_unsigned w32 n < 2 ^ 32
+unsigned_fits (pos n) fits = ?
+unsigned_fits (negsuc n) fits = omega arith
+
 integer_is : (section : List ℕ) (n : ℤ) → FitsSigned w32 n → Again section (i32 n)
 unfolding shape_of
 integer_is section n fits =
     flat section (i32 n) refl refl (λ levels at k y here.
         let content = without_zeros (bytes_high_first 4 (cast_unsigned w32 n)) in
-        let back : big_number (length content) content ≡ cast_unsigned w32 n = number_again 4 (cast_unsigned w32 n) ? in
+        let back : big_number (length content) content ≡ cast_unsigned w32 n = number_again 4 (cast_unsigned w32 n) (unsigned_fits n fits) in
         scalar_again section levels at 8 k 0 4 signed content y (omega arith) (omega arith) refl (omega arith) (few_bytes 4 (cast_unsigned w32 n)) here
         ∙ ap (λ (m : ℕ). Ok (i32 (cast_signed w32 m), at + length (sized 8 content), values_left k)) back
         ∙ ap (λ (z : ℤ). Ok (i32 z, at + length (sized 8 content), values_left k)) (to_z-of_z w32 n fits))

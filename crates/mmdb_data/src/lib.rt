@@ -2,5 +2,7 @@
 #![tactic(auto)]
 
 mod fault;
+mod value;
 
 pub use fault::DataCause;
+pub use value::Value;
