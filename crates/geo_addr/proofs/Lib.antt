@@ -3,5 +3,8 @@ pub mod Cuts
 pub mod Decimals
 pub mod LineLemmas
 pub mod Blocks
+mod GroupLemmas
 mod PartLemmas
+mod SideLemmas
 mod V4Lemmas
+mod V6Lemmas

@@ -12,8 +12,10 @@ mod line;
 mod list;
 mod memory;
 mod range;
+mod side;
 mod text;
 mod v4;
+mod v6;
 
 pub use addr::Addr;
 pub use address::parse_addr;

@@ -1,4 +1,4 @@
-ghost use Rattle.std.specs.Prelude.{◌≡◌, ◌∷◌, ◌≤◌, true, false, MatchBool, MatchOption};
+ghost use Rattle.std.specs.Prelude.{◌≡◌, ◌∷◌, ◌≤◌, true, false, ◌<◌, ◌^◌, IfOk, MatchBool, MatchOption};
 ghost use Rattle.std.specs.Str.Parse.{digits_value};
 ghost use Rattle.geo_addr.specs.Ipv4Texts.{ipv4_in, ipv4_of, is_octet, is_part};
 ghost use Rattle.geo_addr.specs.Lines.{pieces};
@@ -30,7 +30,8 @@ fn is_octet(part: &[u8], value: u128) -> bool
 #[tactic(auto, unfolding(crate::specs::Ipv4Texts::ipv4_of))]
 /// The address that four decimal numbers with dots between them spell.
 pub(crate) fn read_v4(text: &[u8]) -> Result<u128, AddrFault>
-    ensures { result ≡ ipv4_in text.now }
+    ensures value { result ≡ ipv4_in text.now }
+    ensures small { IfOk result (λ number. number < 2 ^ 32) }
 {
     let (a, Some(rest)) = cut_at(text, b'.') else {
         return Err(AddrFault::Form);
@@ -45,7 +46,8 @@ pub(crate) fn read_v4(text: &[u8]) -> Result<u128, AddrFault>
 }
 
 fn read_parts(a: &[u8], b: &[u8], c: &[u8], d: &[u8]) -> Result<u128, AddrFault>
-    ensures { result ≡ ipv4_of (a.now ∷ b.now ∷ c.now ∷ pieces 46 d.now) }
+    ensures value { result ≡ ipv4_of (a.now ∷ b.now ∷ c.now ∷ pieces 46 d.now) }
+    ensures small { IfOk result (λ number. number < 2 ^ 32) }
 {
     let Some(first) = part(a) else {
         return Err(AddrFault::Form);

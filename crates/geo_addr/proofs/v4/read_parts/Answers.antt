@@ -4,20 +4,20 @@ use Rattle.geo_addr.proofs.V4Lemmas.{AreParts, first_fails, second_fails, third_
 use Rattle.geo_addr.proofs.v4.read_parts.Goals as goal
 use Rattle.geo_addr.proofs.v4.read_parts.Goals.{else-is_octet-via-then-is_octet+then-is_octet-2+then-is_octet-3+else-is_octet-4, else-is_octet-via-then-is_octet+then-is_octet-2+else-is_octet-3, else-is_octet-via-then-is_octet+else-is_octet-2, else-is_octet-via-else-is_octet}
 
-pub returns-in_default : goal.returns-in_default
-returns-in_default c = first_fails _ _ _ _ c.in_default.ensures
+pub returns-in_default-clause-value : goal.returns-in_default-clause-value
+returns-in_default-clause-value c = first_fails _ _ _ _ c.in_default.ensures
 
-pub returns-in_default-part : goal.returns-in_default-part
-returns-in_default-part c = second_fails _ _ _ _ c.in_default-part.ensures
+pub returns-in_default-part-clause-value : goal.returns-in_default-part-clause-value
+returns-in_default-part-clause-value c = second_fails _ _ _ _ c.in_default-part.ensures
 
-pub returns-in_default-part-2 : goal.returns-in_default-part-2
-returns-in_default-part-2 c = third_fails _ _ _ _ c.in_default-part-2.ensures
+pub returns-in_default-part-2-clause-value : goal.returns-in_default-part-2-clause-value
+returns-in_default-part-2-clause-value c = third_fails _ _ _ _ c.in_default-part-2.ensures
 
-pub returns-in_default-part-3 : goal.returns-in_default-part-3
-returns-in_default-part-3 c = fourth_fails _ _ _ c.args.d.now c.in_default-part-3.ensures
+pub returns-in_default-part-3-clause-value : goal.returns-in_default-part-3-clause-value
+returns-in_default-part-3-clause-value c = fourth_fails _ _ _ c.args.d.now c.in_default-part-3.ensures
 
-pub returns-then-is_octet-4 : goal.returns-then-is_octet-4
-returns-then-is_octet-4 c =
+pub returns-then-is_octet-4-clause-value : goal.returns-then-is_octet-4-clause-value
+returns-then-is_octet-4-clause-value c =
     let parts : AreParts _ _ _ _ = record {
       first = c.in-Some.ensures.0;
       second = c.in-Some-part.ensures.0;
@@ -28,8 +28,8 @@ returns-then-is_octet-4 c =
     four_octets _ _ _ _ _ parts octets
     (omega (arith, c.in-Some.ensures.1, c.in-Some-part.ensures.1, c.in-Some-part-2.ensures.1, c.in-Some-part-3.ensures.1))
 
-pub returns-else-is_octet : goal.returns-else-is_octet
-returns-else-is_octet c =
+pub returns-else-is_octet-clause-value : goal.returns-else-is_octet-clause-value
+returns-else-is_octet-clause-value c =
     let parts : AreParts _ _ _ _ = record {
       first = c.in-Some.ensures.0;
       second = c.in-Some-part.ensures.0;
