@@ -1,13 +1,11 @@
 -- What is written before the content of a value is read again: its type, its size and the place of the content.
-use Rattle.std.proofs.Common.{◌≡◌, ℕ, zero, suc, ◌+◌, ◌-◌, ◌*◌, ◌/◌, ◌%◌, ◌^◌, ◌<◌, ◌≤◌, Bool, true, false, List, [], ◌∷◌, ◌++◌, length, get_or, take, drop, Result, Ok, Err, refl, sym, ap, ◌∙◌, append_assoc, arith, inl, inr}
-use Rattle.std.specs.Int.{bytes_high_first}
-use Rattle.std.proofs.lemmas.Bool.{lt-ltb, le-ltb, eq-eqb, ne_eqb, cases_lt}
+use Rattle.std.proofs.Common.{◌≡◌, ℕ, ◌+◌, ◌-◌, ◌*◌, ◌/◌, ◌%◌, ◌<◌, ◌≤◌, false, List, [], ◌∷◌, ◌++◌, length, drop, Ok, refl, ap, ◌∙◌, append_assoc, arith, inl, inr}
+use Rattle.std.proofs.lemmas.Bool.{lt-ltb, le-ltb, ne_eqb, cases_lt}
 use Rattle.std.proofs.lemmas.List.{length-append}
-use Rattle.byteorder.specs.Numbers.{length-bytes_high_first}
 use Rattle.mmdb_data.specs.declared.fault.DataCause.TheVariants.{Truncated}
 use Rattle.mmdb_data.specs.Tree.{most}
 use Rattle.mmdb_data.specs.Spelling.{size_code, size_bytes, kind_bytes, head}
-use Rattle.mmdb_data.specs.Reading.{◌>>=◌, Fault, byte_from, kind_from, size_from, head_from, is_pointer}
+use Rattle.mmdb_data.specs.Reading.{Fault, byte_from, kind_from, size_from, head_from, is_pointer}
 use Rattle.mmdb_data.proofs.Places.{moved, byte_here, number_here}
 
 -- the two parts of a size, and how they are read

@@ -2,4 +2,8 @@ mod Vectors
 mod Places
 mod Heads
 mod Values
-mod ReadsBack
+pub mod ReadsBack
+pub mod Views
+pub mod Fine
+pub mod Written
+pub mod Loops

@@ -1,40 +1,35 @@
 -- What is written of one value is read again, before its parts are looked at.
-use Rattle.std.proofs.Common.{◌≡◌, ℕ, zero, suc, ◌+◌, ◌-◌, ◌*◌, ◌/◌, ◌%◌, ◌^◌, ◌<◌, ◌≤◌, Bool, true, false, List, [], ◌∷◌, ◌++◌, length, get_or, take, drop, Option, Some, None, Result, Ok, Err, refl, sym, ap, ◌∙◌, append_assoc, arith, inl, inr}
-use Rattle.std.specs.Prelude.{ℤ, FitsSigned}
-use Rattle.std.specs.Int.{w32, bytes_high_first, cast_signed, cast_unsigned}
+use Rattle.std.proofs.Common.{◌≡◌, ℕ, zero, suc, ◌+◌, ◌^◌, ◌<◌, ◌≤◌, Bool, false, eqb, List, [], ◌∷◌, ◌++◌, length, drop, Some, Ok, refl, sym, ap, ◌∙◌, append_assoc, arith}
+use Rattle.std.specs.Int.{bytes_high_first}
 use Rattle.std.specs.Str.{IsUtf8}
 use Rattle.std.proofs.lemmas.Bool.{lt-ltb, le-ltb}
 use Rattle.std.proofs.lemmas.Str.{is_utf8-from_IsUtf8}
-use Rattle.std.proofs.lemmas.List.{length-append, append-nil}
+use Rattle.std.proofs.lemmas.List.{length-append}
 use Rattle.byteorder.specs.Endian.{big_number, big_from}
 use Rattle.byteorder.specs.Numbers.{length-bytes_high_first, big_from-cons}
 use Rattle.mmdb_data.specs.declared.fault.DataCause.TheVariants.{Truncated, Many}
-use Rattle.mmdb_data.specs.Tree.{Tree, text, most}
+use Rattle.mmdb_data.specs.Tree.{text, most}
 use Rattle.mmdb_data.specs.Spelling.{head, sized, without_zeros}
-use Rattle.mmdb_data.specs.Reading.{◌>>=◌, Fault, Budget, Read, Shape, texts, scalars, one_less, byte_from, bytes_from, head_from, shape_of, shaped_from, content_from, plain_from, target_from, value_from, is_pointer}
+use Rattle.mmdb_data.specs.Reading.{Fault, Budget, values_left, Read, Scalar, one_less, scalar_of, scalar_from, scalar_bytes_from, text_from, leaf_from, content_from, plain_from, value_from}
 use Rattle.mmdb_data.proofs.Places.{moved, bytes_here, number_of_bytes}
 use Rattle.mmdb_data.proofs.Heads.{HeadIs, head_here}
-
--- a budget of so many values
-abbrev pub values_left : ℕ → Budget
-values_left n = record { values = n }
 
 one_less_is : (n : ℕ) (fault : Fault) → one_less (values_left (suc n)) fault ≡ Ok (values_left n)
 unfolding one_less
 one_less_is n fault = rw (lt-ltb 0 (suc n) (omega arith)) (ap (λ (k : ℕ). Ok (values_left k)) (omega arith))
 
-plain_is : (read : Read) (section : List ℕ) (is_key : Bool) (at kind size : ℕ) (shape : Shape) (left : Budget) → HeadIs section at kind size → shape_of kind ≡ Some shape
-    → plain_from read section is_key at left ≡ content_from read section is_key at shape size (at + length (head kind size)) left
+plain_is : (read : Read) (section : List ℕ) (is_key : Bool) (at kind size : ℕ) (left : Budget) → HeadIs section at kind size
+    → plain_from read section is_key at left ≡ content_from read section is_key at kind size (at + length (head kind size)) left
 unfolding plain_from
-plain_is read section is_key at kind size shape left h of_kind = rw (h.read, of_kind) refl
+plain_is read section is_key at kind size left h = rw h.read refl
 
 -- a value whose head stands at a place is its content, read behind the head
-pub value_is : (section : List ℕ) (levels : ℕ) (is_key : Bool) (at kind size n : ℕ) (shape : Shape) (y : List ℕ) → 2 ≤ kind → size ≤ most → shape_of kind ≡ Some shape → drop at section ≡ head kind size ++ y
-    → value_from section (suc levels) is_key at (values_left (suc n)) ≡ content_from (value_from section levels) section is_key at shape size (at + length (head kind size)) (values_left n)
+pub value_is : (section : List ℕ) (levels : ℕ) (is_key : Bool) (at kind size n : ℕ) (y : List ℕ) → 2 ≤ kind → size ≤ most → drop at section ≡ head kind size ++ y
+    → value_from section (suc levels) is_key at (values_left (suc n)) ≡ content_from (value_from section levels) section is_key at kind size (at + length (head kind size)) (values_left n)
 unfolding value_from
-value_is section levels is_key at kind size n shape y low fits of_kind here =
+value_is section levels is_key at kind size n y low fits here =
     let h = head_here section at kind size y low fits here in
-    rw (one_less_is n (at, Many), h.first (at, Truncated), h.no_pointer) (plain_is (value_from section levels) section is_key at kind size shape (values_left n) h of_kind)
+    rw (one_less_is n (at, Many), h.first (at, Truncated), h.no_pointer) (plain_is (value_from section levels) section is_key at kind size (values_left n) h)
 
 -- the place behind a head and its content
 pub behind : (at kind : ℕ) (content : List ℕ) → at + length (head kind (length content)) + length content ≡ at + length (sized kind content)
@@ -48,25 +43,37 @@ sized_here section at kind content y here = here ∙ append_assoc (head kind (le
 -- a text is read again, as a key too
 pub text_again : (section : List ℕ) (levels : ℕ) (is_key : Bool) (at n : ℕ) (content y : List ℕ) → IsUtf8 content → length content ≤ most → drop at section ≡ sized 2 content ++ y
     → value_from section (suc levels) is_key at (values_left (suc n)) ≡ Ok (text content, at + length (sized 2 content), values_left n)
-unfolding content_from shape_of
+unfolding content_from leaf_from text_from
 text_again section levels is_key at n content y utf8 fits here =
     let parts = sized_here section at 2 content y here in
     let place = at + length (head 2 (length content)) in
     let found = bytes_here section place (length content) content y (at, Truncated) (moved section at (head 2 (length content)) (content ++ y) place parts refl) refl in
-    value_is section levels is_key at 2 (length content) n texts (content ++ y) (omega arith) fits refl parts
+    value_is section levels is_key at 2 (length content) n (content ++ y) (omega arith) fits parts
     ∙ rw (found, is_utf8-from_IsUtf8 content utf8) (ap (λ (k : ℕ). Ok (text content, k, values_left n)) (behind at 2 content))
 
+-- the type is no map, no list, no text and no boolean, but this scalar
+pub record IsScalar (kind : ℕ) (scalar : Scalar) : Type 0 where
+  pub no_map : eqb kind 7 ≡ false
+  pub no_list : eqb kind 11 ≡ false
+  pub no_text : eqb kind 2 ≡ false
+  pub no_bool : eqb kind 14 ≡ false
+  pub known : scalar_of kind ≡ Some scalar
+  pub low : 2 ≤ kind
+  pub narrow : scalar.greatest ≤ most
+
 -- a scalar is read again
-pub scalar_again : (section : List ℕ) (levels at kind n least greatest : ℕ) (value : List ℕ → Tree) (content y : List ℕ) → 2 ≤ kind → greatest ≤ most → shape_of kind ≡ Some (scalars least greatest value)
-    → least ≤ length content → length content ≤ greatest → drop at section ≡ sized kind content ++ y
-    → value_from section (suc levels) false at (values_left (suc n)) ≡ Ok (value content, at + length (sized kind content), values_left n)
-unfolding content_from
-scalar_again section levels at kind n least greatest value content y low small of_kind above below here =
+pub scalar_again : (section : List ℕ) (levels at kind n : ℕ) (scalar : Scalar) (content y : List ℕ) → IsScalar kind scalar
+    → scalar.least ≤ length content → length content ≤ scalar.greatest → drop at section ≡ sized kind content ++ y
+    → value_from section (suc levels) false at (values_left (suc n)) ≡ Ok (scalar.value content, at + length (sized kind content), values_left n)
+unfolding content_from leaf_from scalar_from scalar_bytes_from
+scalar_again section levels at kind n scalar content y is above below here =
     let parts = sized_here section at kind content y here in
     let place = at + length (head kind (length content)) in
     let found = bytes_here section place (length content) content y (at, Truncated) (moved section at (head kind (length content)) (content ++ y) place parts refl) refl in
-    value_is section levels false at kind (length content) n (scalars least greatest value) (content ++ y) low (omega arith) of_kind parts
-    ∙ rw (le-ltb (length content) least above, le-ltb greatest (length content) below, found) (ap (λ (k : ℕ). Ok (value content, k, values_left n)) (behind at kind content))
+    let short = le-ltb (length content) scalar.least above in
+    let long = le-ltb scalar.greatest (length content) below in
+    value_is section levels false at kind (length content) n (content ++ y) is.low (omega (arith, is.narrow)) parts
+    ∙ rw (is.no_map, is.no_list, is.no_text, is.no_bool, is.known, short, long, found) (ap (λ (k : ℕ). Ok (scalar.value content, k, values_left n)) (behind at kind content))
 
 -- zeros in front change no number
 pub without_zeros-number : (content : List ℕ) → big_number (length (without_zeros content)) (without_zeros content) ≡ big_number (length content) content

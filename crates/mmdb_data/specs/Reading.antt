@@ -6,6 +6,8 @@ use Rattle.std.specs.Str.{is_utf8}
 use Rattle.byteorder.specs.Endian.{big_number}
 use Rattle.mmdb_data.specs.declared.fault.DataCause.{DataCause}
 use Rattle.mmdb_data.specs.declared.fault.DataCause.TheVariants.{Truncated, Kind, PointerToPointer, OutOfSection, Utf8, Key, Deep, Many, Size}
+use Rattle.mmdb_data.specs.declared.fault.DataFault.{DataFault}
+use Rattle.mmdb_data.specs.declared.fault.DataFault.TheVariants as faults
 use Rattle.mmdb_data.specs.Tree.{Tree, Members, Items, map, list, text, bytes, u16, u32, i32, u64, u128, bool, double, float, no_members, member, no_items, item, most}
 
 -- the offset of the control byte of the value at fault, and its cause
@@ -15,6 +17,9 @@ Fault = ℕ × DataCause
 -- what reading may still spend
 pub record Budget : Type 0 where
   pub values : ℕ
+
+abbrev pub values_left : ℕ → Budget
+values_left n = record { values = n }
 
 -- what was read, the place after it, and what is left of the budget
 abbrev pub Found : Type 0 → Type 0
@@ -60,36 +65,34 @@ head_from section at = do
   size ← size_from section at (control % 32) kind.1
   Ok (kind.0, size.0, size.1)
 
--- how the content of a type is read: a scalar has from least to greatest bytes, and its value is a function of them
-pub data Shape : Type 0 where
-  maps : Shape
-  lists : Shape
-  texts : Shape
-  scalars : (least greatest : ℕ) → (List ℕ → Tree) → Shape
-  bools : Shape
+-- a scalar has from least to greatest bytes, and its value is a function of them
+pub record Scalar : Type 0 where
+  pub least : ℕ
+  pub greatest : ℕ
+  pub value : List ℕ → Tree
 
 -- an unsigned number of at most so many bytes, the highest first
-abbrev pub unsigned : ℕ → (ℕ → Tree) → Shape
-unsigned greatest value = scalars 0 greatest (λ content. value (big_number (length content) content))
+abbrev pub unsigned : ℕ → (ℕ → Tree) → Scalar
+unsigned greatest value = record { least = 0; greatest = greatest; value = λ content. value (big_number (length content) content) }
 
-abbrev pub signed : List ℕ → Tree
-signed content = i32 (cast_signed w32 (big_number (length content) content))
+abbrev pub signed : Scalar
+signed = record { least = 0; greatest = 4; value = λ content. i32 (cast_signed w32 (big_number (length content) content)) }
 
--- the types; 1 is a pointer, and 12 and 13 stand in no section
-unfoldable pub shape_of : ℕ → Option Shape
-shape_of kind =
-    if kind == 2 then Some texts
-    else if kind == 3 then Some (scalars 8 8 double)
-    else if kind == 4 then Some (scalars 0 most bytes)
+-- so many bytes, kept as they are
+abbrev pub kept : ℕ → ℕ → (List ℕ → Tree) → Scalar
+kept least greatest value = record { least = least; greatest = greatest; value = value }
+
+-- the scalars; 12 and 13 stand in no section
+unfoldable pub scalar_of : ℕ → Option Scalar
+scalar_of kind =
+    if kind == 3 then Some (kept 8 8 double)
+    else if kind == 4 then Some (kept 0 most bytes)
     else if kind == 5 then Some (unsigned 2 u16)
     else if kind == 6 then Some (unsigned 4 u32)
-    else if kind == 7 then Some maps
-    else if kind == 8 then Some (scalars 0 4 signed)
+    else if kind == 8 then Some signed
     else if kind == 9 then Some (unsigned 8 u64)
     else if kind == 10 then Some (unsigned 16 u128)
-    else if kind == 11 then Some lists
-    else if kind == 14 then Some bools
-    else if kind == 15 then Some (scalars 4 4 float)
+    else if kind == 15 then Some (kept 4 4 float)
     else None
 
 abbrev pub is_pointer : ℕ → Bool
@@ -128,31 +131,47 @@ items_from read (suc n) place left = do
   rest ← items_from read n value.1 value.2
   Ok (item value.0 rest.0, rest.1, rest.2)
 
--- the content of the value at a place, by its shape and size
-unfoldable pub content_from : Read → List ℕ → Bool → ℕ → Shape → ℕ → ℕ → Budget → Found Tree
-content_from read section is_key at maps size place left =
-    if is_key then Err (at, Key) else (members_from read size place left >>= λ found. Ok (map found.0, found.1, found.2))
-content_from read section is_key at lists size place left =
-    if is_key then Err (at, Key) else (items_from read size place left >>= λ found. Ok (list found.0, found.1, found.2))
-content_from read section is_key at texts size place left = do
-  content ← bytes_from section place size (at, Truncated)
-  if is_utf8 content then Ok (text content, place + size, left) else Err (at, Utf8)
-content_from read section is_key at (scalars least greatest value) size place left =
+-- the bytes of a scalar; it is no key
+unfoldable pub scalar_bytes_from : List ℕ → Bool → ℕ → ℕ → ℕ → ℕ → ℕ → Result (List ℕ) Fault
+scalar_bytes_from section is_key at least greatest size place =
     if nat_lt size least || nat_lt greatest size then Err (at, Size)
-    else (bytes_from section place size (at, Truncated) >>= λ content. if is_key then Err (at, Key) else Ok (value content, place + size, left))
-content_from read section is_key at bools size place left =
-    if nat_lt 1 size then Err (at, Size) else if is_key then Err (at, Key) else Ok (bool (size == 1), place, left)
+    else (bytes_from section place size (at, Truncated) >>= λ content. if is_key then Err (at, Key) else Ok content)
 
--- a type that the format does not have, or the content
-abbrev pub shaped_from : Read → List ℕ → Bool → ℕ → Option Shape → ℕ → ℕ → Budget → Found Tree
-shaped_from read section is_key at None size place left = Err (at, Kind)
-shaped_from read section is_key at (Some shape) size place left = content_from read section is_key at shape size place left
+abbrev pub scalar_value_from : List ℕ → Bool → ℕ → Option Scalar → ℕ → ℕ → Result Tree Fault
+scalar_value_from section is_key at None size place = Err (at, Kind)
+scalar_value_from section is_key at (Some scalar) size place =
+    scalar_bytes_from section is_key at scalar.least scalar.greatest size place >>= λ content. Ok (scalar.value content)
+
+unfoldable pub scalar_from : List ℕ → Bool → ℕ → ℕ → ℕ → ℕ → Result Tree Fault
+scalar_from section is_key at kind size place = scalar_value_from section is_key at (scalar_of kind) size place
+
+unfoldable pub text_from : List ℕ → ℕ → ℕ → ℕ → Result (List ℕ) Fault
+text_from section at size place =
+    bytes_from section place size (at, Truncated) >>= λ content. if is_utf8 content then Ok content else Err (at, Utf8)
+
+-- the size is the value
+unfoldable pub bool_from : Bool → ℕ → ℕ → Result Bool Fault
+bool_from is_key at size = if nat_lt 1 size then Err (at, Size) else if is_key then Err (at, Key) else Ok (size == 1)
+
+-- a value without parts, and the place after it
+unfoldable pub leaf_from : List ℕ → Bool → ℕ → ℕ → ℕ → ℕ → Result (Tree × ℕ) Fault
+leaf_from section is_key at kind size place =
+    if kind == 2 then (text_from section at size place >>= λ content. Ok (text content, place + size))
+    else if kind == 14 then (bool_from is_key at size >>= λ b. Ok (bool b, place))
+    else (scalar_from section is_key at kind size place >>= λ value. Ok (value, place + size))
+
+-- the value at a place by its type, its size and the place of its content: 7 is a map, and 11 a list
+unfoldable pub content_from : Read → List ℕ → Bool → ℕ → ℕ → ℕ → ℕ → Budget → Found Tree
+content_from read section is_key at kind size place left =
+    if kind == 7 then (if is_key then Err (at, Key) else (members_from read size place left >>= λ found. Ok (map found.0, found.1, found.2)))
+    else if kind == 11 then (if is_key then Err (at, Key) else (items_from read size place left >>= λ found. Ok (list found.0, found.1, found.2)))
+    else (leaf_from section is_key at kind size place >>= λ found. Ok (found.0, found.1, left))
 
 -- the value at a place that is no pointer
 unfoldable pub plain_from : Read → List ℕ → Bool → ℕ → Budget → Found Tree
 plain_from read section is_key at left = do
   head ← head_from section at
-  shaped_from read section is_key at (shape_of head.0) head.1 head.2 left
+  content_from read section is_key at head.0 head.1 head.2 left
 
 -- the value that a pointer leads to, and the place after the pointer
 unfoldable pub target_from : Read → List ℕ → Bool → ℕ → ℕ → Budget → Found Tree
@@ -160,7 +179,7 @@ target_from read section is_key at control left = do
   pointer ← pointer_from section at control
   first ← byte_from section pointer.0 (at, OutOfSection)
   if is_pointer first then Err (pointer.0, PointerToPointer)
-    else (plain_from read section is_key pointer.0 left >>= λ found. Ok (found.0, pointer.1, found.2))
+      else (plain_from read section is_key pointer.0 left >>= λ found. Ok (found.0, pointer.1, found.2))
 
 -- the value at a place, with so many levels left; a pointer and its target are one value
 unfoldable pub value_from : List ℕ → ℕ → Bool → ℕ → Budget → Found Tree
@@ -169,10 +188,19 @@ value_from section (suc levels) is_key at left = do
   rest ← one_less left (at, Many)
   control ← byte_from section at (at, Truncated)
   if is_pointer control then target_from (value_from section levels) section is_key at control rest
-    else plain_from (value_from section levels) section is_key at rest
+      else plain_from (value_from section levels) section is_key at rest
 
 -- the value at an offset of a section: at most 32 levels and 100,000 values, keys counted
 unfoldable pub reads : List ℕ → ℕ → Result Tree Fault
 reads section at =
     if nat_lt at (length section) then (value_from section 32 false at (record { values = 100000 }) >>= λ found. Ok found.0)
     else Err (at, OutOfSection)
+
+-- What a function returned, seen by view, is what reading gives, unless memory ran out.
+abbrev pub Fails : {Y : Type 0} → DataFault → Result Y Fault → Type 0
+Fails faults.Memory read = Unit {0}
+Fails (faults.Bad at cause) read = read ≡ Err (at, cause)
+
+abbrev pub Gives : {X Y : Type 0} → (X → Y) → Result X DataFault → Result Y Fault → Type 0
+Gives view (Ok x) read = read ≡ Ok (view x)
+Gives view (Err fault) read = Fails fault read

@@ -1,5 +1,5 @@
 -- What a value of the data section stands for (MaxMind DB 2.0, "Output Data Section"), with lists in place of the vectors.
-use Rattle.std.specs.Prelude.{◌≡◌, ◌≤◌, ◌<◌, ℕ, suc, ◌+◌, ◌^◌, max, ℤ, Bool, List, length, FitsSigned}
+use Rattle.std.specs.Prelude.{◌≡◌, ◌≤◌, ◌<◌, ℕ, suc, ◌+◌, ◌^◌, max, ℤ, Bool, true, ◌&&◌, nat_lt, nat_le, ◌-◌, List, length, FitsSigned}
 use Rattle.std.specs.Int.{w32}
 use Rattle.std.specs.Str.{IsUtf8}
 
@@ -114,6 +114,30 @@ abbrev mutual
 -- what can be written: each size can be told, and values are nested at most 32 deep
 abbrev pub CanBeSpelled : Tree → Type 0
 CanBeSpelled value = IsNarrow value × (depth value ≤ 32)
+
+-- the same as a test, with so many levels left
+abbrev mutual
+  pub fits_in : Tree → ℕ → Bool
+  fits_in (map members) levels = nat_lt 0 levels && (nat_le (members_len members) most && members_fit members (levels - 1))
+  fits_in (list items) levels = nat_lt 0 levels && (nat_le (items_len items) most && items_fit items (levels - 1))
+  fits_in (text content) levels = nat_lt 0 levels && nat_le (length content) most
+  fits_in (bytes content) levels = nat_lt 0 levels && nat_le (length content) most
+  fits_in (u16 n) levels = nat_lt 0 levels
+  fits_in (u32 n) levels = nat_lt 0 levels
+  fits_in (i32 n) levels = nat_lt 0 levels
+  fits_in (u64 n) levels = nat_lt 0 levels
+  fits_in (u128 n) levels = nat_lt 0 levels
+  fits_in (bool b) levels = nat_lt 0 levels
+  fits_in (double content) levels = nat_lt 0 levels
+  fits_in (float content) levels = nat_lt 0 levels
+
+  pub members_fit : Members → ℕ → Bool
+  members_fit no_members levels = true
+  members_fit (member key value members) levels = nat_lt 0 levels && (nat_le (length key) most && (fits_in value levels && members_fit members levels))
+
+  pub items_fit : Items → ℕ → Bool
+  items_fit no_items levels = true
+  items_fit (item value items) levels = fits_in value levels && items_fit items levels
 
 -- each value is of its type, as every value of a program is
 abbrev mutual

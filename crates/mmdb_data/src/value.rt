@@ -1,6 +1,9 @@
 use geo_addr::{Bytes, Text};
 
-/// A value of the data section.
+/// A value of the data section (MaxMind DB 2.0, "Output Data Section").
+///
+/// Contracts see the tree that it stands for, with lists in place of the vectors. The pairs of a map
+/// keep their order, and keys may repeat. Doubles and floats are kept as their bytes, the highest first.
 #[derive(Debug, Drop, PartialEq, Eq)]
 pub enum Value {
     Map(Vec<(Text, Value)>),
@@ -13,6 +16,8 @@ pub enum Value {
     U64(u64),
     U128(u128),
     Bool(bool),
+    /// A double.
     Raw8([u8; 8]),
+    /// A float.
     Raw4([u8; 4]),
 }

@@ -1,0 +1,203 @@
+//! Values with their parts.
+
+ghost use Rattle.std.specs.Prelude.{◌≡◌, ◌≤◌, ◌<◌, ◌-◌, ◌^◌, length, IfOk, true, false};
+ghost use Rattle.mmdb_data.specs.Tree.{most as most_size};
+ghost use Rattle.mmdb_data.specs.Reading.{values_left, Gives, key_of, members_from, items_from, content_from, plain_from, target_from, value_from, reads};
+ghost use Rattle.mmdb_data.specs.View.{tree, items_view, members_view};
+
+use crate::fault::{DataCause, DataFault};
+use crate::leaves::leaf_at;
+use crate::reading::{Head, bad, byte_at, head_at, pointer_at};
+use crate::sizes::LEVELS;
+use crate::value::Value;
+use geo_addr::Text;
+use std::alloc::Global;
+
+/// How many values are read at most, keys counted.
+const VALUES: u32 = 100_000;
+
+/// What was read, the place after it, and how many more values may be read.
+type Found<T> = Result<(T, usize, u32), DataFault>;
+
+/// The value that stands at the offset `at` of a data section, pointers followed.
+#[tactic(auto, unfolding(crate::specs::Reading::reads))]
+pub fn decode(alloc: Global, section: &[u8], at: u64) -> Result<Value, DataFault>
+    ensures { Gives tree result (reads section.now at) }
+{
+    if at >= section.len() as u64 {
+        return Err(DataFault::Bad {
+            at,
+            cause: DataCause::OutOfSection,
+        });
+    }
+    let (value, _, _) = value_at(alloc, section, LEVELS, false, at as usize, VALUES)?;
+    Ok(value)
+}
+
+#[cycle(decoding)]
+#[tactic(auto, unfolding(crate::specs::Reading::value_from, crate::specs::Reading::one_less))]
+fn value_at(
+    alloc: Global,
+    section: &[u8],
+    levels: u8,
+    is_key: bool,
+    at: usize,
+    left: u32,
+) -> Found<Value>
+    requires { at ≤ length section.now }
+    ensures gives { Gives (λ x. (tree x.0, x.1, values_left x.2)) result (value_from section.now levels is_key at (values_left left)) }
+    ensures room { IfOk result (λ x. x.1 ≤ length section.now) }
+{
+    if levels == 0 {
+        return Err(bad(at, DataCause::Deep));
+    }
+    if left == 0 {
+        return Err(bad(at, DataCause::Many));
+    }
+    let control = byte_at(section, at, at, DataCause::Truncated)?;
+    if control / 32 == 1 {
+        target_at(alloc, section, levels - 1, is_key, at, control, left - 1)
+    } else {
+        plain_at(alloc, section, levels - 1, is_key, at, left - 1)
+    }
+}
+
+#[cycle(decoding)]
+#[tactic(auto, unfolding(crate::specs::Reading::target_from))]
+fn target_at(
+    alloc: Global,
+    section: &[u8],
+    levels: u8,
+    is_key: bool,
+    at: usize,
+    control: u8,
+    left: u32,
+) -> Found<Value>
+    requires { at < length section.now }
+    ensures gives { Gives (λ x. (tree x.0, x.1, values_left x.2)) result (target_from (value_from section.now levels) section.now is_key at control (values_left left)) }
+    ensures room { IfOk result (λ x. x.1 ≤ length section.now) }
+{
+    let (target, after) = pointer_at(section, at, control)?;
+    let first = byte_at(section, target, at, DataCause::OutOfSection)?;
+    if first / 32 == 1 {
+        return Err(bad(target, DataCause::PointerToPointer));
+    }
+    let (value, _, left) = plain_at(alloc, section, levels, is_key, target, left)?;
+    Ok((value, after, left))
+}
+
+#[cycle(decoding)]
+#[tactic(auto, unfolding(crate::specs::Reading::plain_from))]
+fn plain_at(
+    alloc: Global,
+    section: &[u8],
+    levels: u8,
+    is_key: bool,
+    at: usize,
+    left: u32,
+) -> Found<Value>
+    ensures gives { Gives (λ x. (tree x.0, x.1, values_left x.2)) result (plain_from (value_from section.now levels) section.now is_key at (values_left left)) }
+    ensures room { IfOk result (λ x. x.1 ≤ length section.now) }
+{
+    let head = head_at(section, at)?;
+    content_at(alloc, section, levels, is_key, at, head, left)
+}
+
+#[cycle(decoding)]
+#[tactic(auto, unfolding(crate::specs::Reading::content_from))]
+fn content_at(
+    alloc: Global,
+    section: &[u8],
+    levels: u8,
+    is_key: bool,
+    at: usize,
+    head: Head,
+    left: u32,
+) -> Found<Value>
+    requires here { head.place ≤ length section.now }
+    requires narrow { head.size ≤ most_size }
+    ensures gives { Gives (λ x. (tree x.0, x.1, values_left x.2)) result (content_from (value_from section.now levels) section.now is_key at head.kind head.size head.place (values_left left)) }
+    ensures room { IfOk result (λ x. x.1 ≤ length section.now) }
+{
+    match head.kind {
+        7 | 11 if is_key => Err(bad(at, DataCause::Key)),
+        7 => {
+            let (pairs, after, left) = members_at(
+                alloc, section, levels, head.size, head.place, left,
+            )?;
+            Ok((Value::Map(pairs), after, left))
+        }
+        11 => {
+            let (values, after, left) = items_at(
+                alloc, section, levels, head.size, head.place, left,
+            )?;
+            Ok((Value::List(values), after, left))
+        }
+        _ => {
+            let (value, after) = leaf_at(alloc, section, is_key, at, head)?;
+            Ok((value, after, left))
+        }
+    }
+}
+
+#[cycle(decoding)]
+fn members_at(
+    alloc: Global,
+    section: &[u8],
+    levels: u8,
+    count: usize,
+    place: usize,
+    left: u32,
+) -> Found<Vec<(Text, Value)>>
+    requires { place ≤ length section.now }
+    ensures gives { Gives (λ x. (members_view x.0.items, x.1, values_left x.2)) result (members_from (value_from section.now levels) count place (values_left left)) }
+    ensures room { IfOk result (λ x. x.1 ≤ length section.now) }
+{
+    let mut pairs = Vec::new(alloc);
+    let mut next = place;
+    let mut rest = left;
+    for _ in 0..count {
+        let (key, behind_key, fewer) = value_at(alloc, section, levels, true, next, rest)?;
+        let name = name_of(next, key)?;
+        let (value, behind, least) = value_at(alloc, section, levels, false, behind_key, fewer)?;
+        pairs.push((name, value))?;
+        next = behind;
+        rest = least;
+    }
+    Ok((pairs, next, rest))
+}
+
+#[cycle(decoding)]
+fn items_at(
+    alloc: Global,
+    section: &[u8],
+    levels: u8,
+    count: usize,
+    place: usize,
+    left: u32,
+) -> Found<Vec<Value>>
+    requires { place ≤ length section.now }
+    ensures gives { Gives (λ x. (items_view x.0.items, x.1, values_left x.2)) result (items_from (value_from section.now levels) count place (values_left left)) }
+    ensures room { IfOk result (λ x. x.1 ≤ length section.now) }
+{
+    let mut values = Vec::new(alloc);
+    let mut next = place;
+    let mut rest = left;
+    for _ in 0..count {
+        let (value, behind, fewer) = value_at(alloc, section, levels, false, next, rest)?;
+        values.push(value)?;
+        next = behind;
+        rest = fewer;
+    }
+    Ok((values, next, rest))
+}
+
+/// A key is a text.
+fn name_of(at: usize, key: Value) -> Result<Text, DataFault>
+    ensures { Gives (λ name. name) result (key_of at (tree key)) }
+{
+    match key {
+        Value::Text(name) => Ok(name),
+        _ => Err(bad(at, DataCause::Key)),
+    }
+}

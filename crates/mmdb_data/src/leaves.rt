@@ -1,0 +1,143 @@
+//! Values without parts.
+
+ghost use Rattle.std.specs.Prelude.{◌≡◌, ◌≤◌, ◌<◌, ◌+◌, length, OnOk, IfOk};
+ghost use Rattle.mmdb_data.specs.Tree.{Tree, most as most_size};
+ghost use Rattle.mmdb_data.specs.Reading.{Gives, scalar_bytes_from, scalar_from, text_from, bool_from, leaf_from};
+ghost use Rattle.mmdb_data.specs.View.{tree};
+
+use crate::fault::{DataCause, DataFault};
+use crate::reading::{Head, bad, bytes_at, number_of};
+use crate::sizes::MOST;
+use crate::value::Value;
+use geo_addr::{Bytes, Text};
+use std::alloc::Global;
+
+/// The value, and the place after it.
+#[tactic(auto, unfolding(crate::specs::Reading::leaf_from))]
+pub(crate) fn leaf_at(
+    alloc: Global,
+    section: &[u8],
+    is_key: bool,
+    at: usize,
+    head: Head,
+) -> Result<(Value, usize), DataFault>
+    requires here { head.place ≤ length section.now }
+    requires narrow { head.size ≤ most_size }
+    ensures gives { Gives (λ x. (tree x.0, x.1)) result (leaf_from section.now is_key at head.kind head.size head.place) }
+    ensures room { IfOk result (λ x. x.1 ≤ length section.now) }
+{
+    match head.kind {
+        2 => {
+            let text = text_at(alloc, section, at, head)?;
+            Ok((Value::Text(text), head.place + head.size))
+        }
+        14 => Ok((Value::Bool(bool_at(is_key, at, head.size)?), head.place)),
+        _ => {
+            let value = scalar_at(alloc, section, is_key, at, head)?;
+            Ok((value, head.place + head.size))
+        }
+    }
+}
+
+#[tactic(auto, unfolding(crate::specs::Reading::text_from))]
+fn text_at(alloc: Global, section: &[u8], at: usize, head: Head) -> Result<Text, DataFault>
+    requires { head.place ≤ length section.now }
+    ensures gives { Gives (λ text. text) result (text_from section.now at head.size head.place) }
+    ensures room { OnOk result (head.place + head.size ≤ length section.now) }
+{
+    let content = bytes_at(section, head.place, head.size, at)?;
+    match str::from_utf8(content) {
+        Ok(text) => Ok(Text::of(alloc, text)?),
+        Err(_) => Err(bad(at, DataCause::Utf8)),
+    }
+}
+
+#[tactic(auto, unfolding(crate::specs::Reading::bool_from))]
+fn bool_at(is_key: bool, at: usize, size: usize) -> Result<bool, DataFault>
+    ensures { Gives (λ b. b) result (bool_from is_key at size) }
+{
+    if size > 1 {
+        Err(bad(at, DataCause::Size))
+    } else if is_key {
+        Err(bad(at, DataCause::Key))
+    } else {
+        Ok(size == 1)
+    }
+}
+
+#[tactic(auto, unfolding(crate::specs::Reading::scalar_from, crate::specs::Reading::scalar_of))]
+fn scalar_at(
+    alloc: Global,
+    section: &[u8],
+    is_key: bool,
+    at: usize,
+    head: Head,
+) -> Result<Value, DataFault>
+    requires here { head.place ≤ length section.now }
+    requires narrow { head.size ≤ most_size }
+    ensures gives { Gives tree result (scalar_from section.now is_key at head.kind head.size head.place) }
+    ensures room { OnOk result (head.place + head.size ≤ length section.now) }
+{
+    match head.kind {
+        3 => {
+            let mut raw = [0; 8];
+            raw.copy_from_slice(scalar_bytes(section, is_key, at, head, 8, 8)?);
+            Ok(Value::Raw8(raw))
+        }
+        4 => {
+            let content = scalar_bytes(section, is_key, at, head, 0, MOST)?;
+            Ok(Value::Bytes(Bytes::of(alloc, content)?))
+        }
+        5 => {
+            let content = scalar_bytes(section, is_key, at, head, 0, 2)?;
+            Ok(Value::U16(number_of(content, 2) as u16))
+        }
+        6 => {
+            let content = scalar_bytes(section, is_key, at, head, 0, 4)?;
+            Ok(Value::U32(number_of(content, 4) as u32))
+        }
+        8 => {
+            let content = scalar_bytes(section, is_key, at, head, 0, 4)?;
+            Ok(Value::I32((number_of(content, 4) as u32).cast_signed()))
+        }
+        9 => {
+            let content = scalar_bytes(section, is_key, at, head, 0, 8)?;
+            Ok(Value::U64(number_of(content, 8) as u64))
+        }
+        10 => {
+            let content = scalar_bytes(section, is_key, at, head, 0, 16)?;
+            Ok(Value::U128(number_of(content, 16)))
+        }
+        15 => {
+            let mut raw = [0; 4];
+            raw.copy_from_slice(scalar_bytes(section, is_key, at, head, 4, 4)?);
+            Ok(Value::Raw4(raw))
+        }
+        _ => Err(bad(at, DataCause::Kind)),
+    }
+}
+
+/// The content of a value that has from `least` to `greatest` bytes.
+#[tactic(auto, unfolding(crate::specs::Reading::scalar_bytes_from))]
+fn scalar_bytes(
+    section: &[u8],
+    is_key: bool,
+    at: usize,
+    head: Head,
+    least: usize,
+    greatest: usize,
+) -> Result<&[u8], DataFault>
+    requires { head.place ≤ length section.now }
+    ensures gives { Gives (λ content. content.now) result (scalar_bytes_from section.now is_key at least greatest head.size head.place) }
+    ensures len { IfOk result (λ content. (length content.now ≡ head.size) × (least ≤ head.size) × (head.size ≤ greatest)) }
+    ensures room { OnOk result (head.place + head.size ≤ length section.now) }
+{
+    if head.size < least || greatest < head.size {
+        return Err(bad(at, DataCause::Size));
+    }
+    let content = bytes_at(section, head.place, head.size, at)?;
+    if is_key {
+        return Err(bad(at, DataCause::Key));
+    }
+    Ok(content)
+}

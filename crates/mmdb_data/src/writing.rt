@@ -1,0 +1,206 @@
+//! Writing a value: the fewest size bytes, the fewest bytes of a number, no pointers.
+
+ghost use Rattle.std.specs.Prelude.{◌≡◌, ◌≤◌, ◌<◌, ◌^◌, ◌++◌, ℕ, List, length, OnOk, OnErr, Ok};
+ghost use Rattle.std.specs.Int.{bytes_high_first};
+ghost use Rattle.mmdb_data.specs.Tree.{most, count, CanBeSpelled, IsNarrow, MembersAreNarrow, ItemsAreNarrow, IsTyped, MembersAreTyped, ItemsAreTyped};
+ghost use Rattle.mmdb_data.specs.Spelling.{size_code, size_bytes, kind_bytes, head, sized, without_zeros as bytes_without_zeros, spelling, members_spelling, items_spelling};
+ghost use Rattle.mmdb_data.specs.Reading.{reads};
+ghost use Rattle.mmdb_data.specs.View.{tree, items_view, members_view};
+
+use crate::value::Value;
+use byteorder::{BigEndian, ByteOrder};
+use geo_addr::{Memory, Text};
+use std::alloc::Global;
+
+/// Appends the value to a data section, without pointers.
+///
+/// For whoever follows no more than 100,000 values, keys counted, the value stands at the place where
+/// the section ended before, whatever is appended after it.
+pub fn encode(alloc: Global, value: &Value, out: &mut Vec<u8>) -> Result<(), Memory>
+    requires { CanBeSpelled (tree value.now) }
+    ensures spelled { OnOk result (out.new.items ≡ out.old.items ++ spelling (tree value.now)) }
+    ensures read_back { OnOk result (count (tree value.now) ≤ 100000 → (after : List ℕ)
+        → reads (out.new.items ++ after) (length out.old.items) ≡ Ok (tree value.now)) }
+    ensures refused { OnErr result (out.new.items ≡ out.old.items) }
+{
+    let mut spelled = Vec::new(alloc);
+    put_value(&mut spelled, value)?;
+    out.extend_from_slice(&spelled)?;
+    Ok(())
+}
+
+#[cycle(writing)]
+fn put_value(out: &mut Vec<u8>, value: &Value) -> Result<(), Memory>
+    requires { IsNarrow (tree value.now) }
+    ensures spelled { OnOk result (out.new.items ≡ out.old.items ++ spelling (tree value.now)) }
+    ensures typed { OnOk result (IsTyped (tree value.now)) }
+{
+    match value {
+        Value::Map(pairs) => {
+            put_head(out, 7, pairs.len())?;
+            put_members(out, pairs)
+        }
+        Value::List(values) => {
+            put_head(out, 11, values.len())?;
+            put_items(out, values)
+        }
+        Value::Text(text) => put_sized(out, 2, text.as_str().as_bytes()),
+        Value::Bytes(bytes) => put_sized(out, 4, bytes.as_slice()),
+        Value::U16(n) => put_u16(out, *n),
+        Value::U32(n) => put_u32(out, 6, *n),
+        Value::I32(n) => put_u32(out, 8, n.cast_unsigned()),
+        Value::U64(n) => put_u64(out, *n),
+        Value::U128(n) => put_u128(out, *n),
+        Value::Bool(b) => put_head(out, 14, usize::from(*b)),
+        Value::Raw8(content) => put_sized(out, 3, content),
+        Value::Raw4(content) => put_sized(out, 15, content),
+    }
+}
+
+#[cycle(writing)]
+fn put_members(out: &mut Vec<u8>, pairs: &[(Text, Value)]) -> Result<(), Memory>
+    requires { MembersAreNarrow (members_view pairs.now) }
+    ensures spelled { OnOk result (out.new.items ≡ out.old.items ++ members_spelling (members_view pairs.now)) }
+    ensures typed { OnOk result (MembersAreTyped (members_view pairs.now)) }
+{
+    for (key, value) in pairs {
+        put_sized(out, 2, key.as_str().as_bytes())?;
+        put_value(out, value)?;
+    }
+    Ok(())
+}
+
+#[cycle(writing)]
+fn put_items(out: &mut Vec<u8>, values: &[Value]) -> Result<(), Memory>
+    requires { ItemsAreNarrow (items_view values.now) }
+    ensures spelled { OnOk result (out.new.items ≡ out.old.items ++ items_spelling (items_view values.now)) }
+    ensures typed { OnOk result (ItemsAreTyped (items_view values.now)) }
+{
+    for value in values {
+        put_value(out, value)?;
+    }
+    Ok(())
+}
+
+fn put_u16(out: &mut Vec<u8>, n: u16) -> Result<(), Memory>
+    ensures { OnOk result (out.new.items ≡ out.old.items ++ sized 5 (bytes_without_zeros (bytes_high_first 2 n))) }
+{
+    let mut bytes = [0; 2];
+    BigEndian::write_u16(&mut bytes, n);
+    put_sized(out, 5, without_zeros(&bytes))
+}
+
+fn put_u32(out: &mut Vec<u8>, kind: u8, n: u32) -> Result<(), Memory>
+    requires { kind < 16 }
+    ensures { OnOk result (out.new.items ≡ out.old.items ++ sized kind (bytes_without_zeros (bytes_high_first 4 n))) }
+{
+    let mut bytes = [0; 4];
+    BigEndian::write_u32(&mut bytes, n);
+    put_sized(out, kind, without_zeros(&bytes))
+}
+
+fn put_u64(out: &mut Vec<u8>, n: u64) -> Result<(), Memory>
+    ensures { OnOk result (out.new.items ≡ out.old.items ++ sized 9 (bytes_without_zeros (bytes_high_first 8 n))) }
+{
+    let mut bytes = [0; 8];
+    BigEndian::write_u64(&mut bytes, n);
+    put_sized(out, 9, without_zeros(&bytes))
+}
+
+fn put_u128(out: &mut Vec<u8>, n: u128) -> Result<(), Memory>
+    ensures { OnOk result (out.new.items ≡ out.old.items ++ sized 10 (bytes_without_zeros (bytes_high_first 16 n))) }
+{
+    let mut bytes = [0; 16];
+    BigEndian::write_u128(&mut bytes, n);
+    put_sized(out, 10, without_zeros(&bytes))
+}
+
+fn without_zeros(bytes: &[u8]) -> &[u8]
+    ensures value { result.now ≡ bytes_without_zeros bytes.now }
+    ensures len { length result.now ≤ length bytes.now }
+{
+    let mut rest = bytes;
+    while let [0, after @ ..] = rest {
+        rest = after;
+    }
+    rest
+}
+
+#[tactic(auto, unfolding(crate::specs::Spelling::sized))]
+fn put_sized(out: &mut Vec<u8>, kind: u8, content: &[u8]) -> Result<(), Memory>
+    requires known { kind < 16 }
+    requires narrow { length content.now ≤ most }
+    ensures { OnOk result (out.new.items ≡ out.old.items ++ sized kind content.now) }
+{
+    put_head(out, kind, content.len())?;
+    out.extend_from_slice(content)?;
+    Ok(())
+}
+
+#[tactic(auto, unfolding(crate::specs::Spelling::head))]
+fn put_head(out: &mut Vec<u8>, kind: u8, size: usize) -> Result<(), Memory>
+    requires known { kind < 16 }
+    requires narrow { size ≤ most }
+    ensures { OnOk result (out.new.items ≡ out.old.items ++ head kind size) }
+{
+    put_kind(out, kind, code_of(size))?;
+    put_size(out, size)
+}
+
+#[tactic(auto, unfolding(crate::specs::Spelling::kind_bytes))]
+fn put_kind(out: &mut Vec<u8>, kind: u8, code: u8) -> Result<(), Memory>
+    requires known { kind < 16 }
+    requires small { code < 32 }
+    ensures { OnOk result (out.new.items ≡ out.old.items ++ kind_bytes kind code) }
+{
+    if kind < 8 {
+        out.push(kind * 32 + code)?;
+    } else {
+        out.extend_from_slice(&[code, kind - 7])?;
+    }
+    Ok(())
+}
+
+#[tactic(auto, unfolding(crate::specs::Spelling::size_code))]
+fn code_of(size: usize) -> u8
+    ensures value { result ≡ size_code size }
+    ensures small { result < 32 }
+{
+    if size < 29 {
+        size as u8
+    } else if size < 285 {
+        29
+    } else if size < 65_821 {
+        30
+    } else {
+        31
+    }
+}
+
+#[tactic(auto, unfolding(crate::specs::Spelling::size_bytes))]
+fn put_size(out: &mut Vec<u8>, size: usize) -> Result<(), Memory>
+    requires { size ≤ most }
+    ensures { OnOk result (out.new.items ≡ out.old.items ++ size_bytes size) }
+{
+    if size < 29 {
+        Ok(())
+    } else if size < 285 {
+        put_number(out, size - 29, 1)
+    } else if size < 65_821 {
+        put_number(out, size - 285, 2)
+    } else {
+        put_number(out, size - 65_821, 3)
+    }
+}
+
+fn put_number(out: &mut Vec<u8>, n: usize, len: usize) -> Result<(), Memory>
+    requires some { 0 < len }
+    requires few { len ≤ 3 }
+    requires fits { n < 256 ^ len }
+    ensures { OnOk result (out.new.items ≡ out.old.items ++ bytes_high_first len n) }
+{
+    let mut bytes = [0; 3];
+    BigEndian::write_uint(&mut bytes, n as u64, len);
+    out.extend_from_slice(&bytes[..len])?;
+    Ok(())
+}
