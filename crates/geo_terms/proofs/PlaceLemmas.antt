@@ -1,5 +1,5 @@
 -- Texts of a place in upper case are in form where they were in form before.
-use Rattle.std.proofs.Common.{◌≡◌, ℕ, ◌+◌, ◌-◌, ◌<◌, ◌≤◌, Bool, true, false, cond, not, ◌&&◌, ◌||◌, eqb, nat_le, List, [], ◌∷◌, map, length, get_or, IsTrue, refl, sym, ap, ◌∙◌, arith}
+use Rattle.std.proofs.Common.{◌≡◌, ℕ, ◌+◌, ◌-◌, ◌<◌, ◌≤◌, Bool, true, false, cond, not, ◌&&◌, ◌||◌, eqb, nat_le, List, [], ◌∷◌, map, length, get_or, IsTrue, refl, sym, ap, ◌∙◌, subst, arith}
 use Rattle.std.specs.Char.{is_ascii_alphabetic, is_ascii_alphanumeric, to_ascii_uppercase}
 use Rattle.std.specs.List.{list_all}
 use Rattle.std.specs.Prelude.{nat_eq}
@@ -7,7 +7,7 @@ use Rattle.std.proofs.lemmas.Bool.Decides.{nat_tests}
 use Rattle.std.proofs.lemmas.List.Folds.{list_all-map}
 use Rattle.std.proofs.lemmas.List.{length-map}
 use Rattle.std.proofs.lemmas.Str.Ascii.{uppercase-uppercase}
-use Rattle.geo_terms.specs.PlaceForm.{PlaceParts, IsPlace, is_empty, is_country, is_region, is_subdivision, upper, country_of_region, country_fits, region_fits, lengths_fit, parts_of, says_nothing}
+use Rattle.geo_terms.specs.PlaceForm.{PlaceParts, IsPlace, is_empty, is_country, is_region, is_subdivision, upper, country_of_region, country_place, nowhere, same_text, country_fits, region_fits, lengths_fit, parts_of, says_nothing}
 
 alphabetic-upper : (b : ℕ) → is_ascii_alphabetic (to_ascii_uppercase b) ≡ is_ascii_alphabetic b
 alphabetic-upper b = grind (arith, nat_tests)
@@ -110,3 +110,18 @@ place_in_form country region city postal c r l says = record {
   owned = chosen_owns country region r;
   says = rw says refl;
 }
+
+-- two letters that are not `ZZ` make a place alone
+letters_in_form : (a b : ℕ) → is_ascii_alphabetic a ≡ true → is_ascii_alphabetic b ≡ true → same_text (upper (a ∷ b ∷ [])) nowhere ≡ false → IsPlace (country_place (a ∷ b ∷ []))
+unfolding country_fits region_fits lengths_fit
+letters_in_form a b first second somewhere =
+    place_in_form (a ∷ b ∷ []) [] [] [] (rw (first, second) refl) refl refl (rw somewhere refl)
+
+pub country_in_form : (a b : ℕ) (country region city postal : List ℕ) → country ≡ upper (a ∷ b ∷ []) → region ≡ [] → city ≡ [] → postal ≡ []
+    → is_ascii_alphabetic a ≡ true → is_ascii_alphabetic b ≡ true → same_text country nowhere ≡ false
+    → IsPlace (record { country = country; region = region; city = city; postal = postal })
+country_in_form a b country region city postal c r ci po first second somewhere =
+    let made = letters_in_form a b first second (ap (λ t. same_text t nowhere) (sym c) ∙ somewhere) in
+    let same : record { country = country; region = region; city = city; postal = postal } ≡ country_place (a ∷ b ∷ []) =
+    λ i. record { country = c i; region = r i; city = ci i; postal = po i } in
+    subst IsPlace (sym same) made

@@ -1,5 +1,5 @@
 -- What a place is: a country (ISO 3166-1), a region (ISO 3166-2), a city and a postal code, as in RFC 8805 section 2.1.1.
-use Rattle.std.specs.Prelude.{◌≡◌, ℕ, Bool, true, false, not, ◌&&◌, ◌||◌, nat_le, nat_eq, List, [], ◌∷◌, map, length, codes, if◌then◌else◌, IsTrue}
+use Rattle.std.specs.Prelude.{◌≡◌, ℕ, Bool, true, false, not, ◌&&◌, ◌||◌, nat_le, nat_eq, List, [], ◌∷◌, map, length, codes, if◌then◌else◌, IsTrue, Option, Some, None}
 use Rattle.std.specs.List.{list_all}
 use Rattle.std.specs.Char.{is_ascii_alphabetic, is_ascii_alphanumeric, is_ascii_uppercase, is_ascii_digit, to_ascii_uppercase}
 use Rattle.std.specs.Cmp.Lexicographic.{pointwise}
@@ -85,3 +85,15 @@ pub record IsPlace (p : PlaceParts) : Type 0 where
   pub upper_region : upper p.region ≡ p.region
   pub owned : p.country ≡ [] → p.region ≡ []
   pub says : IsTrue (not (says_nothing p))
+
+-- whether a text names a country: two letters, and not `ZZ` in either case
+abbrev pub names_country : List ℕ → Bool
+names_country country = is_country country && not (same_text (upper country) nowhere)
+
+-- the place of a country alone
+abbrev pub country_place : List ℕ → PlaceParts
+country_place country = record { country = upper country; region = []; city = []; postal = [] }
+
+-- the place that a country alone names, if it names one
+unfoldable pub place_of_country : List ℕ → Option PlaceParts
+place_of_country country = if names_country country then Some (country_place country) else None

@@ -2,7 +2,7 @@
 ghost use Rattle.std.specs.Prelude.{◌≡◌, ◌<◌, ◌≤◌, ◌↔◌, length, IfOk, IfErr, OnOk, IsOkUnless, IsTrue, [], ◌∷◌};
 ghost use Rattle.std.specs.List.{list_all};
 ghost use Rattle.std.specs.Char.{is_ascii_alphanumeric};
-ghost use Rattle.geo_terms.specs.PlaceForm.{is_country, is_region, is_subdivision, upper, is_empty, country_of_region, longest, parts_of, says_nothing, country_fits, region_fits, lengths_fit};
+ghost use Rattle.geo_terms.specs.PlaceForm.{is_country, is_region, is_subdivision, upper, is_empty, country_of_region, longest, parts_of, says_nothing, place_of_country, country_fits, region_fits, lengths_fit};
 ghost use Rattle.geo_terms.specs.SaidOf.{said_of, said_by};
 
 use crate::place::{Place, PlaceFault, Said};
@@ -39,6 +39,34 @@ pub fn place_of(
         return Err(PlaceFault::TooLong);
     }
     Ok(said_in_form(alloc, country, region, city, postal)?)
+}
+
+/// The place that a country code alone names, or `None` where it is not two letters, or is `ZZ`.
+///
+/// The code is read in either case and kept in upper case.
+#[tactic(auto, using(crate::proofs::PlaceLemmas::country_in_form), unfolding(crate::specs::PlaceForm::place_of_country))]
+pub fn country_place(alloc: Global, country: &[u8]) -> Result<Option<Place>, Memory>
+    ensures { IfOk result (λ place. place ≡ place_of_country country.now) }
+{
+    let [first, second] = country else {
+        return Ok(None);
+    };
+    if !first.is_ascii_alphabetic() || !second.is_ascii_alphabetic() {
+        return Ok(None);
+    }
+    let country = pair_text(alloc, *first, *second)?;
+    if country.as_str() == "ZZ" {
+        return Ok(None);
+    }
+    let region = Text::of(alloc, "")?;
+    let city = Text::of(alloc, "")?;
+    let postal = Text::of(alloc, "")?;
+    Ok(Some(Place {
+        country,
+        region,
+        city,
+        postal,
+    }))
 }
 
 // What fields that are in form say.

@@ -9,7 +9,7 @@ mod places;
 mod source;
 mod statement;
 
-pub use fields::place_of;
+pub use fields::{country_place, place_of};
 pub use note::{Note, Origin, Rule, note_text};
 pub use place::{Place, PlaceFault, Said};
 pub use places::{Places, PlacesFault};

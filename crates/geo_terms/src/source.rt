@@ -1,6 +1,6 @@
 use crate::note::Note;
 use crate::statement::{Delegation, Entry, Override, Reference};
-use geo_addr::{List, Text};
+use geo_addr::{List, Memory, Text};
 use std::marker::Model;
 use thiserror::Error;
 
@@ -104,4 +104,15 @@ pub enum SourceFault {
     TooMany = 2,
     #[error("out of memory")]
     Memory = 3,
+}
+
+impl From<Memory> for SourceFault {
+    ghost use Rattle.std.specs.Prelude.{◌≡◌};
+    ghost use Rattle.geo_terms.specs.declared.source.SourceFault.{SourceFault};
+
+    ghost from_gives = { λ _ fault. fault ≡ SourceFault.Memory };
+
+    fn from(_refused: Memory) -> SourceFault {
+        SourceFault::Memory
+    }
 }
