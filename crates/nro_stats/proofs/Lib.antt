@@ -1,0 +1,2 @@
+pub mod CountryLemmas
+pub mod FileLemmas

@@ -1,0 +1,8 @@
+//! Reads statistics files (NRO extended allocation and assignment report).
+#![tactic(auto)]
+
+mod read;
+mod record;
+mod verdict;
+
+pub use read::read_stats;

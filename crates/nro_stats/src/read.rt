@@ -1,0 +1,96 @@
+//! A statistics file.
+ghost use Rattle.std.specs.Prelude.{◌≡◌, ◌≢◌, ◌<◌, ◌≤◌, ◌↔◌, ◌++◌, length, IfOk, IsSome, OnOk, option_to_list};
+ghost use Rattle.nro_stats.specs.File.{longest, most, note_of, notes, row_of, rows, stats};
+
+use crate::verdict::{Verdict, read_line};
+use geo_addr::{Line, Lines, List, Memory, Text};
+use geo_terms::{Delegation, Note, Origin, SourceFault, Stats};
+use std::alloc::Global;
+
+/// The most bytes of a file.
+const LONGEST: usize = 268_435_456;
+
+/// The most delegations of a file.
+const MOST: usize = 2_097_152;
+
+/// Reads a statistics file: the delegations and the notes of its lines.
+///
+/// A file is too long over 268,435,456 bytes, and has too many delegations over 2,097,152.
+pub fn read_stats(alloc: Global, slot: &str, bytes: &[u8]) -> Result<Stats, SourceFault>
+    ensures read { IfOk result (λ found. found ≡ stats slot.now bytes.now) }
+    ensures within { IfOk result (λ found. length found.rows ≤ most) }
+    ensures too_long { (result ≡ Err SourceFault.TooLong) ↔ (longest < length bytes.now) }
+    ensures too_many { result ≡ Err SourceFault.TooMany → most < length (rows slot.now bytes.now) }
+{
+    if bytes.len() > LONGEST {
+        return Err(SourceFault::TooLong);
+    }
+    let found = read_lines(alloc, slot, bytes)?;
+    let slot = Text::of(alloc, slot)?;
+    Ok(Stats {
+        slot,
+        rows: List::of(found.rows),
+        notes: List::of(found.notes),
+    })
+}
+
+// What is found in the lines so far.
+#[derive(Drop)]
+struct Found {
+    rows: Vec<Delegation>,
+    notes: Vec<Note>,
+}
+
+fn read_lines(alloc: Global, slot: &str, bytes: &[u8]) -> Result<Found, SourceFault>
+    ensures rows { IfOk result (λ found. found.rows.items ≡ rows slot.now bytes.now) }
+    ensures notes { IfOk result (λ found. found.notes.items ≡ notes slot.now bytes.now) }
+    ensures within { IfOk result (λ found. length found.rows.items ≤ most) }
+    ensures too_many { result ≡ Err SourceFault.TooMany → most < length (rows slot.now bytes.now) }
+    ensures too_long { result ≢ Err SourceFault.TooLong }
+{
+    let mut found = Found {
+        rows: Vec::new(alloc),
+        notes: Vec::new(alloc),
+    };
+    for line in Lines::of(bytes) {
+        take_line(alloc, slot, line, &mut found)?;
+    }
+    Ok(found)
+}
+
+// Adds what one more line says.
+fn take_line(alloc: Global, slot: &str, line: Line, found: &mut Found) -> Result<(), SourceFault>
+    requires { length found.old.rows.items ≤ most }
+    ensures rows { OnOk result (found.new.rows.items ≡ found.old.rows.items ++ option_to_list (row_of slot.now (line.entry.number, line.entry.text.now))) }
+    ensures notes { OnOk result (found.new.notes.items ≡ found.old.notes.items ++ option_to_list (note_of slot.now (line.entry.number, line.entry.text.now))) }
+    ensures within { OnOk result (length found.new.rows.items ≤ most) }
+    ensures too_many { result ≡ Err SourceFault.TooMany → IsSome (row_of slot.now (line.entry.number, line.entry.text.now)) × (length found.old.rows.items ≡ most) }
+    ensures too_long { result ≢ Err SourceFault.TooLong }
+{
+    match read_line(alloc, line.text)? {
+        Verdict::Silent => {}
+        Verdict::Broken(rule) => {
+            let origin = Origin::Stats(Text::of(alloc, slot)?);
+            let note = Note {
+                origin,
+                line: line.number,
+                rule,
+            };
+            found.notes.push(note).map_err(Memory::from)?;
+        }
+        Verdict::Delegated(range, place) => {
+            if found.rows.len() == MOST {
+                return Err(SourceFault::TooMany);
+            }
+            let slot = Text::of(alloc, slot)?;
+            let row = Delegation {
+                slot,
+                line: line.number,
+                range,
+                place,
+            };
+            found.rows.push(row).map_err(Memory::from)?;
+        }
+    }
+    Ok(())
+}

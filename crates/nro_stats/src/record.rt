@@ -1,0 +1,118 @@
+//! The fields of a line.
+ghost use Rattle.std.specs.Prelude.{◌≡◌, ◌∷◌, ◌&&◌, [], false, codes, MatchOption};
+ghost use Rattle.std.specs.Char.{is_ascii_digit};
+ghost use Rattle.std.specs.List.{list_all};
+ghost use Rattle.std.specs.Option.{option_copied};
+ghost use Rattle.geo_terms.specs.PlaceForm.{same_text};
+ghost use Rattle.nro_stats.specs.Fields.{IsRecord, IsShort, fields, fields_after, is_comment, is_skipped, is_summary_line, is_version, is_version_line};
+
+use geo_addr::{cut_at, trim_blanks};
+
+/// The fields of a record that count; the registry, the date and what follows the status do not.
+#[derive(Clone, Copy, Debug)]
+pub(crate) struct Record<'a> {
+    pub country: &'a [u8],
+    pub kind: &'a [u8],
+    pub start: &'a [u8],
+    pub value: &'a [u8],
+    pub status: &'a [u8],
+}
+
+impl<'a> Record<'a> {
+    /// The record that a line is, or `None` where it has fewer than seven fields.
+    pub fn of(line: &'a [u8]) -> Option<Record<'a>>
+        ensures { MatchOption result (IsShort (fields line.now)) (λ found. IsRecord (fields line.now) found) }
+    {
+        let mut rest = Some(line);
+        let _registry = take_field(&mut rest)?;
+        let country = take_field(&mut rest)?;
+        let kind = take_field(&mut rest)?;
+        let start = take_field(&mut rest)?;
+        let value = take_field(&mut rest)?;
+        let _date = take_field(&mut rest)?;
+        let status = take_field(&mut rest)?;
+        Some(Record {
+            country,
+            kind,
+            start,
+            value,
+            status,
+        })
+    }
+}
+
+// Takes the field before the first bar, if any text is left.
+fn take_field<'a>(rest: &mut Option<&'a [u8]>) -> Option<&'a [u8]>
+    ensures { MatchOption result (fields_after (option_copied rest.old) ≡ []) (λ field. fields_after (option_copied rest.old) ≡ field.now ∷ fields_after (option_copied rest.new)) }
+{
+    let text = (*rest)?;
+    let (piece, after) = cut_at(text, b'|');
+    *rest = after;
+    Some(trim_blanks(piece))
+}
+
+/// Whether a line is passed over: it has blanks alone, or begins with `#`.
+pub(crate) fn is_skipped(line: &[u8]) -> bool
+    ensures { result ≡ is_skipped line.now }
+{
+    trim_blanks(line).is_empty() || is_comment(line)
+}
+
+fn is_comment(line: &[u8]) -> bool
+    ensures { result ≡ is_comment line.now }
+{
+    match line {
+        [first, ..] => *first == b'#',
+        [] => false,
+    }
+}
+
+/// Whether the first field of a line is a version, as `2` or `2.3`.
+pub(crate) fn is_version_line(line: &[u8]) -> bool
+    ensures { result ≡ is_version_line (fields line.now) }
+{
+    let (first, _) = cut_at(line, b'|');
+    is_version(trim_blanks(first))
+}
+
+fn is_version(field: &[u8]) -> bool
+    ensures { result ≡ is_version field.now }
+{
+    match field {
+        [two] => *two == b'2',
+        [two, dot, digits @ ..] => {
+            *two == b'2' && *dot == b'.' && !digits.is_empty() && are_digits(digits)
+        }
+        [] => false,
+    }
+}
+
+fn are_digits(text: &[u8]) -> bool
+    ensures { result ≡ list_all is_ascii_digit text.now }
+{
+    text.iter().all(|byte| byte.is_ascii_digit())
+}
+
+/// Whether the second field of a line is `*` and its sixth `summary`.
+pub(crate) fn is_summary_line(line: &[u8]) -> bool
+    ensures { result ≡ is_summary_line (fields line.now) }
+{
+    match star_and_word(line) {
+        Some((star, word)) => star == b"*".as_slice() && word == b"summary".as_slice(),
+        None => false,
+    }
+}
+
+// The second and the sixth field.
+fn star_and_word(line: &[u8]) -> Option<(&[u8], &[u8])>
+    ensures { MatchOption result (is_summary_line (fields line.now) ≡ false) (λ found. is_summary_line (fields line.now) ≡ (same_text found.0.now (codes "*") && same_text found.1.now (codes "summary"))) }
+{
+    let mut rest = Some(line);
+    let _registry = take_field(&mut rest)?;
+    let star = take_field(&mut rest)?;
+    let _kind = take_field(&mut rest)?;
+    let _none = take_field(&mut rest)?;
+    let _count = take_field(&mut rest)?;
+    let word = take_field(&mut rest)?;
+    Some((star, word))
+}

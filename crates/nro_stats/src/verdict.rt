@@ -1,0 +1,191 @@
+//! What a line says.
+ghost use Rattle.std.specs.Prelude.{◌≡◌, ◌-◌, ◌%◌, ◌^◌, ◌<◌, ◌≤◌, ◌↔◌, IfOk, IsTrue};
+ghost use Rattle.geo_addr.specs.AddressTexts.{is_six};
+ghost use Rattle.nro_stats.specs.Fields.{fields};
+ghost use Rattle.nro_stats.specs.Verdicts.{PlacesCountryAlone, is_kind, is_silent, is_status, judged, placed, range_in, v4_range, v4_start, v6_range, v6_start, verdict};
+
+use crate::record::{Record, is_skipped, is_summary_line, is_version_line};
+use geo_addr::{Block, Memory, Range, decimal, parse_addr, range_of};
+use geo_terms::{Place, Rule, country_place};
+use std::alloc::Global;
+
+/// What a line says: nothing, a rule that it breaks, or that a range is delegated to a country.
+#[derive(Debug, Drop)]
+pub(crate) enum Verdict {
+    Silent,
+    Broken(Rule),
+    Delegated(Range, Place),
+}
+
+/// What a line says.
+#[tactic(auto, unfolding(crate::specs::Verdicts::verdict))]
+pub(crate) fn read_line(alloc: Global, line: &[u8]) -> Result<Verdict, Memory>
+    ensures verdict { IfOk result (λ found. found ≡ verdict line.now) }
+    ensures alone { IfOk result PlacesCountryAlone }
+{
+    if is_skipped(line) || is_version_line(line) || is_summary_line(line) {
+        return Ok(Verdict::Silent);
+    }
+    match Record::of(line) {
+        Some(found) => judged(alloc, &found),
+        None => Ok(Verdict::Broken(Rule::S01)),
+    }
+}
+
+// What a record says: the first rule that holds of it, else nothing, else a delegation.
+#[tactic(auto, unfolding(crate::specs::Verdicts::judged))]
+fn judged(alloc: Global, found: &Record) -> Result<Verdict, Memory>
+    ensures verdict { IfOk result (λ said. said ≡ judged found.now.country.now found.now.kind.now found.now.start.now found.now.value.now found.now.status.now) }
+    ensures alone { IfOk result PlacesCountryAlone }
+{
+    if !is_kind(found.kind) {
+        return Ok(Verdict::Broken(Rule::S02));
+    }
+    if !is_status(found.status) {
+        return Ok(Verdict::Broken(Rule::S03));
+    }
+    if is_silent(found.kind, found.status) {
+        return Ok(Verdict::Silent);
+    }
+    match range_in(found.kind, found.start, found.value) {
+        Ok(range) => placed(alloc, range, found.country),
+        Err(rule) => Ok(Verdict::Broken(rule)),
+    }
+}
+
+fn is_kind(kind: &[u8]) -> bool
+    ensures { result ≡ is_kind kind.now }
+{
+    kind == b"asn".as_slice() || kind == b"ipv4".as_slice() || kind == b"ipv6".as_slice()
+}
+
+fn is_status(status: &[u8]) -> bool
+    ensures { result ≡ is_status status.now }
+{
+    status == b"allocated".as_slice()
+        || status == b"assigned".as_slice()
+        || status == b"available".as_slice()
+        || status == b"reserved".as_slice()
+}
+
+fn is_silent(kind: &[u8], status: &[u8]) -> bool
+    ensures { result ≡ is_silent kind.now status.now }
+{
+    kind == b"asn".as_slice()
+        || status == b"available".as_slice()
+        || status == b"reserved".as_slice()
+}
+
+// The addresses of a record that is not of type `asn`.
+fn range_in(kind: &[u8], start: &[u8], value: &[u8]) -> Result<Range, Rule>
+    ensures { result ≡ range_in kind.now start.now value.now }
+{
+    if kind == b"ipv4".as_slice() {
+        v4_range(start, value)
+    } else {
+        v6_range(start, value)
+    }
+}
+
+// As many addresses from an IPv4 start as the value counts.
+#[tactic(auto, unfolding(crate::specs::Verdicts::v4_range))]
+fn v4_range(start: &[u8], value: &[u8]) -> Result<Range, Rule>
+    ensures { result ≡ v4_range start.now value.now }
+{
+    let Some(first) = v4_start(start) else {
+        return Err(Rule::S04);
+    };
+    let Some(count) = decimal(value, 1, 10) else {
+        return Err(Rule::S07);
+    };
+    if count == 0 {
+        return Err(Rule::S07);
+    }
+    if first.saturating_add(count) > 1 << 32 {
+        return Err(Rule::S05);
+    }
+    Ok(Range {
+        first,
+        last: first + count - 1,
+    })
+}
+
+// The block of an IPv6 start and a prefix length.
+#[tactic(auto, unfolding(crate::specs::Verdicts::v6_range))]
+fn v6_range(start: &[u8], value: &[u8]) -> Result<Range, Rule>
+    ensures { result ≡ v6_range start.now value.now }
+{
+    let Some(first) = v6_start(start) else {
+        return Err(Rule::S04);
+    };
+    let Some(len) = decimal(value, 1, 3) else {
+        return Err(Rule::S07);
+    };
+    if len > 128 || !is_aligned(first, len as u8) {
+        return Err(Rule::S07);
+    }
+    let range = range_of(Block {
+        first,
+        len: len as u8,
+    });
+    if range.is_v4() {
+        return Err(Rule::S07);
+    }
+    Ok(range)
+}
+
+// Whether no bit below the prefix length is set.
+fn is_aligned(first: u128, len: u8) -> bool
+    requires { len ≤ 128 }
+    ensures { IsTrue result ↔ (first % 2 ^ (128 - len) ≡ 0) }
+{
+    if len == 0 {
+        first == 0
+    } else {
+        first % (1 << (128 - len)) == 0
+    }
+}
+
+#[tactic(auto, unfolding(crate::specs::Verdicts::v4_start))]
+fn v4_start(start: &[u8]) -> Option<u128>
+    ensures { result ≡ v4_start start.now }
+{
+    if has_colon(start) {
+        return None;
+    }
+    match parse_addr(start) {
+        Ok(at) => Some(at.0),
+        Err(_) => None,
+    }
+}
+
+#[tactic(auto, unfolding(crate::specs::Verdicts::v6_start))]
+fn v6_start(start: &[u8]) -> Option<u128>
+    ensures { result ≡ v6_start start.now }
+{
+    if !has_colon(start) {
+        return None;
+    }
+    match parse_addr(start) {
+        Ok(at) => Some(at.0),
+        Err(_) => None,
+    }
+}
+
+fn has_colon(text: &[u8]) -> bool
+    ensures { result ≡ is_six text.now }
+{
+    text.iter().any(|byte| *byte == b':')
+}
+
+// A delegation of a range to a country, where that is one.
+#[tactic(auto, using(crate::proofs::CountryLemmas::country_alone))]
+fn placed(alloc: Global, range: Range, country: &[u8]) -> Result<Verdict, Memory>
+    ensures verdict { IfOk result (λ said. said ≡ placed range country.now) }
+    ensures alone { IfOk result PlacesCountryAlone }
+{
+    match country_place(alloc, country)? {
+        Some(place) => Ok(Verdict::Delegated(range, place)),
+        None => Ok(Verdict::Broken(Rule::S06)),
+    }
+}
