@@ -11,8 +11,11 @@ mod fault;
 mod line;
 mod list;
 mod memory;
+mod prefix;
+mod print;
 mod range;
 mod side;
+mod span;
 mod text;
 mod v4;
 mod v6;
@@ -23,11 +26,14 @@ pub use bits::one_list_of_bits;
 pub use block::Block;
 pub use bytes::Bytes;
 pub use digits::decimal;
-pub use fault::AddrFault;
+pub use fault::{AddrFault, BlockFault};
 pub use line::{Line, Lines, cut_at, is_blank, skip_mark, trim_blanks};
 pub use list::List;
 pub use memory::Memory;
+pub use prefix::parse_block;
+pub use print::{addr_text, block_text, range_text};
 pub use range::{Range, range_of};
+pub use span::parse_span;
 pub use text::Text;
 
 #[cfg(test)]

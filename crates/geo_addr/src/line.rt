@@ -48,7 +48,7 @@ pub fn trim_blanks(text: &[u8]) -> &[u8]
     trim_end(trim_start(text))
 }
 
-fn trim_start(text: &[u8]) -> &[u8]
+pub(crate) fn trim_start(text: &[u8]) -> &[u8]
     ensures { result.now ≡ trimmed_start text.now }
 {
     let mut left = text;
@@ -61,7 +61,7 @@ fn trim_start(text: &[u8]) -> &[u8]
     left
 }
 
-fn trim_end(text: &[u8]) -> &[u8]
+pub(crate) fn trim_end(text: &[u8]) -> &[u8]
     ensures { result.now ≡ trimmed_end text.now }
 {
     let mut left = text;
