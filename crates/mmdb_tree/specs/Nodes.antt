@@ -1,5 +1,5 @@
 -- Nodes of the search tree as bytes (MaxMind DB 2.0, "Binary Search Tree Section").
-use Rattle.std.specs.Prelude.{◌≤◌, ◌<◌, ℕ, ◌+◌, ◌*◌, ◌/◌, ◌%◌, ◌^◌, Bool, true, false, List, [], ◌∷◌, ◌++◌, slice_index, drop, Option, Some, None}
+use Rattle.std.specs.Prelude.{◌≤◌, ◌<◌, ℕ, ◌+◌, ◌*◌, ◌/◌, ◌%◌, ◌^◌, Bool, true, false, List, [], ◌∷◌, ◌++◌, slice_index, drop, Option, Some, None, nat_lt, if◌then◌else◌}
 use Rattle.std.specs.Int.{bytes_high_first}
 use Rattle.byteorder.specs.Endian.{big_from}
 use Rattle.mmdb_tree.specs.declared.bits.Bits.{Bits}
@@ -49,8 +49,5 @@ tree_bytes bits [] = []
 tree_bytes bits (node ∷ nodes) = node_bytes bits node.0 node.1 ++ tree_bytes bits nodes
 
 -- the smallest size whose records hold the number, or none where no size does
-abbrev pub IsSmallest : Option Bits → ℕ → Type 0
-IsSmallest None n = 2 ^ 32 ≤ n
-IsSmallest (Some B24) n = n < 2 ^ 24
-IsSmallest (Some B28) n = (2 ^ 24 ≤ n) × (n < 2 ^ 28)
-IsSmallest (Some B32) n = (2 ^ 28 ≤ n) × (n < 2 ^ 32)
+abbrev pub smallest : ℕ → Option Bits
+smallest n = if nat_lt n (limit B24) then Some B24 else if nat_lt n (limit B28) then Some B28 else if nat_lt n (limit B32) then Some B32 else None

@@ -1,5 +1,5 @@
 ghost use Rattle.std.specs.Prelude.{◌≡◌, ◌+◌, ◌^◌, ◌<◌, ◌≤◌};
-ghost use Rattle.mmdb_tree.specs.Nodes.{record_size, width, IsSmallest};
+ghost use Rattle.mmdb_tree.specs.Nodes.{record_size, width, smallest};
 
 /// The size of a record, in bits (MaxMind DB 2.0, `record_size` of the metadata).
 #[derive(Clone, Copy, Debug, PartialEq, Eq)]
@@ -40,7 +40,7 @@ impl Bits {
 pub fn record_bits(nodes: u64, section_len: u64) -> Option<Bits>
     requires few_nodes { nodes < 2 ^ 62 }
     requires short { section_len < 2 ^ 62 }
-    ensures { IsSmallest result (nodes + 16 + section_len) }
+    ensures { result ≡ smallest (nodes + 16 + section_len) }
 {
     let end = nodes + 16 + section_len;
     if end < 1 << 24 {
