@@ -10,9 +10,9 @@ use Rattle.trie_core.specs.declared.node.NodeId.{NodeId}
 use Rattle.trie_core.specs.declared.node.Rec.{Rec}
 use Rattle.trie_core.specs.declared.node.Rec.TheVariants.{Leaf, Node}
 use Rattle.trie_core.specs.declared.node.Pair.{Pair}
-use Rattle.trie_core.specs.Tree.{Tree, leaf, node, height, look, IsReduced, join}
+use Rattle.trie_core.specs.Tree.{Tree, leaf, node, height, look, IsReduced, join, IsPartOf}
 use Rattle.trie_core.specs.Laws.{SameLookups}
-use Rattle.trie_core.specs.Store.{tree_at, trees_from, meaning, IsBelow, IsOf, IsSound, GrowsBy, IsKept, IsAdded}
+use Rattle.trie_core.specs.Store.{tree_at, trees_from, meaning, IsBelow, IsOf, IsSound, GrowsBy, IsKept, IsAdded, AddedUnder}
 use Rattle.trie_core.proofs.TreeLemmas.{same_from_lookups, join-leaf, join-node, nat_equality}
 
 -- ---- elements of lists
@@ -268,6 +268,37 @@ IsSound-push pairs sound p room left-of right-of left-low right-low unlike new =
               omega (arith, ap height (meaning_last pairs p id is))
         ]
 
+-- a tree is part of an equal one
+pub IsPartOf-itself : (s t : Tree ℕ) → s ≡ t → IsPartOf s t
+IsPartOf-itself s (leaf a) same = same
+IsPartOf-itself s (node l r) same = inl same
+
+-- a store that did not grow has no node that was added
+pub AddedUnder-same : (pairs : List Pair) (rec : Rec) → AddedUnder pairs pairs rec
+AddedUnder-same pairs rec id from to = absurd (omega arith)
+
+-- what is kept twice is kept
+pub IsKept-trans : (old mid new : List Pair) → IsKept old mid → IsKept mid new → IsKept old new
+IsKept-trans old mid new one two rec of =
+    let first = one rec of in
+    let second = two rec first.0 in
+    (second.0, second.1 ∙ first.1)
+
+-- growth after growth
+pub GrowsBy-trans : (old mid new : List Pair) (m n k : ℕ) → GrowsBy old mid m → GrowsBy mid new n → m + n ≤ k → GrowsBy old new k
+GrowsBy-trans old mid new m n k one two le =
+    (one.0 ++ two.0, two.1 ∙ ap (λ ps. ps ++ two.0) one.1 ∙ append_assoc old one.0 two.0, omega (arith, length-append one.0 two.0, one.2, two.2))
+
+-- no growth
+pub GrowsBy-same : (pairs : List Pair) (n : ℕ) → GrowsBy pairs pairs n
+GrowsBy-same pairs n = ([], sym (append-nil pairs), omega arith)
+
+pub IsKept-same : (pairs : List Pair) → IsKept pairs pairs
+IsKept-same pairs rec of = (of, refl)
+
+pub length-grown : (old new : List Pair) (n : ℕ) → GrowsBy old new n → length old ≤ length new
+length-grown old new n grows = omega (arith, ap length grows.1, length-append old grows.0)
+
 -- what a store is after a pair went in: k is the pair's number
 pub record IsMade (old new : List Pair) (left right : Rec) (k : ℕ) : Type 0 where
   pub sound : IsSound new
@@ -275,6 +306,7 @@ pub record IsMade (old new : List Pair) (left right : Rec) (k : ℕ) : Type 0 wh
   pub means : meaning new (Node (record { 0 = k })) ≡ node (meaning old left) (meaning old right)
   pub kept : IsKept old new
   pub grows : GrowsBy old new 1
+  pub under : AddedUnder old new (Node (record { 0 = k }))
 
 pub IsMade-from_added : (old new : List Pair) (left right : Rec) (k : ℕ) → IsSound old → IsAdded old new (record { left = left; right = right })
     → slice_get new k ≡ Some (record { left = left; right = right }) → length new < 2 ^ 32 → IsOf old left → IsOf old right
@@ -286,6 +318,7 @@ IsMade-from_added old new left right k sound added at few left-of right-of left-
   means = meaning_node new new-sound.earlier (record { 0 = k }) p at ∙ ap₂ node (kept left left-of).1 (kept right right-of).1;
   kept = kept;
   grows = grows;
+  under = under;
 }
   where
     p : Pair
@@ -305,6 +338,16 @@ IsMade-from_added old new left right k sound added at few left-of right-of left-
       | inl there ↦ subst IsSound (sym there.1) sound
       | inr new-one ↦
           subst IsSound (sym new-one.1) (IsSound-push old sound p (omega (arith, few, ap length new-one.1, length-append old (p ∷ []))) left-of right-of left-low right-low unlike new-one.0)
+    ]
+
+    under : AddedUnder old new (Node (record { 0 = k }))
+    under id from to = elim added [
+      | inl there ↦ absurd (omega (arith, ap length there.1))
+      | inr new-one ↦
+          let last : slice_get new (length old) ≡ Some p = ap (λ ps. slice_get ps (length old)) new-one.1 ∙ slice_get_last old p in
+          let k-is : length old ≡ k = new-sound.once (length old) k p last at in
+          let id-is : id.0 ≡ k = omega (arith, ap length new-one.1, length-append old (p ∷ [])) in
+          IsPartOf-itself (meaning new (Node id)) (meaning new (Node (record { 0 = k }))) (ap (meaning new) (λ i. Node (record { 0 = id-is i })))
     ]
 
 -- two records that are one leaf mean that leaf's join

@@ -6,7 +6,7 @@ use Rattle.trie_core.specs.declared.node.Rec.{Rec}
 use Rattle.trie_core.specs.declared.node.Rec.TheVariants.{Leaf, Node}
 use Rattle.trie_core.specs.declared.node.Root.{Root}
 use Rattle.trie_core.specs.declared.node.Pair.{Pair}
-use Rattle.trie_core.specs.Tree.{Tree, leaf, node, height, look}
+use Rattle.trie_core.specs.Tree.{Tree, leaf, node, height, look, IsPartOf}
 
 -- the tree of a record, from the trees of the nodes
 abbrev pub tree_at : List (Tree ℕ) → Rec → Tree ℕ
@@ -74,3 +74,7 @@ NeedsNew pairs left right = ((k : ℕ) → left ≡ Leaf k → right ≢ Leaf k)
 -- a pair was in the list, which stayed, or was not and went last
 abbrev pub IsAdded : List Pair → List Pair → Pair → Type 0
 IsAdded old new pair = (Contains old pair × (new ≡ old)) ⊎ ((Contains old pair → ⊥) × (new ≡ old ++ pair ∷ []))
+
+-- each node that the new store has and the old one had not stands under the record
+abbrev pub AddedUnder : List Pair → List Pair → Rec → Type 0
+AddedUnder old new rec = (id : NodeId) → length old ≤ id.0 → id.0 < length new → IsPartOf (meaning new (Node id)) (meaning new rec)

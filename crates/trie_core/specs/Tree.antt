@@ -1,5 +1,5 @@
 -- Trees whose branches are the bits of an address and whose leaves are answers (MaxMind DB 2.0, "Binary Search Tree Section"), whatever the answers are.
-use Rattle.std.specs.Prelude.{◌≡◌, ◌≢◌, ℕ, zero, suc, ◌+◌, ◌^◌, max, Bool, true, false, ◌&&◌, if◌then◌else◌, List, [], ◌∷◌, Option, Some, None}
+use Rattle.std.specs.Prelude.{◌≡◌, ◌≢◌, ◌⊎◌, ℕ, zero, suc, ◌+◌, ◌^◌, max, Bool, true, false, ◌&&◌, if◌then◌else◌, List, [], ◌∷◌, Option, Some, None}
 
 pub data Tree (A : Type 0) : Type 0 where
   leaf : A → Tree A
@@ -22,6 +22,11 @@ module _ {A : Type 0} where
   abbrev pub IsReduced : Tree A → Type 0
   IsReduced (leaf a) = Unit {0}
   IsReduced (node l r) = ((a : A) → l ≡ leaf a → r ≢ leaf a) × IsReduced l × IsReduced r
+
+  -- a tree is another one, or stands somewhere in it
+  abbrev pub IsPartOf : Tree A → Tree A → Type 0
+  IsPartOf s (leaf a) = s ≡ leaf a
+  IsPartOf s (node l r) = (s ≡ node l r) ⊎ (IsPartOf s l ⊎ IsPartOf s r)
 
   -- each leaf is such an answer
   abbrev pub AllLeaves : (A → Type 0) → Tree A → Type 0

@@ -4,8 +4,10 @@
 mod fault;
 pub mod laws;
 mod node;
+mod paint;
 mod store;
 
 pub use fault::StoreFault;
 pub use node::{NodeId, Pair, Rec, Root};
+pub use paint::Part;
 pub use store::Store;

@@ -1,7 +1,7 @@
 //! The store of nodes, each pair of children once.
 ghost use Rattle.std.specs.Prelude.{◌≡◌, ◌≢◌, ℕ, MatchOption, ◌+◌, ◌-◌, ◌^◌, ◌<◌, ◌≤◌, ◌↔◌, [], length, nat_eq, None, Some, slice_get, Contains, IfOk, OnErr, IsErrOf, IsTrue};
 ghost use Rattle.trie_core.specs.Tree.{leaf, node, height, join};
-ghost use Rattle.trie_core.specs.Store.{meaning, tree_of, leaf_at, record_of, pair_of, IsOf, IsRootOf, GrowsBy, IsKept, NeedsNew, IsAdded, IsSound};
+ghost use Rattle.trie_core.specs.Store.{meaning, tree_of, leaf_at, record_of, pair_of, IsOf, IsRootOf, GrowsBy, IsKept, NeedsNew, AddedUnder, IsAdded, IsSound};
 
 use crate::fault::StoreFault;
 use crate::node::{NodeId, Pair, Rec, Root};
@@ -70,7 +70,9 @@ impl Store {
         ensures steps { steps.new ≡ steps.old + 1 }
         ensures grows { GrowsBy self.old self.new 1 }
         ensures kept { IsKept self.old self.new }
+        ensures under { IfOk result (AddedUnder self.old self.new) }
         ensures err { OnErr result (self.new ≡ self.old) }
+        ensures refused { OnErr result (NeedsNew self.old left right) }
         ensures full { IsErrOf result StoreFault.Full
             ↔ ((length self.old + 1 ≡ 2 ^ 32) × NeedsNew self.old left right) }
         ensures sound { IsSound self.new }
@@ -153,6 +155,7 @@ fn place(pairs: &mut IndexSet<Pair>, pair: Pair) -> Result<u32, StoreFault>
     ensures at { IfOk result (λ k. slice_get pairs.new.keys k ≡ Some pair) }
     ensures ok { IfOk result (λ k. IsAdded pairs.old.keys pairs.new.keys pair) }
     ensures err { OnErr result (pairs.new.keys ≡ pairs.old.keys) }
+    ensures refused { OnErr result (Contains pairs.old.keys pair → ⊥) }
     ensures full { IsErrOf result StoreFault.Full
         ↔ ((length pairs.old.keys + 1 ≡ 2 ^ 32) × (Contains pairs.old.keys pair → ⊥)) }
     ensures few { length pairs.new.keys < 2 ^ 32 }

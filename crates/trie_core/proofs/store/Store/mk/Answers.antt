@@ -1,6 +1,6 @@
 use Rattle.std.proofs.Common.{◌∙◌, sym, subst}
 use Rattle.trie_core.specs.Store.{IsSound}
-use Rattle.trie_core.proofs.StoreLemmas.{IsMade, IsMade-from_added, join_of_leaf, join_of_node}
+use Rattle.trie_core.proofs.StoreLemmas.{AddedUnder-same, IsMade, IsMade-from_added, join_of_leaf, join_of_node}
 use Rattle.trie_core.proofs.store.Store.mk.Goals as goal
 
 pub returns-in-Some-clause-meaning : goal.returns-in-Some-clause-meaning
@@ -28,3 +28,9 @@ returns-clause-kept g c = (made g c).kept
 
 pub returns-clause-sound : goal.returns-clause-sound
 returns-clause-sound g c = (made g c).sound
+
+pub returns-in-Some-clause-under : goal.returns-in-Some-clause-under
+returns-in-Some-clause-under g c = AddedUnder-same c.args.self.now _
+
+pub returns-clause-under : goal.returns-clause-under
+returns-clause-under g c = (made g c).under

@@ -1,0 +1,79 @@
+-- Painting: giving leaves to ranges of addresses.
+use Rattle.std.specs.Prelude.{◌≡◌, ℕ, zero, suc, ◌+◌, ◌-◌, ◌^◌, ◌<◌, ◌≤◌, Bool, ◌&&◌, not, nat_le, nat_lt, false, true, if◌then◌else◌, List, [], ◌∷◌, length, Option, Some, None, sum_by, All}
+use Rattle.std.specs.List.{AllAdjacentBelow}
+use Rattle.geo_addr.specs.Bits.{number_of}
+use Rattle.geo_addr.specs.Ranges.{Ends, IsRange}
+use Rattle.trie_core.specs.declared.node.Rec.{Rec}
+use Rattle.trie_core.specs.declared.node.Root.{Root}
+use Rattle.trie_core.specs.declared.node.Pair.{Pair}
+use Rattle.trie_core.specs.declared.paint.Part.{Part}
+use Rattle.trie_core.specs.Tree.{Tree, height, look}
+use Rattle.trie_core.specs.Store.{meaning, leaf_at, IsOf, IsRootOf}
+
+-- the parts ascend, and no two share an address
+pub record IsAscending (parts : List Part) : Type 0 where
+  pub ranges : All (λ p. IsRange p.range) parts
+  pub apart : AllAdjacentBelow (λ p q. p.range.last < q.range.first) parts (length parts)
+
+-- the leaf of the part that has the address
+abbrev pub leaf_in : List Part → ℕ → Option ℕ
+leaf_in [] at = None
+leaf_in (p ∷ ps) at = if nat_le p.range.first at && nat_le at p.range.last then Some p.leaf else leaf_in ps at
+
+-- what is painted stands over what was there
+abbrev pub over : Option ℕ → Option ℕ → Option ℕ
+over None was = was
+over (Some leaf) was = Some leaf
+
+-- the new tree of the block of 2 ^ n addresses from `first` has the parts' leaves, and the old tree's leaves elsewhere
+pub record IsPainted (old new : Tree ℕ) (n first : ℕ) (parts : List Part) : Type 0 where
+  pub lookups : (w : List Bool) → length w ≡ n → look new w ≡ over (leaf_in parts (first + number_of w)) (look old w)
+  pub low : height new ≤ n
+
+-- a record of the store means the painted tree of the block
+abbrev pub HoldsPainted : List Pair → Tree ℕ → ℕ → ℕ → List Part → Type 0
+HoldsPainted pairs old n first parts = (rec : Rec) × IsOf pairs rec × IsPainted old (meaning pairs rec) n first parts
+
+-- a root of the store has the parts' leaves, and these leaves elsewhere
+abbrev pub HoldsPaintedRoot : List Pair → (ℕ → Option ℕ) → List Part → Type 0
+HoldsPaintedRoot pairs was parts = (root : Root) × IsRootOf pairs root × ((a : ℕ) → a < 2 ^ 128 → leaf_at pairs root a ≡ over (leaf_in parts a) (was a))
+
+-- the range has an address of the block of 2 ^ n addresses from `first`, and not all of them
+abbrev pub is_cut : ℕ → ℕ → Ends → Bool
+is_cut n first r = (nat_le first r.last && nat_lt r.first (first + 2 ^ n)) && not (nat_le r.first first && nat_le (first + 2 ^ n) (r.last + 1))
+
+-- how many blocks at and below the block of 2 ^ n addresses from `first` the range cuts
+unfoldable pub cut_blocks : ℕ → ℕ → Ends → ℕ
+cut_blocks zero first r = 0
+cut_blocks (suc n) first r = if is_cut (suc n) first r then suc (cut_blocks n first r + cut_blocks n (first + 2 ^ n) r) else 0
+
+-- how many blocks all parts cut
+abbrev pub paint_cost : ℕ → ℕ → List Part → ℕ
+paint_cost n first parts = sum_by (λ p. cut_blocks n first p.range) parts
+
+-- each part has an address from `first` to `last`
+abbrev pub AllTouch : ℕ → ℕ → List Part → Type 0
+AllTouch first last parts = All (λ p. (p.range.first ≤ last) × (first ≤ p.range.last)) parts
+
+-- the parts that begin at or before the middle, which are the first ones
+pub record IsFront (parts front : List Part) (middle : ℕ) : Type 0 where
+  pub touching : (first : ℕ) (last : ℕ) → AllTouch first last parts → AllTouch first middle front
+  pub ascending : IsAscending front
+  pub same : (a : ℕ) → a ≤ middle → leaf_in front a ≡ leaf_in parts a
+  pub cheaper : (n first : ℕ) → paint_cost n first front ≤ paint_cost n first parts
+
+-- the parts that end after the middle, which are the last ones
+pub record IsBack (parts back : List Part) (middle : ℕ) : Type 0 where
+  pub touching : (first : ℕ) (last : ℕ) → AllTouch first last parts → AllTouch (middle + 1) last back
+  pub ascending : IsAscending back
+  pub same : (a : ℕ) → middle < a → leaf_in back a ≡ leaf_in parts a
+  pub cheaper : (n first : ℕ) → paint_cost n first back ≤ paint_cost n first parts
+
+-- the two halves of a block under a record
+pub record IsHalved (pairs : List Pair) (rec left right : Rec) : Type 0 where
+  pub left_of : IsOf pairs left
+  pub right_of : IsOf pairs right
+  pub left_look : (w : List Bool) → look (meaning pairs rec) (false ∷ w) ≡ look (meaning pairs left) w
+  pub right_look : (w : List Bool) → look (meaning pairs rec) (true ∷ w) ≡ look (meaning pairs right) w
+  pub left_low : height (meaning pairs left) ≤ height (meaning pairs rec) - 1
+  pub right_low : height (meaning pairs right) ≤ height (meaning pairs rec) - 1
