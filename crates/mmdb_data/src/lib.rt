@@ -16,3 +16,6 @@ pub use laws::reads_back;
 pub use sizes::fits;
 pub use value::Value;
 pub use writing::encode;
+
+#[cfg(test)]
+mod tests;

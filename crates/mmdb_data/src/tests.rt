@@ -1,0 +1,154 @@
+use crate::{DataCause, DataFault, Value, decode, encode, fits};
+use geo_addr::{Bytes, Text};
+use std::alloc::Global;
+use std::test::Fail;
+
+fn reads_as(alloc: Global, section: &[u8], at: u64, want: &Value) -> bool {
+    match decode(alloc, section, at) {
+        Ok(value) => value == *want,
+        Err(_) => false,
+    }
+}
+
+fn fault_of(alloc: Global, section: &[u8], at: u64) -> Option<(u64, DataCause)> {
+    match decode(alloc, section, at) {
+        Err(DataFault::Bad { at, cause }) => Some((at, cause)),
+        _ => None,
+    }
+}
+
+#[test]
+fn values(rt: HostRuntime) -> Result<(), Fail> {
+    let alloc = rt.alloc();
+    let text = Text::of(alloc, "DE").ok().ok_or("no memory")?;
+    assert!(rt; reads_as(alloc, b"\x42\x44\x45", 0, &Value::Text(text)));
+    let mut values = Vec::new(alloc);
+    values.push(Value::Text(Text::of(alloc, "DE").ok().ok_or("no memory")?))?;
+    assert!(rt; reads_as(alloc, b"\x01\x04\x42\x44\x45", 0, &Value::List(values)));
+    assert!(rt; reads_as(alloc, b"\x20\x02\xA1\x07", 0, &Value::U16(7)));
+    assert!(rt; reads_as(alloc, b"\x01\x07", 0, &Value::Bool(true)));
+    assert!(rt; reads_as(alloc, b"\x00\x03", 0, &Value::U128(0)));
+    assert!(rt; reads_as(alloc, b"\x00\x00", 0, &Value::Map(Vec::new(alloc))));
+    assert!(rt; reads_as(alloc, b"\x04\x01\xFF\xFF\xFF\xFE", 0, &Value::I32(-2)));
+    assert!(rt; reads_as(alloc, b"\x01\x01\xFF", 0, &Value::I32(255)));
+    Ok(())
+}
+
+#[test]
+fn faults(rt: HostRuntime) {
+    let rows: [(&[u8], u64, u64, DataCause); 14] = [
+        (b"\x42\x44", 0, 0, DataCause::Truncated),
+        (b"\x00\x05", 0, 0, DataCause::Kind),
+        (b"\x20\x02\x20\x00", 0, 2, DataCause::PointerToPointer),
+        (b"\x20\x07", 0, 0, DataCause::OutOfSection),
+        (b"\x41\xFF", 0, 0, DataCause::Utf8),
+        (b"\xE1\xA1\x01\xA0", 0, 1, DataCause::Key),
+        (b"\xA3\x00\x00\x01", 0, 0, DataCause::Size),
+        (b"\xE1\x41\x61\x20\x00", 0, 1, DataCause::Deep),
+        // A map of one pair, whose key would stand past the end.
+        (b"\x01\x00", 0, 2, DataCause::Truncated),
+        (b"\xA0", 1, 1, DataCause::OutOfSection),
+        (b"\xA0", u64::MAX, u64::MAX, DataCause::OutOfSection),
+        // A number as a key is read to its end first, a map is not.
+        (b"\xE1\xA2\x01", 0, 1, DataCause::Truncated),
+        (b"\xE1\xE1", 0, 1, DataCause::Key),
+        // A pointer as a key, and what it leads to.
+        (b"\xE1\x20\x03\xA0", 0, 3, DataCause::Key),
+    ];
+    for (i, (section, at, place, cause)) in rows.iter().enumerate() {
+        assert_eq!(rt;
+            fault_of(rt.alloc(), section, *at),
+            Some((*place, *cause)),
+            "row {i}"
+        );
+    }
+}
+
+/// Thirty lists of two pointers to the next list each stand for 2^30 numbers in 181 bytes.
+#[test]
+fn many_by_pointers(rt: HostRuntime) -> Result<(), Fail> {
+    let mut section = Vec::new(rt.alloc());
+    for next in 1..=30u8 {
+        let to = next * 6;
+        section.extend_from_slice(&[0x02, 0x04, 0x20, to, 0x20, to])?;
+    }
+    section.push(0xA0)?;
+    assert_eq!(rt; section.len(), 181);
+    assert!(rt;
+        matches!(
+            decode(rt.alloc(), &section, 0),
+            Err(DataFault::Bad {
+                cause: DataCause::Many,
+                ..
+            })
+        )
+    );
+    Ok(())
+}
+
+/// A number stands at the target, and the pointer behind it.
+#[test]
+fn pointers(rt: HostRuntime) -> Result<(), Fail> {
+    let rows: [(usize, &[u8]); 5] = [
+        (0, b"\x20\x00"),
+        (2_047, b"\x27\xFF"),
+        (2_048, b"\x28\x00\x00"),
+        (526_335, b"\x2F\xFF\xFF"),
+        (526_336, b"\x30\x00\x00\x00"),
+    ];
+    for (target, pointer) in rows {
+        let mut section = vec![in rt.alloc(); 0u8; target]?;
+        section.extend_from_slice(b"\xA1\x07")?;
+        section.extend_from_slice(pointer)?;
+        let read = decode(rt.alloc(), &section, target as u64 + 2);
+        assert!(rt; matches!(read, Ok(Value::U16(7))), "{target}");
+    }
+    Ok(())
+}
+
+#[test]
+fn text_lengths(rt: HostRuntime) -> Result<(), Fail> {
+    let alloc = rt.alloc();
+    let rows: [(usize, &[u8]); 4] = [
+        (28, b"\x5C"),
+        (29, b"\x5D\x00"),
+        (285, b"\x5E\x00\x00"),
+        (65_821, b"\x5F\x00\x00\x00"),
+    ];
+    for (len, head) in rows {
+        let text = String::from_utf8(vec![in alloc; b'x'; len]?)
+            .ok()
+            .ok_or("no text")?;
+        let value = Value::Text(Text::from_string(text));
+        assert!(rt; fits(&value));
+        let mut out = Vec::new(alloc);
+        assert!(rt; encode(alloc, &value, &mut out).is_ok());
+        assert_eq!(rt; out.len(), head.len() + len);
+        assert!(rt; out.starts_with(head), "{len}");
+        assert!(rt; reads_as(alloc, &out, 0, &value), "{len}");
+    }
+    Ok(())
+}
+
+#[test]
+fn spellings(rt: HostRuntime) -> Result<(), Fail> {
+    let alloc = rt.alloc();
+    let rows: [(Value, &[u8]); 9] = [
+        (Value::U16(0), b"\xA0"),
+        (Value::U32(1), b"\xC1\x01"),
+        (Value::U64(1_700_000_000), b"\x04\x02\x65\x53\xF1\x00"),
+        (Value::I32(-1), b"\x04\x01\xFF\xFF\xFF\xFF"),
+        (Value::U128(256), b"\x02\x03\x01\x00"),
+        (Value::Bool(true), b"\x01\x07"),
+        (Value::Raw4([1, 2, 3, 4]), b"\x04\x08\x01\x02\x03\x04"),
+        (Value::Raw8([0; 8]), b"\x68\x00\x00\x00\x00\x00\x00\x00\x00"),
+        (Value::Bytes(Bytes::from_vec(Vec::new(alloc))), b"\x80"),
+    ];
+    for (value, bytes) in &rows {
+        assert!(rt; fits(value));
+        let mut out = Vec::new(alloc);
+        assert!(rt; encode(alloc, value, &mut out).is_ok());
+        assert_eq!(rt; out.as_slice(), *bytes);
+    }
+    Ok(())
+}
