@@ -1,5 +1,7 @@
-ghost use Rattle.std.specs.Prelude.{◌≡◌, ◌-◌, ◌%◌, ◌^◌, ◌≤◌, ◌<◌, ◌==◌, IfSome};
-ghost use Rattle.geo_addr.specs.Prefixes.{address_length, aligned_block, block_in, length_in};
+ghost use Rattle.std.specs.Prelude.{◌≡◌, ◌-◌, ◌%◌, ◌^◌, ◌≤◌, ◌<◌, ◌==◌};
+ghost use Rattle.std.specs.Option.{ForSome};
+ghost use Rattle.geo_addr.specs.AddressTexts.{number_in};
+ghost use Rattle.geo_addr.specs.Prefixes.{address_length, aligned_block, block_in, block_of, length_in};
 
 use crate::address::{is_six, read_number};
 use crate::block::Block;
@@ -15,18 +17,29 @@ use crate::line::cut_at;
 pub fn parse_block(text: &[u8]) -> Result<Block, BlockFault>
     ensures { result ≡ block_in text.now }
 {
-    let (left, right) = cut_at(text, b'/');
+    let (left, after) = cut_at(text, b'/');
     let six = is_six(left);
+    match after {
+        None => block_of(six, left, Some(address_length(six))),
+        Some(right) => block_of(six, left, length_of(six, right)),
+    }
+}
+
+/// The block of an address text and a length in bits of its family.
+fn block_of(six: bool, left: &[u8], length: Option<u8>) -> Result<Block, BlockFault>
+    requires { ForSome length (λ bits. bits ≤ address_length six) }
+    ensures { result ≡ block_of six (number_in six left.now) length }
+{
     let Ok(first) = read_number(six, left) else {
         return Err(BlockFault::Address);
     };
-    let length = match right {
-        None => Some(address_length(six)),
-        Some(right) => length_of(six, right),
+    let Some(length) = length else {
+        return Err(BlockFault::Length);
     };
-    match length {
-        None => Err(BlockFault::Length),
-        Some(length) => aligned_block(six, first, if six { length } else { 96 + length }),
+    if six {
+        aligned_block(six, first, length)
+    } else {
+        aligned_block(six, first, 96 + length)
     }
 }
 
@@ -38,9 +51,10 @@ fn address_length(six: bool) -> u8
 }
 
 /// The length behind a slash.
+#[tactic(auto, unfolding(crate::specs::Prefixes::length_in))]
 fn length_of(six: bool, text: &[u8]) -> Option<u8>
     ensures value { result ≡ length_in six text.now }
-    ensures fits { IfSome result (λ length. length ≤ address_length six) }
+    ensures fits { ForSome result (λ bits. bits ≤ address_length six) }
 {
     match decimal(text, 1, 3) {
         None => None,
@@ -55,6 +69,7 @@ fn length_of(six: bool, text: &[u8]) -> Option<u8>
 }
 
 /// The block of an address and a length in bits of an IPv6 address.
+#[tactic(auto, unfolding(crate::specs::Prefixes::aligned_block))]
 fn aligned_block(six: bool, first: u128, len: u8) -> Result<Block, BlockFault>
     requires { len ≤ 128 }
     ensures { result ≡ aligned_block six first len }

@@ -15,12 +15,13 @@ use crate::range::{Range, range_of};
 pub fn parse_span(text: &[u8]) -> Result<Range, BlockFault>
     ensures { result ≡ span_in text.now }
 {
-    match cut_at(text, b'-') {
-        (_, None) => match parse_block(text) {
+    let (left, after) = cut_at(text, b'-');
+    match after {
+        None => match parse_block(text) {
             Ok(block) => Ok(range_of(block)),
             Err(fault) => Err(fault),
         },
-        (left, Some(right)) => range_between(trim_end(left), trim_start(right)),
+        Some(right) => range_between(trim_end(left), trim_start(right)),
     }
 }
 
@@ -43,6 +44,7 @@ fn range_between(left: &[u8], right: &[u8]) -> Result<Range, BlockFault>
 }
 
 /// The range between two addresses of a family.
+#[tactic(auto, unfolding(crate::specs::Spans::ordered_range))]
 fn ordered_range(six: bool, first: u128, last: u128) -> Result<Range, BlockFault>
     ensures { result ≡ ordered_range six first last }
 {
