@@ -1,11 +1,12 @@
 -- Lemmas on the elements of lists, and on the first of equal elements each.
-use Rattle.std.proofs.Common.{◌≡◌, ◌⊎◌, inl, inr, Bool, true, false, true≢false, ◌||◌, if◌then◌else◌, List, [], ◌∷◌, ◌++◌, filter, refl, sym, ◌∙◌, ap, subst, append-nil}
+use Rattle.std.proofs.Common.{◌≡◌, ◌⊎◌, inl, inr, Bool, true, false, true≢false, ◌||◌, if◌then◌else◌, List, [], ◌∷◌, ◌++◌, map, filter, Contains, refl, sym, ◌∙◌, ap, subst, append-nil}
 use Rattle.std.specs.Cmp.{IsEquivalence}
 use Rattle.std.specs.List.{list_any, IsDistinct}
 use Rattle.std.proofs.lemmas.Bool.{or_cases}
 use Rattle.std.proofs.lemmas.Bool.Decides.{same_from_decides}
 use Rattle.std.proofs.lemmas.List.Elements.{filter-append}
 use Rattle.std.proofs.lemmas.Map.Keys.{IsDistinct-push}
+use Rattle.std.proofs.lemmas.Map.Views.{Contains-from_any, list_any-from_Contains}
 use Rattle.trie_core.specs.Laws.{IsEquality}
 use Rattle.least_nodes.specs.Layout.{each_once}
 
@@ -34,6 +35,17 @@ module _ {X : Type 0} where
   -- one element more
   pub In_last : (x : X) (xs : List X) → In x (xs ++ x ∷ [])
   In_last x xs = In-right x xs (x ∷ []) (inl refl)
+
+module _ {X Y : Type 0} (f : X → Y) where
+  pub In-map : (x : X) (xs : List X) → In x xs → In (f x) (map f xs)
+  In-map x [] is = absurd is
+  In-map x (y ∷ ys) (inl same) = inl (ap f same)
+  In-map x (y ∷ ys) (inr rest) = inr (In-map x ys rest)
+
+  pub In-from_map : (y : Y) (xs : List X) → In y (map f xs) → (x : X) × In x xs × (y ≡ f x)
+  In-from_map y [] is = absurd is
+  In-from_map y (x ∷ xs) (inl same) = (x, inl refl, same)
+  In-from_map y (x ∷ xs) (inr rest) = let more = In-from_map y xs rest in (more.0, inr more.1, more.2)
 
 or_true : (b : Bool) → (b || true) ≡ true
 or_true true = refl
@@ -78,6 +90,12 @@ module _ {X : Type 0} (eq : X → X → Bool) (equality : IsEquality eq) where
     symm = λ x y. same_from_decides (eq x y) (eq y x) (equality x y) (λ e. sym ((equality y x).0 e), λ same. (equality y x).1 (sym same));
     congr = λ x y z same. ap (λ v. eq v z) ((equality x y).0 same);
   }
+
+  pub In-from_Contains : (x : X) (xs : List X) → Contains xs x → In x xs
+  In-from_Contains x xs has = In-from_any x xs (list_any-from_Contains equivalence x xs has)
+
+  pub Contains-from_In : (x : X) (xs : List X) → In x xs → Contains xs x
+  Contains-from_In x xs is = Contains-from_any (λ a b found. (equality a b).0 found) x xs (any-from_In x xs is)
 
   -- ---- the first of equal elements each
 

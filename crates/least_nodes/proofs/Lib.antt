@@ -2,3 +2,4 @@ pub mod Elements
 pub mod LaidLemmas
 pub mod Positions
 pub mod TreeParts
+pub mod WalkLemmas

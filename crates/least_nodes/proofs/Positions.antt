@@ -200,7 +200,7 @@ module _ {X : Type 0} (eq : X → X → Bool) (equality : IsEquality eq) (n : �
 module _ {A : Type 0} where
   -- no list of nodes with a reduced tree's lookups is shorter than that of its different nodes
   pub Least-holds : Least A
-  Least-holds eq equality n t nodes reduced lookups =
+  Least-holds eq equality n t reduced nodes lookups =
       length-le_from_apart (tree_eq eq) (IsEquality-tree_eq eq equality) (length nodes) StandsAt alone (inner eq t) (IsDistinct-from_none (tree_eq eq) (IsEquality-tree_eq eq equality) (preorder t)) where_is
     where
       law : StandApart nodes t
@@ -233,4 +233,4 @@ module _ {A : Type 0} where
 
   pub LeastFor-holds : LeastFor A
   LeastFor-holds eq equality f n nodes finds =
-      Least-holds eq equality n (tree eq f n 0) nodes (TreeOfFunction-holds eq equality f n).0 (HasLookups-from_answers eq equality f n nodes finds)
+      Least-holds eq equality n (tree eq f n 0) (TreeOfFunction-holds eq equality f n).0 nodes (HasLookups-from_answers eq equality f n nodes finds)

@@ -23,9 +23,13 @@ pub record StandApart {A : Type 0} (nodes : List (Member A × Member A)) (t : Tr
 abbrev pub Apart : Type 0 → Type 0
 Apart A = (n : ℕ) (t : Tree A) (nodes : List (Member A × Member A)) → IsReducedWithin n t → HasLookups n nodes t → StandApart nodes t
 
+-- no list of nodes with this tree's lookups has fewer nodes than this
+abbrev pub IsFewest : {A : Type 0} → ℕ → Tree A → ℕ → Type 0
+IsFewest {A} n t fewest = (nodes : List (Member A × Member A)) → HasLookups n nodes t → fewest ≤ length nodes
+
 -- no list of nodes with a reduced tree's lookups is shorter than the list of its different nodes
 abbrev pub Least : Type 0 → Type 0
-Least A = (eq : A → A → Bool) → IsEquality eq → (n : ℕ) (t : Tree A) (nodes : List (Member A × Member A)) → IsReducedWithin n t → HasLookups n nodes t → length (inner eq t) ≤ length nodes
+Least A = (eq : A → A → Bool) → IsEquality eq → (n : ℕ) (t : Tree A) → IsReducedWithin n t → IsFewest n t (length (inner eq t))
 
 -- no list of nodes that answers a function is shorter than the list of the different nodes of the function's tree
 abbrev pub LeastFor : Type 0 → Type 0

@@ -57,6 +57,10 @@ module _ {A : Type 0} where
     laid (leaf a) = pair_of [] (leaf a) ∷ []
     laid (node l r) = map (pair_of (inner (node l r))) (inner (node l r))
 
--- the different places of a tree whose leaves are numbers, in order of first visit: leaf 0 is no place
+-- where the leaves are numbers, leaf 0 is no place
+abbrev pub is_place : ℕ → Bool
+is_place k = not (k == 0)
+
+-- the different places of a tree, in order of first visit
 abbrev pub place_order : Tree ℕ → List ℕ
-place_order t = filter (λ k. not (k == 0)) (leaf_order nat_eq t)
+place_order t = filter is_place (leaf_order nat_eq t)

@@ -2,3 +2,7 @@
 #![tactic(auto)]
 
 pub mod laws;
+mod layout;
+mod seen;
+
+pub use layout::{Layout, order};
