@@ -8,7 +8,7 @@ use Rattle.geo_terms.specs.Cuts.{statement_ranges, ConstantBetweenCuts}
 use Rattle.geo_terms.specs.DelegationForm.{DelegationParts}
 use Rattle.geo_terms.specs.First.{holders, first_at, first_of}
 use Rattle.geo_terms.specs.PlaceForm.{same_text}
-use Rattle.geo_terms.specs.Precedence.{reference_before, delegation_before, override_before, entry_before, speaker, entry, entry_of, entries_within, lies_within, delegation, override, chosen, chosen_at}
+use Rattle.geo_terms.specs.Precedence.{reference_before, delegation_before, override_before, entry_before, speaker, speaking_entry, entry_of, entries_within, lies_within, first_delegation, first_override, chosen, chosen_at}
 use Rattle.geo_terms.specs.SourceForm.{FeedParts}
 use Rattle.geo_terms.specs.Sources.{InForce, references, feed_of, entries_in, entries, delegations, override_rows}
 use Rattle.geo_terms.specs.declared.statement.Entry.{Entry}
@@ -89,15 +89,15 @@ same_first : {X : Type 0} (before : X → X → Bool) (f : X → Ends) (xs : Lis
 same_first before f xs a b h = ap (λ ys. first_of before ys) (same_filter (λ x. holds (f x) a) (λ x. holds (f x) b) xs h)
 
 pub constant_between_cuts : ConstantBetweenCuts
-unfolding chosen_at speaker entry delegation override entry_ranges
+unfolding chosen_at speaker speaking_entry first_delegation first_override entry_ranges
 constant_between_cuts s a b le none =
     let refs = each_same (λ (r : Reference). r.range) (references s) _ a b le none in
     let speakers : speaker s a ≡ speaker s b = same_first reference_before (λ r. r.range) (references s) a b refs.0 in
     let ents = same_entry s (speaker s a) _ a b le refs.1 in
-    let entries_same : entry s a ≡ entry s b = ents.0 ∙ ap (λ o. entry_of s o b) speakers in
+    let entries_same : speaking_entry s a ≡ speaking_entry s b = ents.0 ∙ ap (λ o. entry_of s o b) speakers in
     let dels = each_same (λ (d : DelegationParts). d.range) (delegations s) _ a b le ents.1 in
-    let delegated : delegation s a ≡ delegation s b = same_first delegation_before (λ d. d.range) (delegations s) a b dels.0 in
+    let delegated : first_delegation s a ≡ first_delegation s b = same_first delegation_before (λ d. d.range) (delegations s) a b dels.0 in
     let rows : NoCut (map (λ (o : Override). o.range) (override_rows s) ++ []) a b = subst (λ (rs : List Ends). NoCut rs a b) (sym (append-nil (map (λ (o : Override). o.range) (override_rows s)))) dels.1 in
     let overs = each_same (λ (o : Override). o.range) (override_rows s) [] a b le rows in
-    let overridden : override s a ≡ override s b = same_first override_before (λ o. o.range) (override_rows s) a b overs.0 in
+    let overridden : first_override s a ≡ first_override s b = same_first override_before (λ o. o.range) (override_rows s) a b overs.0 in
     rw (overridden, entries_same, delegated) refl

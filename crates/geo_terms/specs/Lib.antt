@@ -1,3 +1,4 @@
+pub mod AllSources
 pub mod Cuts
 pub mod DelegationForm
 pub mod First

@@ -73,16 +73,16 @@ entry_of s None a = None
 entry_of s (Some r) a = first_of entry_before (entries_within (entries_in (feed_of s r.url)) r.range a)
 
 -- the speaking entry
-unfoldable pub entry : InForce → ℕ → Option Entry
-entry s a = entry_of s (speaker s a) a
+unfoldable pub speaking_entry : InForce → ℕ → Option Entry
+speaking_entry s a = entry_of s (speaker s a) a
 
 -- the first delegation that holds an address
-unfoldable pub delegation : InForce → ℕ → Option DelegationParts
-delegation s a = first_at delegation_before (λ d. d.range) (delegations s) a
+unfoldable pub first_delegation : InForce → ℕ → Option DelegationParts
+first_delegation s a = first_at delegation_before (λ d. d.range) (delegations s) a
 
 -- the first override that holds an address
-unfoldable pub override : InForce → ℕ → Option Override
-override s a = first_at override_before (λ o. o.range) (override_rows s) a
+unfoldable pub first_override : InForce → ℕ → Option Override
+first_override s a = first_at override_before (λ o. o.range) (override_rows s) a
 
 abbrev pub said_place : Said → Option PlaceParts
 said_place Nothing = None
@@ -104,7 +104,7 @@ chosen None e d = placed_by_entry e d
 
 -- what the sources say of an address
 unfoldable pub chosen_at : InForce → ℕ → Option PlaceParts
-chosen_at s a = chosen (override s a) (entry s a) (delegation s a)
+chosen_at s a = chosen (first_override s a) (speaking_entry s a) (first_delegation s a)
 
 -- the record of an address
 abbrev pub record_at : InForce → ℕ → Option PlaceParts
@@ -119,4 +119,4 @@ pub record Reasons : Type 0 where
   pub place : Option PlaceParts
 
 abbrev pub reasons_at : InForce → ℕ → Reasons
-reasons_at s a = record { over = override s a; speaker = speaker s a; entry = entry s a; delegation = delegation s a; place = record_at s a }
+reasons_at s a = record { over = first_override s a; speaker = speaker s a; entry = speaking_entry s a; delegation = first_delegation s a; place = record_at s a }

@@ -2,7 +2,7 @@
 ghost use Rattle.std.specs.Prelude.{◌≡◌, ◌<◌, ◌≤◌, ◌↔◌, length, IfOk, IfErr, OnOk, IsOkUnless, IsTrue, [], ◌∷◌};
 ghost use Rattle.std.specs.List.{list_all};
 ghost use Rattle.std.specs.Char.{is_ascii_alphanumeric};
-ghost use Rattle.geo_terms.specs.PlaceForm.{is_country, is_region, is_subdivision, upper, is_empty, country_of_region, longest, parts_of, says_nothing, place_of_country, country_fits, region_fits, lengths_fit};
+ghost use Rattle.geo_terms.specs.PlaceForm.{country_fits, country_of_region, is_country, is_empty, is_region, is_subdivision, lengths_fit, longest, nowhere, parts_of, place_of_country, region_fits, same_text, says_nothing, upper};
 ghost use Rattle.geo_terms.specs.SaidOf.{said_of, said_by};
 
 use crate::place::{Place, PlaceFault, Said};
@@ -55,7 +55,7 @@ pub fn country_place(alloc: Global, country: &[u8]) -> Result<Option<Place>, Mem
         return Ok(None);
     }
     let country = pair_text(alloc, *first, *second)?;
-    if country.as_str() == "ZZ" {
+    if is_nowhere(&country) {
         return Ok(None);
     }
     let region = Text::of(alloc, "")?;
@@ -102,13 +102,20 @@ fn said_in_form(
 fn says_nothing(country: &Text, region: &Text, city: &str, postal: &str) -> bool
     ensures { result ≡ says_nothing (record { country = country.now; region = region.now; city = city.now; postal = postal.now }) }
 {
-    if country.as_str() == "ZZ" {
+    if is_nowhere(country) {
         return true;
     }
     country.as_str().is_empty()
         && region.as_str().is_empty()
         && city.is_empty()
         && postal.is_empty()
+}
+
+// Whether a country in upper case is the code that stands for none.
+fn is_nowhere(country: &Text) -> bool
+    ensures { result ≡ same_text country.now nowhere }
+{
+    country.as_str() == "ZZ"
 }
 
 // The country in upper case: the field's own, or that of the region.

@@ -4,13 +4,18 @@
 mod fields;
 pub mod laws;
 mod note;
+mod order;
 mod place;
 mod places;
+pub mod plain;
 mod source;
 mod statement;
+#[cfg(test)]
+mod tests;
 
 pub use fields::{country_place, place_of};
 pub use note::{Note, Origin, Rule, note_text};
+pub use order::Statement;
 pub use place::{Place, PlaceFault, Said};
 pub use places::{Places, PlacesFault};
 pub use source::{Dump, Feed, Overrides, SourceFault, Stats};

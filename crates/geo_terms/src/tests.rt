@@ -1,0 +1,93 @@
+use crate::{Note, Origin, PlaceFault, Places, Rule, Said, country_place, note_text, place_of};
+use geo_addr::{Memory, Text};
+use std::alloc::Global;
+use std::test::Fail;
+
+// A place with these texts, or nothing.
+fn said(alloc: Global, country: &str, region: &str, city: &str) -> Result<Said, PlaceFault> {
+    place_of(alloc, country, region, city, "")
+}
+
+// A text of so many letters.
+fn letters(alloc: Global, count: usize) -> Result<String, Memory> {
+    let mut text = String::new(alloc);
+    for _ in 0..count {
+        text.push('x')?;
+    }
+    Ok(text)
+}
+
+// The country and the region of what is said.
+fn shown(said: &Result<Said, PlaceFault>) -> (&str, &str) {
+    match said {
+        Ok(Said::At(place)) => (place.country.as_str(), place.region.as_str()),
+        Ok(Said::Nothing) => ("nothing", ""),
+        Err(PlaceFault::Country) => ("refused", "country"),
+        Err(PlaceFault::Region) => ("refused", "region"),
+        Err(PlaceFault::TooLong) => ("refused", "length"),
+        Err(PlaceFault::Memory) => ("refused", "memory"),
+    }
+}
+
+#[test]
+fn fields_name_places(rt: HostRuntime) -> Result<(), Fail> {
+    let alloc = rt.alloc();
+    let table = [
+        ("", "de-by", "", ("DE", "DE-BY")),
+        ("zz", "", "X", ("nothing", "")),
+        ("", "ZZ-1", "", ("nothing", "")),
+        ("", "", "", ("nothing", "")),
+        ("D1", "DEBY", "", ("refused", "country")),
+        ("DE", "DEBY", "", ("refused", "region")),
+    ];
+    for (country, region, city, wanted) in table {
+        let found = said(alloc, country, region, city);
+        assert!(rt; shown(&found) == wanted);
+    }
+    let long = letters(alloc, 1025)?;
+    let found = said(alloc, "DE", "", long.as_str());
+    assert!(rt; shown(&found) == ("refused", "length"));
+    Ok(())
+}
+
+#[test]
+fn notes_have_lines(rt: HostRuntime) -> Result<(), Fail> {
+    let alloc = rt.alloc();
+    let ripe = Text::of(alloc, "ripe")?;
+    let url = Text::of(alloc, "https://geo.example.net/a.csv")?;
+    let nro = Text::of(alloc, "nro")?;
+    let table = [
+        (Origin::Rpsl(ripe), 13, Rule::P10, "rpsl ripe 13 P10\n"),
+        (
+            Origin::Feed(url),
+            5,
+            Rule::F09,
+            "feed https://geo.example.net/a.csv 5 F09\n",
+        ),
+        (Origin::Stats(nro), 10, Rule::S06, "stats nro 10 S06\n"),
+        (Origin::Overrides, 3, Rule::O04, "overrides - 3 O04\n"),
+    ];
+    for (origin, line, rule, wanted) in table {
+        let text = note_text(alloc, &Note { origin, line, rule })?;
+        assert!(rt; text.as_str() == wanted);
+    }
+    Ok(())
+}
+
+#[test]
+fn equal_places_have_one_number(rt: HostRuntime) -> Result<(), Fail> {
+    let alloc = rt.alloc();
+    let mut places = Places::new(alloc);
+    let germany = country_place(alloc, b"de")?.ok_or("a country")?;
+    let austria = country_place(alloc, b"AT")?.ok_or("a country")?;
+    assert!(rt; places.is_empty());
+    assert!(rt; places.intern(&germany)? == 1);
+    assert!(rt; places.intern(&austria)? == 2);
+    let again = country_place(alloc, b"DE")?.ok_or("a country")?;
+    assert!(rt; places.intern(&again)? == 1);
+    assert!(rt; places.len() == 2);
+    assert!(rt; places.get(2) == Some(&austria));
+    assert!(rt; places.get(0).is_none());
+    assert!(rt; places.get(3).is_none());
+    Ok(())
+}
