@@ -7,3 +7,4 @@ pub mod Views
 pub mod Fine
 pub mod Written
 pub mod Loops
+pub mod Bounds

@@ -1,7 +1,7 @@
 //! Values with their parts.
 
 ghost use Rattle.std.specs.Prelude.{◌≡◌, ◌≤◌, ◌<◌, ◌-◌, ◌^◌, length, IfOk, true, false};
-ghost use Rattle.mmdb_data.specs.Tree.{most as most_size};
+ghost use Rattle.mmdb_data.specs.Tree.{depth, count, most as most_size};
 ghost use Rattle.mmdb_data.specs.Reading.{values_left, Gives, key_of, members_from, items_from, content_from, plain_from, target_from, value_from, reads};
 ghost use Rattle.mmdb_data.specs.View.{tree, items_view, members_view};
 
@@ -19,10 +19,16 @@ const VALUES: u32 = 100_000;
 /// What was read, the place after it, and how many more values may be read.
 type Found<T> = Result<(T, usize, u32), DataFault>;
 
-/// The value that stands at the offset `at` of a data section, pointers followed.
+/// The value that stands at the offset `at` of a data section, pointers followed
+/// (MaxMind DB 2.0, "Output Data Section").
+///
+/// A fault names the offset of the control byte of the value at fault. Memory is taken only for values
+/// that are really there, and not by the sizes that the section claims.
 #[tactic(auto, unfolding(crate::specs::Reading::reads))]
 pub fn decode(alloc: Global, section: &[u8], at: u64) -> Result<Value, DataFault>
-    ensures { Gives tree result (reads section.now at) }
+    ensures gives { Gives tree result (reads section.now at) }
+    ensures shallow { IfOk result (λ value. depth (tree value) ≤ 32) }
+    ensures few { IfOk result (λ value. count (tree value) ≤ 100000) }
 {
     if at >= section.len() as u64 {
         return Err(DataFault::Bad {

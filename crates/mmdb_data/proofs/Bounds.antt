@@ -1,0 +1,214 @@
+-- What is read has no more levels and no more values than reading may spend.
+use Rattle.std.proofs.Common.{◌≡◌, ℕ, zero, suc, ◌+◌, ◌-◌, ◌≤◌, Bool, true, false, cond, eqb, ltb, List, length, Option, Some, None, Result, Ok, Err, refl, ap, subst, arith, inl, inr}
+use Rattle.std.specs.Prelude.{◌⊎◌}
+use Rattle.std.proofs.lemmas.Bool.{ltb-true}
+use Rattle.mmdb_data.specs.declared.fault.DataCause.TheVariants.{Truncated, PointerToPointer, OutOfSection, Key, Many}
+use Rattle.mmdb_data.specs.Tree.{Tree, Members, Items, map, list, text, bytes, u16, u32, i32, u64, u128, bool, double, float, no_members, member, no_items, item, depth, members_depth, items_depth, count, members_count, items_count}
+use Rattle.mmdb_data.specs.Reading.{◌>>=◌, Fault, Budget, Read, Scalar, scalar_of, one_less, byte_from, head_from, pointer_from, key_of, members_from, items_from, scalar_bytes_from, scalar_value_from, scalar_from, text_from, bool_from, leaf_from, content_from, plain_from, target_from, value_from, reads, is_pointer}
+
+-- ---- what a step that did not fail gave
+
+bind_ok : {A B : Type 0} (r : Result A Fault) (f : A → Result B Fault) (y : B) → (r >>= f) ≡ Ok y → (x : A) × (r ≡ Ok x) × (f x ≡ Ok y)
+bind_ok (Ok x) f y e = (x, refl, e)
+bind_ok (Err d) f y e = absurd cc
+
+chosen : {A : Type 0} (b : Bool) (x y z : A) → cond b x y ≡ z → ((b ≡ true) × (x ≡ z)) ⊎ ((b ≡ false) × (y ≡ z))
+chosen true x y z e = inl (refl, e)
+chosen false x y z e = inr (refl, e)
+
+passed : {A : Type 0} (b : Bool) (d : Fault) (r : Result A Fault) (y : A) → cond b (Err d) r ≡ Ok y → r ≡ Ok y
+passed true d r y e = absurd cc
+passed false d r y e = e
+
+held : {A : Type 0} (b : Bool) (d : Fault) (r : Result A Fault) (y : A) → cond b r (Err d) ≡ Ok y → r ≡ Ok y
+held true d r y e = e
+held false d r y e = absurd cc
+
+abbrev done : {A : Type 0} → A → Result A Fault
+done x = Ok x
+
+ok_is : {A : Type 0} (x y : A) → done x ≡ done y → x ≡ y
+ok_is x y e = cc
+
+-- ---- one value
+
+record IsOne (value : Tree) : Type 0 where
+  pub depth_is : depth value ≡ 1
+  pub count_is : count value ≡ 1
+
+-- what every value of this scalar is
+abbrev AreOne : Option Scalar → Type 0
+AreOne None = Unit {0}
+AreOne (Some scalar) = (content : List ℕ) → IsOne (scalar.value content)
+
+one : {value : Tree} → depth value ≡ 1 → count value ≡ 1 → IsOne value
+one d c = record { depth_is = d; count_is = c }
+
+either_one : (b : Bool) (x y : Option Scalar) → AreOne x → AreOne y → AreOne (cond b x y)
+either_one true x y h k = h
+either_one false x y h k = k
+
+scalars_are_one : (kind : ℕ) → AreOne (scalar_of kind)
+unfolding scalar_of
+scalars_are_one kind =
+    either_one (eqb kind 3) _ _ (λ content. one refl refl) (either_one (eqb kind 4) _ _ (λ content. one refl refl) (either_one (eqb kind 5) _ _ (λ content. one refl refl) (either_one (eqb kind 6) _ _ (λ content. one refl refl)
+    (either_one (eqb kind 8) _ _ (λ content. one refl refl) (either_one (eqb kind 9) _ _ (λ content. one refl refl) (either_one (eqb kind 10) _ _ (λ content. one refl refl) (either_one (eqb kind 15) _ _ (λ content. one refl refl) tt)))))))
+
+value_is_one : (section : List ℕ) (is_key : Bool) (at : ℕ) (scalar : Option Scalar) (size place : ℕ) (value : Tree) → AreOne scalar → scalar_value_from section is_key at scalar size place ≡ Ok value → IsOne value
+value_is_one section is_key at None size place value h e = absurd cc
+value_is_one section is_key at (Some scalar) size place value h e =
+    let b = bind_ok (scalar_bytes_from section is_key at scalar.least scalar.greatest size place) (λ content. Ok (scalar.value content)) value e in
+    subst IsOne (ok_is (scalar.value b.0) value b.2) (h b.0)
+
+leaf_is_one : (section : List ℕ) (is_key : Bool) (at kind size place : ℕ) (found : Tree × ℕ) → leaf_from section is_key at kind size place ≡ Ok found → IsOne found.0
+unfolding leaf_from scalar_from
+leaf_is_one section is_key at kind size place found e =
+    elim (chosen (eqb kind 2) _ _ (Ok found) e) [
+      | inl a ↦ let b = bind_ok (text_from section at size place) (λ content. Ok (text content, place + size)) found a.1 in
+          subst IsOne (ap (λ (x : Tree × ℕ). x.0) (ok_is (text b.0, place + size) found b.2)) (one refl refl)
+      | inr a ↦ elim (chosen (eqb kind 14) _ _ (Ok found) a.1) [
+        | inl b ↦ let d = bind_ok (bool_from is_key at size) (λ v. Ok (bool v, place)) found b.1 in
+            subst IsOne (ap (λ (x : Tree × ℕ). x.0) (ok_is (bool d.0, place) found d.2)) (one refl refl)
+        | inr b ↦ let d = bind_ok (scalar_value_from section is_key at (scalar_of kind) size place) (λ v. Ok (v, place + size)) found b.1 in
+            subst IsOne (ap (λ (x : Tree × ℕ). x.0) (ok_is (d.0, place + size) found d.2)) (value_is_one section is_key at (scalar_of kind) size place d.0 (scalars_are_one kind) d.1)
+      ]
+    ]
+
+-- ---- values, by the levels that are left
+
+record IsWithin (levels : ℕ) (value : Tree) (before after : Budget) : Type 0 where
+  pub deep : depth value ≤ levels
+  pub spent : count value + after.values ≡ before.values
+
+record MembersAreWithin (levels : ℕ) (members : Members) (before after : Budget) : Type 0 where
+  pub deep : members_depth members ≤ levels
+  pub spent : members_count members + after.values ≡ before.values
+
+record ItemsAreWithin (levels : ℕ) (items : Items) (before after : Budget) : Type 0 where
+  pub deep : items_depth items ≤ levels
+  pub spent : items_count items + after.values ≡ before.values
+
+abbrev StaysWithin : ℕ → Read → Type 0
+StaysWithin levels read = (is_key : Bool) (at : ℕ) (left : Budget) (found : Tree × ℕ × Budget) → read is_key at left ≡ Ok found → IsWithin levels found.0 left found.2
+
+key_is : (place : ℕ) (key : Tree) (name : List ℕ) → key_of place key ≡ Ok name → key ≡ text name
+key_is place (text content) name e = ap text (ok_is content name e)
+key_is place (map pairs) name e = absurd cc
+key_is place (list values) name e = absurd cc
+key_is place (bytes content) name e = absurd cc
+key_is place (u16 n) name e = absurd cc
+key_is place (u32 n) name e = absurd cc
+key_is place (i32 n) name e = absurd cc
+key_is place (u64 n) name e = absurd cc
+key_is place (u128 n) name e = absurd cc
+key_is place (bool b) name e = absurd cc
+key_is place (double content) name e = absurd cc
+key_is place (float content) name e = absurd cc
+
+members_within : (levels : ℕ) (read : Read) → StaysWithin levels read → (n place : ℕ) (left : Budget) (found : Members × ℕ × Budget) → members_from read n place left ≡ Ok found → MembersAreWithin levels found.0 left found.2
+members_within levels read within zero place left found e =
+    subst (λ (x : Members × ℕ × Budget). MembersAreWithin levels x.0 left x.2) (ok_is (no_members, place, left) found e) (record { deep = omega arith; spent = omega arith })
+members_within levels read within (suc n) place left found e =
+    let a = bind_ok (read true place left) (λ key. key_of place key.0 >>= λ name. read false key.1 key.2 >>= λ value. members_from read n value.1 value.2 >>= λ rest. Ok (member name value.0 rest.0, rest.1, rest.2)) found e in
+    let key = a.0 in
+    let b = bind_ok (key_of place key.0) (λ name. read false key.1 key.2 >>= λ value. members_from read n value.1 value.2 >>= λ rest. Ok (member name value.0 rest.0, rest.1, rest.2)) found a.2 in
+    let name = b.0 in
+    let c = bind_ok (read false key.1 key.2) (λ value. members_from read n value.1 value.2 >>= λ rest. Ok (member name value.0 rest.0, rest.1, rest.2)) found b.2 in
+    let value = c.0 in
+    let d = bind_ok (members_from read n value.1 value.2) (λ rest. Ok (member name value.0 rest.0, rest.1, rest.2)) found c.2 in
+    let rest = d.0 in
+    let first : IsWithin levels (text name) left key.2 = subst (λ (k : Tree). IsWithin levels k left key.2) (key_is place key.0 name b.1) (within true place left key a.1) in
+    let second = within false key.1 key.2 value c.1 in
+    let others = members_within levels read within n value.1 value.2 rest d.1 in
+    subst (λ (x : Members × ℕ × Budget). MembersAreWithin levels x.0 left x.2) (ok_is (member name value.0 rest.0, rest.1, rest.2) found d.2)
+    (record { deep = omega (arith, first.deep, second.deep, others.deep); spent = omega (arith, first.spent, second.spent, others.spent) })
+
+items_within : (levels : ℕ) (read : Read) → StaysWithin levels read → (n place : ℕ) (left : Budget) (found : Items × ℕ × Budget) → items_from read n place left ≡ Ok found → ItemsAreWithin levels found.0 left found.2
+items_within levels read within zero place left found e =
+    subst (λ (x : Items × ℕ × Budget). ItemsAreWithin levels x.0 left x.2) (ok_is (no_items, place, left) found e) (record { deep = omega arith; spent = omega arith })
+items_within levels read within (suc n) place left found e =
+    let c = bind_ok (read false place left) (λ value. items_from read n value.1 value.2 >>= λ rest. Ok (item value.0 rest.0, rest.1, rest.2)) found e in
+    let value = c.0 in
+    let d = bind_ok (items_from read n value.1 value.2) (λ rest. Ok (item value.0 rest.0, rest.1, rest.2)) found c.2 in
+    let rest = d.0 in
+    let second = within false place left value c.1 in
+    let others = items_within levels read within n value.1 value.2 rest d.1 in
+    subst (λ (x : Items × ℕ × Budget). ItemsAreWithin levels x.0 left x.2) (ok_is (item value.0 rest.0, rest.1, rest.2) found d.2)
+    (record { deep = omega (arith, second.deep, others.deep); spent = omega (arith, second.spent, others.spent) })
+
+-- one value more than its parts, one level deeper
+record IsOneMore (levels : ℕ) (value : Tree) (before after : Budget) : Type 0 where
+  pub deep : depth value ≤ suc levels
+  pub spent : count value + after.values ≡ suc before.values
+
+content_within : (levels : ℕ) (read : Read) → StaysWithin levels read → (section : List ℕ) (is_key : Bool) (at kind size place : ℕ) (left : Budget) (found : Tree × ℕ × Budget)
+    → content_from read section is_key at kind size place left ≡ Ok found → IsOneMore levels found.0 left found.2
+unfolding content_from
+content_within levels read within section is_key at kind size place left found e =
+    elim (chosen (eqb kind 7) _ _ (Ok found) e) [
+      | inl a ↦ let p = passed is_key (at, Key) _ found a.1 in
+          let b = bind_ok (members_from read size place left) (λ x. Ok (map x.0, x.1, x.2)) found p in
+          let h = members_within levels read within size place left b.0 b.1 in
+          subst (λ (x : Tree × ℕ × Budget). IsOneMore levels x.0 left x.2) (ok_is (map b.0.0, b.0.1, b.0.2) found b.2) (record { deep = omega (arith, h.deep); spent = omega (arith, h.spent) })
+      | inr a ↦ elim (chosen (eqb kind 11) _ _ (Ok found) a.1) [
+        | inl c ↦ let p = passed is_key (at, Key) _ found c.1 in
+            let b = bind_ok (items_from read size place left) (λ x. Ok (list x.0, x.1, x.2)) found p in
+            let h = items_within levels read within size place left b.0 b.1 in
+            subst (λ (x : Tree × ℕ × Budget). IsOneMore levels x.0 left x.2) (ok_is (list b.0.0, b.0.1, b.0.2) found b.2) (record { deep = omega (arith, h.deep); spent = omega (arith, h.spent) })
+        | inr c ↦ let b = bind_ok (leaf_from section is_key at kind size place) (λ x. Ok (x.0, x.1, left)) found c.1 in
+            let h = leaf_is_one section is_key at kind size place b.0 b.1 in
+            subst (λ (x : Tree × ℕ × Budget). IsOneMore levels x.0 left x.2) (ok_is (b.0.0, b.0.1, left) found b.2) (record { deep = omega (arith, h.depth_is); spent = omega (arith, h.count_is) })
+      ]
+    ]
+
+plain_within : (levels : ℕ) (read : Read) → StaysWithin levels read → (section : List ℕ) (is_key : Bool) (at : ℕ) (left : Budget) (found : Tree × ℕ × Budget)
+    → plain_from read section is_key at left ≡ Ok found → IsOneMore levels found.0 left found.2
+unfolding plain_from
+plain_within levels read within section is_key at left found e =
+    let b = bind_ok (head_from section at) (λ head. content_from read section is_key at head.0 head.1 head.2 left) found e in
+    content_within levels read within section is_key at b.0.0 b.0.1 b.0.2 left found b.2
+
+target_within : (levels : ℕ) (read : Read) → StaysWithin levels read → (section : List ℕ) (is_key : Bool) (at control : ℕ) (left : Budget) (found : Tree × ℕ × Budget)
+    → target_from read section is_key at control left ≡ Ok found → IsOneMore levels found.0 left found.2
+unfolding target_from
+target_within levels read within section is_key at control left found e =
+    let a = bind_ok (pointer_from section at control) _ found e in
+    let b = bind_ok (byte_from section a.0.0 (at, OutOfSection)) _ found a.2 in
+    let p = passed (is_pointer b.0) (a.0.0, PointerToPointer) _ found b.2 in
+    let c = bind_ok (plain_from read section is_key a.0.0 left) (λ x. Ok (x.0, a.0.1, x.2)) found p in
+    let h = plain_within levels read within section is_key a.0.0 left c.0 c.1 in
+    subst (λ (x : Tree × ℕ × Budget). IsOneMore levels x.0 left x.2) (ok_is (c.0.0, a.0.1, c.0.2) found c.2) h
+
+spends : (before : Budget) (fault : Fault) (after : Budget) → one_less before fault ≡ Ok after → suc after.values ≡ before.values
+unfolding one_less
+spends before fault after e =
+    elim (chosen (ltb 0 before.values) _ _ (Ok after) e) [
+      | inl a ↦ let some = ltb-true 0 before.values a.0 in
+          let is : before.values - 1 ≡ after.values = ap (λ (b : Budget). b.values) (ok_is (record { values = before.values - 1 }) after a.1) in
+          omega arith
+      | inr a ↦ absurd cc
+    ]
+
+value_within : (section : List ℕ) (levels : ℕ) → StaysWithin levels (value_from section levels)
+unfolding value_from
+value_within section zero is_key at left found e = absurd cc
+value_within section (suc levels) is_key at left found e =
+    let read = value_from section levels in
+    let a = bind_ok (one_less left (at, Many)) _ found e in
+    let spent = spends left (at, Many) a.0 a.1 in
+    let b = bind_ok (byte_from section at (at, Truncated)) _ found a.2 in
+    let h : IsOneMore levels found.0 a.0 found.2 =
+    elim (chosen (is_pointer b.0) _ _ (Ok found) b.2) [
+      | inl c ↦ target_within levels read (value_within section levels) section is_key at b.0 a.0 found c.1
+      | inr c ↦ plain_within levels read (value_within section levels) section is_key at a.0 found c.1
+    ] in
+    record { deep = h.deep; spent = omega (arith, h.spent, spent) }
+
+-- what is read has at most 32 levels and 100,000 values
+pub are_bounded : (section : List ℕ) (at : ℕ) (value : Tree) → reads section at ≡ Ok value → (depth value ≤ 32) × (count value ≤ 100000)
+unfolding reads
+are_bounded section at value e =
+    let p = held (ltb at (length section)) (at, OutOfSection) _ value e in
+    let b = bind_ok (value_from section 32 false at (record { values = 100000 })) (λ found. Ok found.0) value p in
+    let h = value_within section 32 false at (record { values = 100000 }) b.0 b.1 in
+    subst (λ (v : Tree). (depth v ≤ 32) × (count v ≤ 100000)) (ok_is b.0.0 value b.2) (h.deep, omega (arith, h.spent))
