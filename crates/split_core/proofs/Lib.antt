@@ -1,0 +1,4 @@
+pub mod Edges
+pub mod Multiples
+pub mod Rooms
+pub mod LeastList
