@@ -1,1 +1,3 @@
+pub mod BoundaryLemmas
+pub mod RankLemmas
 pub mod SegmentLemmas

@@ -1,2 +1,4 @@
+pub mod Boundaries
+pub mod Edges
 pub mod Marks
 pub mod Segments

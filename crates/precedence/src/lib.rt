@@ -1,6 +1,7 @@
 //! All sources in force: the record of an address, the report, cut points and segments.
 #![tactic(auto)]
 
+mod boundaries;
 mod segments;
 
 pub use segments::segments_of;
