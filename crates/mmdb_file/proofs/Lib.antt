@@ -1,0 +1,4 @@
+pub mod MarkerLemmas
+pub mod TextLemmas
+pub mod MetadataLemmas
+pub mod AdoptLemmas

@@ -1,0 +1,11 @@
+//! A MaxMind DB file: written from a store of nodes, and walked.
+#![tactic(auto)]
+
+mod adopted;
+mod fault;
+mod laws;
+mod marker;
+
+pub use adopted::Mmdb;
+pub use fault::{FileFault, OpenFault, WalkFault};
+pub use laws::last_marker_is_the_writers;

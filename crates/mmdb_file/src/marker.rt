@@ -1,0 +1,32 @@
+//! The marker before the metadata.
+ghost use Rattle.std.specs.Prelude.{◌≡◌, ◌-◌, ◌+◌, ◌≤◌, ◌<◌, length, IfSome, IsTrue};
+ghost use Rattle.mmdb_file.specs.Marker.{marker, begins, last_marker as last_marker_of};
+
+/// How long the marker is.
+pub(crate) const MARKER_LEN: usize = 14;
+
+/// Where the last marker begins, sought from the end.
+pub(crate) fn last_marker(bytes: &[u8]) -> Option<usize>
+    ensures place { result ≡ last_marker_of bytes.now }
+    ensures within { IfSome result (λ place. place + 14 ≤ length bytes.now) }
+{
+    let mut place = bytes.len();
+    while place > 0 {
+        place -= 1;
+        if begins_marker(&bytes[place..]) {
+            return Some(place);
+        }
+    }
+    None
+}
+
+#[tactic(auto, unfolding(crate::specs::Marker::marker))]
+fn begins_marker(bytes: &[u8]) -> bool
+    ensures value { result ≡ begins marker bytes.now }
+    ensures long { IsTrue result → 14 ≤ length bytes.now }
+{
+    matches!(
+        bytes,
+        [0xAB, 0xCD, 0xEF, b'M', b'a', b'x', b'M', b'i', b'n', b'd', b'.', b'c', b'o', b'm', ..]
+    )
+}
