@@ -4,7 +4,7 @@ use Rattle.std.proofs.lemmas.Nat.{pow-add, pow_pos}
 use Rattle.std.proofs.Math.Nat.{mul-le-mul_right, div-lt_iff_lt-mul}
 
 -- a multiple of p that lies below n * p ends at n * p at the latest, where p numbers begin at it
-multiple_ends : (first p n : ℕ) → 0 < p → first < n * p → first % p ≡ 0 → first + p ≤ n * p
+pub multiple_ends : (first p n : ℕ) → 0 < p → first < n * p → first % p ≡ 0 → first + p ≤ n * p
 multiple_ends first p n some below aligned =
     let before : first / p < n = (div-lt_iff_lt-mul some).1 below in
     let next : (first / p + 1) * p ≤ n * p = mul-le-mul_right p (omega arith) in

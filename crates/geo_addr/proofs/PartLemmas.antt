@@ -13,7 +13,7 @@ use Rattle.std.proofs.Math.Nat.{pow-le-pow_left, pow-le-pow_right}
 use Rattle.geo_addr.specs.Decimals.{has_digits, decimal}
 use Rattle.geo_addr.specs.Lines.{pieces}
 
-not_separator : (test : ℕ → Bool) (c : ℕ) (text : List ℕ) → test c ≡ false → list_all test text ≡ true → All (λ b. eqb b c ≡ false) text
+pub not_separator : (test : ℕ → Bool) (c : ℕ) (text : List ℕ) → test c ≡ false → list_all test text ≡ true → All (λ b. eqb b c ≡ false) text
 not_separator test c [] other passes = All-nil (λ b. eqb b c ≡ false)
 not_separator test c (b ∷ bs) other passes =
     let both = and_parts (test b) (list_all test bs) passes in

@@ -12,7 +12,7 @@ cut_first-free separator (b ∷ bs) free =
     rw (ne_eqb b separator (free 0 0 (omega arith)), cut_first-free separator bs (λ k d l. free (suc k) d (omega arith))) refl
 
 -- a text is cut at the separator that has none before it
-cut_first-at : (separator : ℕ) (before after : List ℕ) → All (λ b. b ≢ separator) before → cut_first separator (before ++ separator ∷ after) ≡ (before, Some after)
+pub cut_first-at : (separator : ℕ) (before after : List ℕ) → All (λ b. b ≢ separator) before → cut_first separator (before ++ separator ∷ after) ≡ (before, Some after)
 cut_first-at separator [] after free = rw (eq-eqb separator separator refl) refl
 cut_first-at separator (b ∷ bs) after free =
     rw (ne_eqb b separator (free 0 0 (omega arith)), cut_first-at separator bs after (λ k d l. free (suc k) d (omega arith))) refl

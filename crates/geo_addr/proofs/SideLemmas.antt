@@ -28,7 +28,7 @@ pub group_not_bad : (part : List ℕ) → is_group part ≡ true → has_bad_oct
 unfolding has_bad_octet
 group_not_bad part group = and_left _ _ (group_not_dotted part group)
 
-groups_of-group : (part : List ℕ) → is_group part ≡ true → groups_of part ≡ digits_value 16 part ∷ []
+pub groups_of-group : (part : List ℕ) → is_group part ≡ true → groups_of part ≡ digits_value 16 part ∷ []
 unfolding groups_of
 groups_of-group part group = rw group refl
 
@@ -126,7 +126,7 @@ reads_last_fault dots old part Octet allowed other is =
 reads_last_fault dots old part Groups allowed other is = absurd (tells_dotted (pieces 46 part) (Err Groups) is)
 
 -- a text that is not empty has the members that stand between its colons
-members-some : (text : List ℕ) → false ≡ (length text == 0) → members text ≡ pieces 58 text
+pub members-some : (text : List ℕ) → false ≡ (length text == 0) → members text ≡ pieces 58 text
 members-some [] some = absurd (false≢true some)
 members-some (b ∷ bs) some = refl
 

@@ -1,5 +1,5 @@
 -- What is printed of addresses, blocks and ranges (RFC 5952; IPv6 in hexadecimal groups alone).
-use Rattle.std.specs.Prelude.{ℕ, zero, suc, ◌-◌, ◌/◌, ◌%◌, ◌^◌, Bool, not, nat_lt, if◌then◌else◌, List, [], ◌∷◌, ◌++◌, codes, decimal}
+use Rattle.std.specs.Prelude.{ℕ, zero, suc, ◌-◌, ◌/◌, ◌%◌, ◌^◌, Bool, not, nat_le, if◌then◌else◌, List, [], ◌∷◌, ◌++◌, codes, decimal}
 use Rattle.std.specs.Net.Text.{ipv4_text, hex_groups_text}
 use Rattle.geo_addr.specs.Ranges.{Ends, Prefix, is_v4, range_of_block}
 
@@ -30,13 +30,16 @@ number_text six n = if six then text6 n else text4 n
 
 -- an address: in the form of its own family
 abbrev pub address_text : ℕ → List ℕ
-address_text n = number_text (not (nat_lt n (2 ^ 32))) n
+address_text n = number_text (nat_le (2 ^ 32) n) n
 
--- a block: its first address, and its length in the bits of its family
+-- the length of a block in bits of its family
+unfoldable pub printed_length : Prefix → ℕ
+printed_length block = if is_v4 (range_of_block block) then block.len - 96 else block.len
+
+-- a block: its first address, in the form of its family, and its length
 abbrev pub block_text : Prefix → List ℕ
 block_text block =
-    if is_v4 (range_of_block block) then text4 block.first ++ codes "/" ++ decimal (block.len - 96)
-    else text6 block.first ++ codes "/" ++ decimal block.len
+    number_text (not (is_v4 (range_of_block block))) block.first ++ codes "/" ++ decimal (printed_length block)
 
 -- a range: its first and its last address, both in the form of its family
 abbrev pub range_text : Ends → List ℕ

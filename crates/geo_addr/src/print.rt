@@ -2,7 +2,7 @@ ghost use Rattle.std.specs.Prelude.{◌≡◌, ◌/◌, ◌%◌, ◌^◌, ◌<�
 ghost use Rattle.std.specs.Net.Addr.{ipv4_octets, ipv6_segments};
 ghost use Rattle.geo_addr.specs.AddressTexts.{address_in};
 ghost use Rattle.geo_addr.specs.Prefixes.{block_in};
-ghost use Rattle.geo_addr.specs.Printing.{address_text, block_text, eight_groups, four_octets, number_text, range_text};
+ghost use Rattle.geo_addr.specs.Printing.{address_text, block_text, eight_groups, four_octets, number_text, printed_length, range_text};
 ghost use Rattle.geo_addr.specs.Spans.{span_in};
 
 use crate::addr::Addr;
@@ -52,13 +52,24 @@ pub fn block_text(alloc: Global, block: Block) -> Result<Text, Memory>
     ensures text { IfOk result (λ t. t ≡ block_text block) }
     ensures reads_back { IfOk result (λ t. block_in t ≡ Ok block) }
 {
-    let six = !range_of(block).is_v4();
     let first = Shown {
-        six,
+        six: !range_of(block).is_v4(),
         number: block.first,
     };
-    let length = if six { block.len } else { block.len - 96 };
+    let length = printed_length(block);
     Ok(Text::from_string(format!(in alloc; "{first}/{length}")?))
+}
+
+/// The length of a block in bits of its family.
+#[tactic(auto, unfolding(crate::specs::Printing::printed_length))]
+fn printed_length(block: Block) -> u8
+    ensures { result ≡ printed_length block }
+{
+    if range_of(block).is_v4() {
+        block.len - 96
+    } else {
+        block.len
+    }
 }
 
 /// The text of a range: `FIRST-LAST`, both in the form of its family.
