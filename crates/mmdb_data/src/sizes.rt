@@ -14,7 +14,7 @@ pub(crate) const MOST: usize = 16_843_036;
 pub(crate) const LEVELS: u8 = 32;
 
 /// Whether the value can be written: every map, list, text and byte string has at most 16,843,036
-/// pairs, members or bytes, and values are nested at most 32 deep.
+/// pairs, members or bytes, and values are nested at most 32 deep, the outermost counted.
 pub fn fits(value: &Value) -> bool
     ensures { IsTrue result ↔ CanBeSpelled (tree value.now) }
 {

@@ -12,10 +12,13 @@ use byteorder::{BigEndian, ByteOrder};
 use geo_addr::{Memory, Text};
 use std::alloc::Global;
 
-/// Appends the value to a data section, without pointers.
+/// Room for most values at once, so that few are moved while they grow.
+const ROOM: usize = 128;
+
+/// Appends the value to a data section: the fewest size bytes, the fewest bytes of each number, no
+/// pointers (MaxMind DB 2.0, "Output Data Section").
 ///
-/// For whoever follows no more than 100,000 values, keys counted, the value stands at the place where
-/// the section ended before, whatever is appended after it.
+/// The value then stands at the offset where the section ended before, whatever is appended later.
 pub fn encode(alloc: Global, value: &Value, out: &mut Vec<u8>) -> Result<(), Memory>
     requires { CanBeSpelled (tree value.now) }
     ensures spelled { OnOk result (out.new.items ≡ out.old.items ++ spelling (tree value.now)) }
@@ -23,7 +26,7 @@ pub fn encode(alloc: Global, value: &Value, out: &mut Vec<u8>) -> Result<(), Mem
         → reads (out.new.items ++ after) (length out.old.items) ≡ Ok (tree value.now)) }
     ensures refused { OnErr result (out.new.items ≡ out.old.items) }
 {
-    let mut spelled = Vec::new(alloc);
+    let mut spelled = Vec::with_capacity(alloc, ROOM)?;
     put_value(&mut spelled, value)?;
     out.extend_from_slice(&spelled)?;
     Ok(())

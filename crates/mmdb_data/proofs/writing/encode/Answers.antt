@@ -13,7 +13,7 @@ returns-clause-read_back c =
     let whole = c.in_ok-extend_from_slice.ensures.items in
     let from = c.deref.ensures.value in
     let spelled = c.in_ok-put_value.ensures.spelled in
-    let empty = c.new-spelled.ensures.items in
+    let empty = c.in_ok-spelled.ensures.items in
     let typed = c.in_ok-put_value.ensures.typed in
     let is : c.extend_from_slice.new.self.items ≡ before ++ spelling value = whole ∙ ap (λ (x : List ℕ). before ++ x) (from ∙ spelled ∙ ap (λ (x : List ℕ). x ++ spelling value) empty) in
     ap (λ (x : List ℕ). reads (x ++ after) (length before)) is ∙ ap (λ (s : List ℕ). reads s (length before)) (append_assoc before (spelling value) after) ∙ is_read_again value before after c.requires typed few
