@@ -1,5 +1,5 @@
 -- The edges of ranges, gathered one range after another.
-use Rattle.std.proofs.Common.{◌≡◌, ℕ, ◌+◌, ◌<◌, ◌≤◌, ◌↔◌, ◌⊎◌, inl, inr, List, [], ◌∷◌, ◌++◌, length, get_or, take, arith, refl, sym, ap, subst, ◌∙◌}
+use Rattle.std.proofs.Common.{◌≡◌, ℕ, ◌+◌, ◌<◌, ◌≤◌, ◌↔◌, ◌⊎◌, inl, inr, List, [], ◌∷◌, ◌++◌, length, get_or, take, arith, sym, ap, subst, ◌∙◌}
 use Rattle.std.specs.Prelude.{Any, Contains, IsPermutation, IsSorted, nat_eq}
 use Rattle.std.specs.Ordering.{nat_cmp}
 use Rattle.std.specs.List.Retain.{IsFiltered, DiffersFromLast}
@@ -32,8 +32,8 @@ module _ {X : Type 0} (P : X → Type 0) where
 
 -- both edges of a range
 pub push_both : (old mid new : List ℕ) (r within : Ends) (p q : ℕ) → p ≡ ground_first r → q ≡ r.last + 1 → ((c : ℕ) → Contains mid c ↔ (Contains old c ⊎ ((c ≡ p) × IsWithin within c))) → ((c : ℕ) → Contains new c ↔ (Contains mid c ⊎ ((c ≡ q) × IsWithin within c))) → (c : ℕ) → Contains new c ↔ (Contains old c ⊎ (IsEdge c r × IsWithin within c))
-push_both old mid new r within p q p_is q_is first past c =
-    (λ has.
+push_both old mid new r within p q p_is q_is first past c = (
+  λ has.
       elim ((past c).0 has) [
         | inl there ↦
             elim ((first c).0 there) [
@@ -42,7 +42,7 @@ push_both old mid new r within p q p_is q_is first past c =
             ]
         | inr here ↦ inr (inr (here.0 ∙ q_is), here.1)
       ],
-     λ either.
+  λ either.
       elim either [
         | inl before ↦ (past c).1 (inl ((first c).1 (inl before)))
         | inr edge ↦
@@ -50,17 +50,18 @@ push_both old mid new r within p q p_is q_is first past c =
               | inl begin ↦ (past c).1 (inl ((first c).1 (inr (begin ∙ sym p_is, edge.1))))
               | inr end ↦ (past c).1 (inr (end ∙ sym q_is, edge.1))
             ]
-      ])
+      ],
+)
 
 -- the first edge of a range whose other edge lies outside
 pub push_first : (old new : List ℕ) (r within : Ends) (p : ℕ) → p ≡ ground_first r → within.last ≤ r.last → ((c : ℕ) → Contains new c ↔ (Contains old c ⊎ ((c ≡ p) × IsWithin within c))) → (c : ℕ) → Contains new c ↔ (Contains old c ⊎ (IsEdge c r × IsWithin within c))
-push_first old new r within p p_is outside first c =
-    (λ has.
+push_first old new r within p p_is outside first c = (
+  λ has.
       elim ((first c).0 has) [
         | inl before ↦ inl before
         | inr here ↦ inr (inl (here.0 ∙ p_is), here.1)
       ],
-     λ either.
+  λ either.
       elim either [
         | inl before ↦ (first c).1 (inl before)
         | inr edge ↦
@@ -68,31 +69,34 @@ push_first old new r within p p_is outside first c =
               | inl begin ↦ (first c).1 (inr (begin ∙ sym p_is, edge.1))
               | inr end ↦ absurd (omega (arith, end, edge.1.1))
             ]
-      ])
+      ],
+)
 
 -- the cut points of one range more
 pub cuts_more : (ranges : List Ends) (i : ℕ) (r : Ends) (old new : List ℕ) (within : Ends) → i < length ranges → r ≡ get_or ranges i r → AreCuts (take i ranges) within old → ((c : ℕ) → Contains new c ↔ (Contains old c ⊎ (IsEdge c r × IsWithin within c))) → AreCuts (take (i + 1) ranges) within new
 cuts_more ranges i r old new within inside r_is before step c =
     let P : List Ends → Type 0 = λ rs. IsCut rs c in
-    let is : take (i + 1) ranges ≡ take i ranges ++ r ∷ [] = take_more ranges i r inside ∙ ap (λ (x : Ends). take i ranges ++ x ∷ []) (sym r_is) in
-    (λ has.
-      elim ((step c).0 has) [
-        | inl there ↦ let cut = (before c).0 there in (subst P (sym is) (Any-left (IsEdge c) (take i ranges) r cut.0), cut.1)
-        | inr here ↦ (subst P (sym is) (Any-last (IsEdge c) (take i ranges) r here.0), here.1)
-      ],
-     λ cut.
-      elim (Any-cases (IsEdge c) (take i ranges) r (subst P is cut.0)) [
-        | inl there ↦ (step c).1 (inl ((before c).1 (there, cut.1)))
-        | inr edge ↦ (step c).1 (inr (edge, cut.1))
-      ])
+    let is : take (i + 1) ranges ≡ take i ranges ++ r ∷ [] = take_more ranges i r inside ∙ ap (λ (x : Ends). take i ranges ++ x ∷ []) (sym r_is) in (
+      λ has.
+          elim ((step c).0 has) [
+            | inl there ↦ let cut = (before c).0 there in (subst P (sym is) (Any-left (IsEdge c) (take i ranges) r cut.0), cut.1)
+            | inr here ↦ (subst P (sym is) (Any-last (IsEdge c) (take i ranges) r here.0), here.1)
+          ],
+      λ cut.
+          elim (Any-cases (IsEdge c) (take i ranges) r (subst P is cut.0)) [
+            | inl there ↦ (step c).1 (inl ((before c).1 (there, cut.1)))
+            | inr edge ↦ (step c).1 (inr (edge, cut.1))
+          ],
+    )
 
 -- sorting, and dropping repeats, change no cut point
 pub cuts_sorted : (ranges : List Ends) (within : Ends) (places sorted kept : List ℕ) → IsPermutation places sorted → IsFiltered (DiffersFromLast nat_eq) [] sorted kept → AreCuts ranges within places → AreCuts ranges within kept
 cuts_sorted ranges within places sorted kept moved filtered cuts c =
     let is = dedup_is nat_eq sorted kept filtered in
-    let P : List ℕ → Type 0 = λ xs. Contains xs c in
-    (λ has. (cuts c).0 (Contains-permutation sorted places c (IsPermutation-sym places sorted moved) (Contains-from_dedup nat_eq sorted c (subst P is has))),
-     λ cut. subst P (sym is) (Contains-dedup_nat sorted c (Contains-permutation places sorted c moved ((cuts c).1 cut))))
+    let P : List ℕ → Type 0 = λ xs. Contains xs c in (
+      λ has. (cuts c).0 (Contains-permutation sorted places c (IsPermutation-sym places sorted moved) (Contains-from_dedup nat_eq sorted c (subst P is has))),
+      λ cut. subst P (sym is) (Contains-dedup_nat sorted c (Contains-permutation places sorted c moved ((cuts c).1 cut))),
+    )
 
 -- and they leave the places ascending
 pub places_ascend : (sorted kept : List ℕ) → IsSorted nat_cmp sorted → IsFiltered (DiffersFromLast nat_eq) [] sorted kept → IsStrictlyIncreasing kept

@@ -1,13 +1,13 @@
 -- The list of largest blocks from a place on has exactly the addresses, and no list of blocks is shorter.
-use Rattle.std.proofs.Common.{◌≡◌, ℕ, zero, suc, ◌+◌, ◌-◌, ◌^◌, ◌<◌, ◌≤◌, ◌↔◌, Bool, true, false, cond, ◌⊎◌, inl, inr, List, [], ◌∷◌, length, arith, refl, sym, ap, subst, ◌∙◌}
-use Rattle.std.specs.Prelude.{All, Option, None, Some, nat_lt, nat_le, if◌then◌else◌}
+use Rattle.std.proofs.Common.{◌≡◌, ℕ, zero, suc, ◌+◌, ◌-◌, ◌^◌, ◌<◌, ◌≤◌, true, false, cond, inl, inr, List, [], ◌∷◌, length, arith, refl, sym, ap, subst, ◌∙◌}
+use Rattle.std.specs.Prelude.{Option, None, Some, nat_lt, nat_le}
 use Rattle.std.specs.List.{AllByRecursion}
 use Rattle.std.proofs.lemmas.Bool.{cases_lt}
 use Rattle.std.proofs.lemmas.Bool.Decides.{nat_tests}
 use Rattle.std.proofs.lemmas.List.Elements.{All-from_recursion, recursion_from_All}
 use Rattle.std.proofs.lemmas.Nat.{pow_pos}
 use Rattle.geo_addr.specs.Ranges.{Ends, Prefix, IsBlock, IsRange, IsWithin, range_of_block}
-use Rattle.split_core.specs.Least.{past, Covers, HaveAddresses, Ascend, AreLeastFor}
+use Rattle.split_core.specs.Least.{past, Covers, Ascend, AreLeastFor}
 use Rattle.split_core.specs.Walk.{largest_block, blocks_from, blocks_of, blocks_left}
 use Rattle.split_core.proofs.Rooms.{IsLargest, largest_block_is}
 
@@ -80,10 +80,10 @@ from_covers (suc n) first end a low enough from to =
     let more = pow_pos (128 - b.len) in
     let P : List Prefix → Type 0 = λ bs. Covers bs a in
     subst P (sym (from_more n first end some))
-      (elim (cases_lt a (past b)) [
-        | inl here ↦ inl (has_from b a from here)
-        | inr later ↦ inr (from_covers n (past b) end a low (omega arith) later to)
-      ])
+    (elim (cases_lt a (past b)) [
+      | inl here ↦ inl (has_from b a from here)
+      | inr later ↦ inr (from_covers n (past b) end a low (omega arith) later to)
+    ])
 
 covers_less : (n first end a : ℕ) → Covers (blocks_from n first end) a → end ≤ first → ⊥
 covers_less n first end a has none =
@@ -160,16 +160,16 @@ kept_covers (c ∷ cs) b first end a is inside later has =
     elim (cases_lt c.first (past b)) [
       | inl earlier ↦
           subst P (sym (keep_not (past b) c cs earlier))
-            (elim has [
-              | inl here ↦ absurd (omega (arith, has_to c a here, is.most c inside.0.block inside.0.from earlier inside.0.to))
-              | inr there ↦ kept_covers cs b first end a is inside.1 later there
-            ])
+          (elim has [
+            | inl here ↦ absurd (omega (arith, has_to c a here, is.most c inside.0.block inside.0.from earlier inside.0.to))
+            | inr there ↦ kept_covers cs b first end a is inside.1 later there
+          ])
       | inr beyond ↦
           subst P (sym (keep_later (past b) c cs beyond))
-            (elim has [
-              | inl here ↦ inl here
-              | inr there ↦ inr (kept_covers cs b first end a is inside.1 later there)
-            ])
+          (elim has [
+            | inl here ↦ inl here
+            | inr there ↦ inr (kept_covers cs b first end a is inside.1 later there)
+          ])
     ]
 
 kept_shorter : (cs : List Prefix) (place : ℕ) → length (kept place cs) ≤ length cs
@@ -219,8 +219,8 @@ blocks_least r is =
       ascending = from_ascends n r.first end;
       exact = λ a. (λ has. let w = from_within n r.first end a low has in (w.0, omega (arith, w.1)), λ w. from_covers n r.first end a low (omega arith) w.0 (omega (arith, w.1)));
       least = λ others blocks have.
-        let within : (a : ℕ) → Covers others a → (r.first ≤ a) × (a < end) = λ a has. let w = (have a).0 has in (w.0, omega (arith, w.1)) in
-        from_least n r.first end low others (members_inside others r.first end (recursion_from_All IsBlock others blocks) within) (λ a from to. (have a).1 (from, omega arith))
+          let within : (a : ℕ) → Covers others a → (r.first ≤ a) × (a < end) = λ a has. let w = (have a).0 has in (w.0, omega (arith, w.1)) in
+          from_least n r.first end low others (members_inside others r.first end (recursion_from_All IsBlock others blocks) within) (λ a from to. (have a).1 (from, omega arith));
     }
 
 -- the blocks of a range begin with the largest, and go on past it

@@ -1,5 +1,5 @@
 -- Room for a block at a place, and the largest block that has room.
-use Rattle.std.proofs.Common.{◌≡◌, ℕ, zero, suc, ◌+◌, ◌-◌, ◌*◌, ◌/◌, ◌%◌, ◌^◌, ◌<◌, ◌≤◌, Bool, true, false, cond, leb, nat_eq, bit_and, ◌⊎◌, inl, inr, arith, refl, sym, ap, subst, ◌∙◌}
+use Rattle.std.proofs.Common.{◌≡◌, ℕ, zero, suc, ◌+◌, ◌-◌, ◌%◌, ◌^◌, ◌<◌, ◌≤◌, Bool, true, false, cond, leb, nat_eq, bit_and, ◌⊎◌, inl, inr, arith, refl, sym, ap, subst, ◌∙◌}
 use Rattle.std.proofs.lemmas.Bool.{cases_lt}
 use Rattle.std.proofs.lemmas.Bool.Decides.{nat_tests}
 use Rattle.std.proofs.lemmas.Nat.{pow_pos, and_mask}
@@ -135,10 +135,10 @@ largest_block_is first end some low =
     let aligned : first % 2 ^ (128 - (128 - j)) ≡ 0 = subst (λ k. first % 2 ^ k ≡ 0) (sym bits) room.0 in
     let inside : first + 2 ^ (128 - (128 - j)) ≤ end = subst (λ k. first + 2 ^ k ≤ end) (sym bits) room.1 in
     let most : (i : ℕ) → i ≤ 128 → first % 2 ^ i ≡ 0 → first + 2 ^ i ≤ end → i ≤ 128 - (128 - j) =
-        λ i short whole fits. subst (λ k. i ≤ k) (sym bits) (largest_most 128 i first end short (room_from i first end whole fits)) in
+    λ i short whole fits. subst (λ k. i ≤ k) (sym bits) (largest_most 128 i first end short (room_from i first end whole fits)) in
     record {
       starts = refl;
       block = record { length_fits = omega arith; within = omega arith; aligned = aligned };
       inside = inside;
-      most = λ c block from below ends. ends_within first end (128 - (128 - j)) c.first (128 - c.len) aligned most (omega arith) block.aligned from below ends
+      most = λ c block from below ends. ends_within first end (128 - (128 - j)) c.first (128 - c.len) aligned most (omega arith) block.aligned from below ends;
     }

@@ -15,14 +15,35 @@ fn parts(alloc: Global, range: Range) -> Result<Vec<(u128, u8)>, Memory> {
 #[test]
 fn blocks_of_ranges(rt: HostRuntime) -> Result<(), Memory> {
     let alloc = rt.alloc();
-    let three = Range { first: 0xC000_0200, last: 0xC000_04FF };
-    assert_eq!(rt; parts(alloc, three)?.as_slice(), [(0xC000_0200, 119), (0xC000_0400, 120)].as_slice());
-    let two = Range { first: 0xC000_0100, last: 0xC000_02FF };
-    assert_eq!(rt; parts(alloc, two)?.as_slice(), [(0xC000_0100, 120), (0xC000_0200, 120)].as_slice());
-    let whole = Range { first: 0, last: u128::MAX };
+    let three = Range {
+        first: 0xC000_0200,
+        last: 0xC000_04FF,
+    };
+    assert_eq!(rt;
+        parts(alloc, three)?.as_slice(),
+        [(0xC000_0200, 119), (0xC000_0400, 120)].as_slice()
+    );
+    let two = Range {
+        first: 0xC000_0100,
+        last: 0xC000_02FF,
+    };
+    assert_eq!(rt;
+        parts(alloc, two)?.as_slice(),
+        [(0xC000_0100, 120), (0xC000_0200, 120)].as_slice()
+    );
+    let whole = Range {
+        first: 0,
+        last: u128::MAX,
+    };
     assert_eq!(rt; parts(alloc, whole)?.as_slice(), [(0, 0)].as_slice());
-    let top = Range { first: u128::MAX - 2, last: u128::MAX };
-    assert_eq!(rt; parts(alloc, top)?.as_slice(), [(u128::MAX - 2, 128), (u128::MAX - 1, 127)].as_slice());
+    let top = Range {
+        first: u128::MAX - 2,
+        last: u128::MAX,
+    };
+    assert_eq!(rt;
+        parts(alloc, top)?.as_slice(),
+        [(u128::MAX - 2, 128), (u128::MAX - 1, 127)].as_slice()
+    );
     Ok(())
 }
 
@@ -30,9 +51,25 @@ fn blocks_of_ranges(rt: HostRuntime) -> Result<(), Memory> {
 #[test]
 fn cut_points_within_a_range(rt: HostRuntime) -> Result<(), Memory> {
     let alloc = rt.alloc();
-    let whole = Range { first: 0, last: u128::MAX };
-    let ranges = [Range { first: 8, last: 15 }, Range { first: 16, last: 19 }, whole];
-    assert_eq!(rt; cuts(alloc, &ranges, whole)?.as_slice(), [8, 16, 20, 1 << 32].as_slice());
-    assert_eq!(rt; cuts(alloc, &ranges, Range { first: 9, last: 20 })?.as_slice(), [16, 20].as_slice());
+    let whole = Range {
+        first: 0,
+        last: u128::MAX,
+    };
+    let ranges = [
+        Range { first: 8, last: 15 },
+        Range {
+            first: 16,
+            last: 19,
+        },
+        whole,
+    ];
+    assert_eq!(rt;
+        cuts(alloc, &ranges, whole)?.as_slice(),
+        [8, 16, 20, 1 << 32].as_slice()
+    );
+    assert_eq!(rt;
+        cuts(alloc, &ranges, Range { first: 9, last: 20 })?.as_slice(),
+        [16, 20].as_slice()
+    );
     Ok(())
 }

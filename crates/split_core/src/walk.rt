@@ -1,6 +1,6 @@
 //! The blocks of a range, one after another.
 ghost use Rattle.std.specs.Prelude.{◌≡◌, ◌∷◌, ◌+◌, ◌-◌, ◌^◌, ◌≤◌, [], MatchOption};
-ghost use Rattle.std.specs.Iterator.{YieldsFirst};
+ghost use Rattle.std.specs.Iterator.{YieldsFirst, item_count};
 ghost use Rattle.split_core.specs.Walk.{is_room, largest_block, blocks_of};
 
 use geo_addr::{Block, Range, range_of};
@@ -39,10 +39,10 @@ impl Iterator for Blocks {
 
     ghost next_gives = { YieldsFirst (λ left. left) };
 
+    ghost remaining = { item_count (λ left. left) };
+
     /// The next block, or None exactly where all were given.
-    fn next(&mut self) -> Option<Block>
-        ensures { MatchOption result ((self.old ≡ []) × (self.new ≡ [])) (λ block. self.old ≡ block ∷ self.new) }
-    {
+    fn next(&mut self) -> Option<Block> {
         let range = self.left?;
         let block = largest_of(range);
         let end = range_of(block).last;

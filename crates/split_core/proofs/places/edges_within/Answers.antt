@@ -1,4 +1,4 @@
-use Rattle.std.proofs.Common.{◌≡◌, List, ◌≤◌, length, take, subst, arith}
+use Rattle.std.proofs.Common.{List, ◌≤◌, length, subst, arith}
 use Rattle.std.proofs.lemmas.List.{take_all}
 use Rattle.geo_addr.specs.Ranges.{Ends, AreCuts}
 use Rattle.split_core.proofs.Edges.{cuts_more}

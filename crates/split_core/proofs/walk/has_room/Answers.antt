@@ -1,4 +1,4 @@
-use Rattle.std.proofs.Common.{◌≡◌, ◌-◌, ◌≤◌, ◌∙◌, ap, arith}
+use Rattle.std.proofs.Common.{◌-◌, ◌≤◌, ap, arith}
 use Rattle.geo_addr.specs.Ranges.{Ends}
 use Rattle.split_core.proofs.Rooms.{room_by_mask, no_room_by_mask}
 use Rattle.split_core.proofs.walk.has_room.Goals as goal

@@ -1,6 +1,5 @@
-use Rattle.std.proofs.Common.{◌≡◌, ℕ, subst, ◌+◌, ◌-◌, ◌<◌, ◌≤◌, ◌^◌, ◌∙◌, false, true, ap, sym, arith}
+use Rattle.std.proofs.Common.{ℕ, subst, ◌+◌, ◌<◌, ◌≤◌, ◌^◌, ap, sym, arith}
 use Rattle.geo_addr.specs.Ranges.{Ends, IsBlock}
-use Rattle.split_core.specs.Walk.{is_room, largest}
 use Rattle.split_core.proofs.Rooms.{length_more, length_is, length_block}
 use Rattle.split_core.proofs.walk.largest_of.Goals as goal
 

@@ -1,13 +1,17 @@
-use Rattle.std.proofs.Common.{◌≡◌, ℕ, ◌+◌, ◌-◌, ◌^◌, ◌≤◌, ◌∙◌, subst, ap, sym, arith}
+use Rattle.std.proofs.Common.{◌≡◌, ◌<◌, List, ◌∷◌, ℕ, ◌+◌, ◌-◌, ◌^◌, ◌≤◌, ◌∙◌, length, subst, ap, sym, arith}
 use Rattle.std.specs.Prelude.{Option, Some}
-use Rattle.geo_addr.specs.Ranges.{Ends, IsRange}
+use Rattle.geo_addr.specs.Ranges.{Ends, Prefix, IsRange}
 use Rattle.split_core.specs.Walk.{blocks_left}
 use Rattle.split_core.proofs.LeastList.{some_left, none_left}
 use Rattle.split_core.proofs.walk.BlocksIterator.next.Goals as goal
 use Rattle.split_core.proofs.walk.BlocksIterator.next.Goals.{then-end-range, else-end-range}
 
-pub returns : goal.returns
-returns c =
+-- one block fewer is left
+fewer : (old new : List Prefix) (b : Prefix) → old ≡ b ∷ new → length new < length old
+fewer old new b is = omega (arith, ap length is)
+
+pub returns-clause-steps : goal.returns-clause-steps
+returns-clause-steps c =
     let r = c.in_ok-range.range in
     let b = c.largest_of-block.result in
     let end = c.end.inside.last in
@@ -23,3 +27,7 @@ returns c =
           let past_last : r.last ≤ end = omega (arith, w.if-end-range.false) in
           now ∙ none_left r b end c.if-end-range.self is c.largest_of-block.ensures ends past_last w.self-is
     ]
+
+pub returns-clause-goes : goal.returns-clause-goes
+returns-clause-goes c =
+    record { on = λ finite. (tt, tt, fewer _ _ _ (returns-clause-steps c)); keeps = tt; rests = λ finite. tt }
