@@ -4,5 +4,7 @@
 pub mod laws;
 mod layout;
 mod seen;
+#[cfg(test)]
+mod tests;
 
 pub use layout::{Layout, order};

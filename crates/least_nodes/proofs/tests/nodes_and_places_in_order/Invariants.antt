@@ -1,0 +1,4 @@
+use Rattle.least_nodes.proofs.tests.nodes_and_places_in_order.Given as goal
+
+abbrev pub ghosts-layout_of : goal.ghosts-layout_of
+ghosts-layout_of a = record { name = a.blank.name; parts = a.blank.parts }
