@@ -3,6 +3,7 @@ pub mod CostLemmas
 pub mod PaintLemmas
 pub mod PairLemmas
 pub mod PartLemmas
+pub mod RenameLemmas
 pub mod RootLemmas
 pub mod StoreLemmas
 pub mod TreeLemmas

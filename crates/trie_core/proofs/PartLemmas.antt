@@ -1,10 +1,10 @@
 -- Lemmas on the parts that are painted: which leaf an address has among them, and the front and the back of an ascending list.
-use Rattle.std.proofs.Common.{◌≡◌, ℕ, ◌+◌, ◌<◌, ◌≤◌, Bool, true, false, ◌&&◌, if◌then◌else◌, nat_le, leb, List, [], ◌∷◌, ◌++◌, length, take, drop, get_or, Some, None, All, refl, sym, ◌∙◌, ap, subst, arith, length-take, length-drop, take-append-drop, leb-true, leb-false, rules}
-use Rattle.std.proofs.lemmas.Bool.{lt-leb}
+use Rattle.std.proofs.Common.{◌≡◌, ℕ, ◌+◌, ◌<◌, ◌≤◌, inl, inr, Bool, true, false, ◌&&◌, if◌then◌else◌, nat_le, leb, List, [], ◌∷◌, ◌++◌, length, take, drop, get_or, Some, None, All, refl, sym, ◌∙◌, ap, subst, arith, length-take, length-drop, take-append-drop, leb-true, leb-false, rules}
+use Rattle.std.proofs.lemmas.Bool.{cases_lt, lt-leb}
 use Rattle.std.specs.List.{AllWithin}
 use Rattle.std.specs.List.Sorted.{IsPartitionedBy, IsNonDecreasingBy, IsPartitionPoint}
-use Rattle.std.proofs.lemmas.List.{get_or-take, get_or-drop}
-use Rattle.std.proofs.lemmas.List.Elements.{All-head, All-tail, All-take, All-drop}
+use Rattle.std.proofs.lemmas.List.{get_or-take, get_or-drop, get_or_append_left, get_or_at, length_push}
+use Rattle.std.proofs.lemmas.List.Elements.{All-nil, All-push, All-head, All-tail, All-take, All-drop}
 use Rattle.std.proofs.lemmas.List.Sums.{sum_by-take-le, sum_by-take-drop}
 use Rattle.std.proofs.lemmas.List.Sorted.{IsPartitionedBy-leb, IsNonDecreasingBy-from_all_adjacent}
 use Rattle.geo_addr.specs.Ranges.{IsRange}
@@ -123,4 +123,26 @@ IsBack-from_point parts middle i up point = record {
       in
       leaf_in-back (take i parts) (drop i parts) a earlier ∙ ap (λ l. leaf_in l a) (take-append-drop i parts);
   cheaper = λ n first. omega (arith, sum_by-take-drop (λ p. cut_blocks n first p.range) parts i);
+}
+
+-- ---- a list of parts that grows
+
+pub IsAscending-nil : IsAscending []
+IsAscending-nil = record { ranges = All-nil (λ p. IsRange p.range); apart = λ k d below. absurd (omega arith) }
+
+-- a part that begins after all others goes last
+pub IsAscending-push : (parts : List Part) (p : Part) → IsAscending parts → IsRange p.range → All (λ q. q.range.last < p.range.first) parts → IsAscending (parts ++ p ∷ [])
+IsAscending-push parts p up range after = record {
+  ranges = All-push (λ q. IsRange q.range) parts p up.ranges range;
+  apart = λ k d below.
+      let long : length (parts ++ p ∷ []) ≡ length parts + 1 = length_push parts p in
+      let here : get_or (parts ++ p ∷ []) k d ≡ get_or parts k d = get_or_append_left parts (p ∷ []) d k (omega arith) in
+      elim (cases_lt (k + 1) (length parts)) [
+        | inl inside ↦
+            let next : get_or (parts ++ p ∷ []) (k + 1) d ≡ get_or parts (k + 1) d = get_or_append_left parts (p ∷ []) d (k + 1) inside in
+            rw (here, next) (up.apart k d inside)
+        | inr last ↦
+            let next : get_or (parts ++ p ∷ []) (k + 1) d ≡ p = get_or_at parts p [] d (k + 1) (omega arith) in
+            rw (here, next) (after k d (omega arith))
+      ];
 }

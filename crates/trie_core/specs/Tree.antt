@@ -28,6 +28,11 @@ module _ {A : Type 0} where
   IsPartOf s (leaf a) = s ≡ leaf a
   IsPartOf s (node l r) = (s ≡ node l r) ⊎ (IsPartOf s l ⊎ IsPartOf s r)
 
+  -- the tree has such a leaf
+  abbrev pub HasLeaf : Tree A → A → Type 0
+  HasLeaf (leaf a) b = a ≡ b
+  HasLeaf (node l r) b = HasLeaf l b ⊎ HasLeaf r b
+
   -- each leaf is such an answer
   abbrev pub AllLeaves : (A → Type 0) → Tree A → Type 0
   AllLeaves P (leaf a) = P a

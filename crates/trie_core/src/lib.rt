@@ -11,3 +11,6 @@ pub use fault::StoreFault;
 pub use node::{NodeId, Pair, Rec, Root};
 pub use paint::Part;
 pub use store::Store;
+
+#[cfg(test)]
+mod tests;

@@ -1,0 +1,57 @@
+ghost use Rattle.std.specs.Prelude.{◌≡◌, ℕ, ◌<◌, IfOk};
+ghost use Rattle.geo_addr.specs.Ranges.{IsWithin};
+ghost use Rattle.trie_core.specs.Store.{IsRootOf};
+
+use crate::{Part, Root, Store, StoreFault};
+use geo_addr::{Addr, Range};
+use geo_outside::Steps;
+use std::alloc::Global;
+use std::marker::Brand;
+use std::sync::ledger::{Blank, Ledger};
+use std::test::Fail;
+
+/// Paints two parts that share no address in one order and in the other, and gives both roots.
+fn painted_in_both_orders<L: Ledger>(
+    store: &mut Store,
+    root: Root,
+    one: Part,
+    two: Part,
+    steps: &mut Steps<L>,
+) -> Result<(Root, Root), StoreFault>
+    requires of { IsRootOf store.old root }
+    requires apart { (a : ℕ) → IsWithin one.range a → IsWithin two.range a → ⊥ }
+    ensures { IfOk result (λ roots. roots.0 ≡ roots.1) }
+{
+    let with_one = store.paint(root, one.range, one.leaf, steps)?;
+    let one_then_two = store.paint(with_one, two.range, two.leaf, steps)?;
+    let with_two = store.paint(root, two.range, two.leaf, steps)?;
+    let two_then_one = store.paint(with_two, one.range, one.leaf, steps)?;
+    Ok((one_then_two, two_then_one))
+}
+
+/// The leaves of these addresses after leaf 1 was painted on the first four addresses, and leaf 2 over
+/// the third and up to the tenth.
+fn painted_over<L: Ledger>(
+    alloc: Global,
+    blank: Blank,
+    addresses: [u128; 6],
+) -> Result<[u32; 6], StoreFault>
+    requires name { blank.name ≡ L.name }
+    requires parts { blank.parts ≡ L.parts }
+    requires some { 0 < blank.parts }
+{
+    let mut steps: Steps<L> = Steps::new(blank);
+    let mut store = Store::new(alloc);
+    let root = store.empty();
+    let root = store.paint(root, Range { first: 0, last: 3 }, 1, &mut steps)?;
+    let root = store.paint(root, Range { first: 2, last: 9 }, 2, &mut steps)?;
+    Ok(addresses.map(|at| store.find(root, Addr(at))))
+}
+
+#[test]
+fn paints_over(rt: HostRuntime) -> Result<(), Fail> {
+    let addresses = [0, 1, 2, 9, 10, u128::MAX];
+    let leaves = painted_over::<Brand>(rt.alloc(), Blank::new(1), addresses)?;
+    assert_eq!(rt; leaves, [1, 1, 2, 2, 0, 0]);
+    Ok(())
+}
