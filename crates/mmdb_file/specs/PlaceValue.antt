@@ -1,28 +1,39 @@
 -- The value that stands for a place in the data section, as readers of city files know it.
-use Rattle.std.specs.Prelude.{ℕ, List, [], ◌∷◌, drop, codes}
-use Rattle.mmdb_data.specs.Tree.{Tree, Members, map, list, text, no_members, member, item, no_items}
+use Rattle.std.specs.Prelude.{ℕ, ◌==◌, List, [], ◌∷◌, ◌++◌, codes}
+use Rattle.std.specs.List.{after_first}
+use Rattle.mmdb_data.specs.Tree.{Tree, map, list, text, item, no_items}
+use Rattle.mmdb_data.specs.View.{members_of}
 use Rattle.geo_terms.specs.PlaceForm.{PlaceParts}
 
--- a map of one text
-unfoldable pub one : List ℕ → List ℕ → Tree
-one key value = map (member key (text value) no_members)
+-- a map of one member
+abbrev pub one : List ℕ → Tree → Tree
+one key value = map (members_of ((key, value) ∷ []))
 
 -- a member, left out where its text is empty
-abbrev pub unless_empty : List ℕ → List ℕ → Tree → Members → Members
-unless_empty [] key value members = members
-unless_empty (b ∷ bytes) key value members = member key value members
+abbrev pub unless_empty : List ℕ → List ℕ → Tree → List (List ℕ × Tree)
+unless_empty [] key value = []
+unless_empty (b ∷ bytes) key value = (key, value) ∷ []
 
 -- the part of a region after the dash
-abbrev pub subdivision : List ℕ → List ℕ
-subdivision region = drop 3 region
+unfoldable pub subdivision : List ℕ → List ℕ
+subdivision region = after_first (λ b. b == 45) region
+
+abbrev pub city_member : List ℕ → List (List ℕ × Tree)
+city_member city = unless_empty city (codes "city") (one (codes "names") (one (codes "en") (text city)))
+
+abbrev pub country_member : List ℕ → List (List ℕ × Tree)
+country_member country = unless_empty country (codes "country") (one (codes "iso_code") (text country))
+
+abbrev pub postal_member : List ℕ → List (List ℕ × Tree)
+postal_member postal = unless_empty postal (codes "postal") (one (codes "code") (text postal))
+
+abbrev pub subdivision_list : List ℕ → Tree
+subdivision_list region = list (item (one (codes "iso_code") (text (subdivision region))) no_items)
+
+abbrev pub region_member : List ℕ → List (List ℕ × Tree)
+region_member region = unless_empty region (codes "subdivisions") (subdivision_list region)
 
 -- keys ascend by their bytes
-unfoldable pub place_members : PlaceParts → Members
-place_members place =
-    unless_empty place.city (codes "city") (map (member (codes "names") (one (codes "en") place.city) no_members))
-    (unless_empty place.country (codes "country") (one (codes "iso_code") place.country)
-    (unless_empty place.postal (codes "postal") (one (codes "code") place.postal)
-    (unless_empty place.region (codes "subdivisions") (list (item (one (codes "iso_code") (subdivision place.region)) no_items)) no_members)))
-
 unfoldable pub place_value : PlaceParts → Tree
-place_value place = map (place_members place)
+place_value place =
+    map (members_of (city_member place.city ++ (country_member place.country ++ (postal_member place.postal ++ region_member place.region))))

@@ -5,7 +5,9 @@ mod adopted;
 mod fault;
 mod laws;
 mod marker;
+mod place;
 
 pub use adopted::Mmdb;
 pub use fault::{FileFault, OpenFault, WalkFault};
+pub use place::place_value;
 pub use laws::last_marker_is_the_writers;
