@@ -1,16 +1,16 @@
 -- The text of an IPv4 address reads back as its octets.
-use Rattle.std.proofs.Common.{◌≡◌, ◌≢◌, ℕ, zero, suc, ◌+◌, ◌-◌, ◌*◌, ◌/◌, ◌%◌, ◌^◌, ◌<◌, ◌≤◌, Bool, true, false, ◌&&◌, ◌||◌, not, nat_lt, nat_le, eqb, ◌==◌, inl, inr, List, [], ◌∷◌, ◌++◌, length, get_or, decimal, Ok, All, refl, sym, ap, ◌∙◌, subst, arith, lit<, append_assoc}
+use Rattle.std.proofs.Common.{◌≡◌, ℕ, ◌+◌, ◌*◌, ◌/◌, ◌%◌, ◌^◌, ◌<◌, ◌≤◌, true, false, ◌||◌, not, nat_lt, eqb, ◌==◌, inl, inr, List, [], ◌∷◌, ◌++◌, length, get_or, decimal, Ok, All, refl, sym, ap, ◌∙◌, arith, lit<, append_assoc}
 use Rattle.std.specs.Char.{digit_value, is_ascii_digit}
-use Rattle.std.specs.List.{list_all, slice_split}
-use Rattle.std.specs.Str.Parse.{AllDigits, IsNumeral, digits_value}
-use Rattle.std.specs.Net.Text.{dotted_text, ipv4_text}
+use Rattle.std.specs.List.{list_all}
+use Rattle.std.specs.Str.Parse.{AllDigits, digits_value}
+use Rattle.std.specs.Net.Text.{dotted_text}
 use Rattle.std.proofs.lemmas.Bool.{cases_lt, and_from, or_left, or_right, not_from_false, le-leb, lt-ltb, ne_eqb}
 use Rattle.std.proofs.lemmas.Bool.Decides.{nat_tests}
 use Rattle.std.proofs.lemmas.Fmt.{decimal_is_IsNumeral, decimal_digit, length-decimal-le, first_decimal}
 use Rattle.std.proofs.lemmas.List.Splits.{slice_split_at}
 use Rattle.geo_addr.specs.Decimals.{has_digits}
 use Rattle.geo_addr.specs.Lines.{pieces}
-use Rattle.geo_addr.specs.Ipv4Texts.{is_part, is_octet, ipv4_in, ipv4_of, octets_number}
+use Rattle.geo_addr.specs.Ipv4Texts.{is_octet, ipv4_in, ipv4_of, octets_number}
 use Rattle.geo_addr.specs.Printing.{four_octets, text4}
 use Rattle.geo_addr.proofs.PartLemmas.{not_separator}
 use Rattle.geo_addr.proofs.V4Lemmas.{AreParts, four_octets as reads_octets}

@@ -1,13 +1,13 @@
 -- The text of an IPv6 address reads back as its groups.
-use Rattle.std.proofs.Common.{◌≡◌, ℕ, zero, suc, ◌+◌, ◌-◌, ◌*◌, ◌/◌, ◌%◌, ◌^◌, ◌<◌, ◌≤◌, ◌==◌, Bool, true, false, ◌&&◌, ◌||◌, nat_eq, nat_le, eqb, List, [], ◌∷◌, ◌++◌, length, take, drop, map, flat_map, replicate, codes, Option, None, Some, Result, Ok, All, refl, sym, ap, ◌∙◌, subst, arith, inl, inr, add-one, add-zero, append_assoc, append-nil, length-append, length-drop, take-append-drop, length-take-le}
+use Rattle.std.proofs.Common.{◌≡◌, ℕ, zero, suc, ◌+◌, ◌-◌, ◌/◌, ◌%◌, ◌^◌, ◌<◌, ◌≤◌, ◌==◌, Bool, true, false, nat_le, eqb, List, [], ◌∷◌, ◌++◌, length, take, drop, map, flat_map, Option, None, Some, Ok, All, refl, sym, ap, ◌∙◌, arith, inl, inr, add-zero, append_assoc, append-nil, length-append, length-drop, take-append-drop, length-take-le}
 use Rattle.std.specs.Option.{option_map}
-use Rattle.std.specs.List.{list_any, list_all, slice_split, starts_with, AllByRecursion}
-use Rattle.std.specs.Char.{digit_char, digit_value, is_digit}
+use Rattle.std.specs.List.{list_any, list_all}
+use Rattle.std.specs.Char.{is_digit}
 use Rattle.std.specs.Str.Parse.{digits_value}
 use Rattle.std.specs.Int.Digits.{number_from_digits_after, AllBelowBase}
 use Rattle.std.specs.Net.Grammar.{IsGroup}
 use Rattle.std.specs.Net.Text.{hex, groups_text, longest_zero_run, hex_groups_text}
-use Rattle.std.proofs.lemmas.Bool.{cases_lt, and_parts, and_from, or_right, ne_eqb, eqb-false, le-leb, lt-leb, lt-ltb, le-ltb, false≢true}
+use Rattle.std.proofs.lemmas.Bool.{cases_lt, and_parts, or_right, ne_eqb, eqb-false, le-leb, lt-leb, lt-ltb, le-ltb, false≢true}
 use Rattle.std.proofs.lemmas.Str.{digit_value-digit_char}
 use Rattle.std.proofs.lemmas.List.Splits.{slice_split_at}
 use Rattle.std.proofs.lemmas.List.Folds.{list_any-append}
@@ -16,9 +16,9 @@ use Rattle.std.proofs.Math.Seq.{take-add, take-append_seam, drop-append-add}
 use Rattle.std.proofs.NetLemmas.Texts.{IsZeroRun-longest_zero_run}
 use Rattle.geo_addr.specs.Lines.{pieces}
 use Rattle.geo_addr.specs.AddressTexts.{is_six}
-use Rattle.geo_addr.specs.Ipv6Texts.{is_group, has_bad_octet, are_members, groups_of, members, is_list, groups_in, any_bad_octet, groups_number, double_at, whole_address, elided_address, address_at, ipv6_in, filled}
+use Rattle.geo_addr.specs.Ipv6Texts.{is_group, has_bad_octet, are_members, groups_of, members, is_list, groups_in, any_bad_octet, groups_number, double_at, whole_address, elided_address, ipv6_in, filled}
 use Rattle.geo_addr.specs.Printing.{groups_before, eight_groups, text6}
-use Rattle.geo_addr.proofs.GroupLemmas.{ReadDigits, is_group-read}
+use Rattle.geo_addr.proofs.GroupLemmas.{is_group-read}
 use Rattle.geo_addr.proofs.PartLemmas.{not_separator, pieces_all}
 use Rattle.geo_addr.proofs.SideLemmas.{group_not_bad, groups_of-group, members-some}
 

@@ -1,16 +1,11 @@
 -- Pieces of a text, and the number that digits spell.
-use Rattle.std.proofs.Common.{◌≡◌, ℕ, zero, suc, ◌+◌, ◌*◌, ◌^◌, ◌<◌, ◌≤◌, Bool, true, false, cond, eqb, ltb, List, [], ◌∷◌, length, get_or, take, drop, position, Some, None, refl, sym, ap, ◌∙◌, add-one, lit<, length-take-le, length-drop, take_all, ◌-◌, subst, arith}
-use Rattle.std.specs.List.{slice_split, onto_first, All, list_all, position_or_len, join_with_byte}
-use Rattle.std.specs.Char.{is_ascii_digit, is_digit, digit_value}
-use Rattle.std.specs.Str.Parse.{AllDigits, digits_value}
-use Rattle.std.proofs.lemmas.Bool.{ltb-false, lt-ltb, le-leb, and_from, and_parts, ne_eqb, false≢true}
-use Rattle.std.proofs.lemmas.List.Quantifiers.{position-Some}
-use Rattle.std.proofs.lemmas.List.Splits.{slice_split_none, slice_split-cons_yes, slice_split-cons_no, join_with_byte-slice_split}
-use Rattle.std.proofs.lemmas.List.Sums.{fails_before_first}
-use Rattle.std.proofs.lemmas.List.Elements.{All-nil, All-cons, All-from_get_or}
-use Rattle.std.proofs.lemmas.Int.Digits.{digits_value-lt, digits_more, digits_value_more}
-use Rattle.std.proofs.Math.Nat.{pow-le-pow_left, pow-le-pow_right}
-use Rattle.geo_addr.specs.Decimals.{has_digits, decimal}
+use Rattle.std.proofs.Common.{◌≡◌, ℕ, Bool, true, false, eqb, List, [], ◌∷◌, length, take, drop, refl, sym, ap, ◌∙◌, length-drop, take_all, ◌-◌, subst, arith}
+use Rattle.std.specs.List.{All, list_all, join_with_byte}
+use Rattle.std.specs.Char.{is_ascii_digit}
+use Rattle.std.proofs.lemmas.Bool.{and_parts, ne_eqb, false≢true}
+use Rattle.std.proofs.lemmas.List.Splits.{slice_split_none, join_with_byte-slice_split}
+use Rattle.std.proofs.lemmas.List.Elements.{All-nil, All-cons}
+use Rattle.geo_addr.specs.Decimals.{has_digits}
 use Rattle.geo_addr.specs.Lines.{pieces}
 
 pub not_separator : (test : ℕ → Bool) (c : ℕ) (text : List ℕ) → test c ≡ false → list_all test text ≡ true → All (λ b. eqb b c ≡ false) text

@@ -1,9 +1,7 @@
 -- What is printed of addresses, blocks and ranges reads back as the same.
-use Rattle.std.proofs.Common.{◌≡◌, ◌≢◌, ℕ, zero, suc, ◌+◌, ◌-◌, ◌*◌, ◌/◌, ◌%◌, ◌^◌, ◌<◌, ◌≤◌, ◌==◌, Bool, true, false, ◌&&◌, ◌||◌, not, nat_lt, nat_le, cond, List, [], ◌∷◌, ◌++◌, length, get_or, take, drop, reverse, decimal, Some, Ok, All, refl, sym, ap, ◌∙◌, subst, arith, lit<, inl, inr, ◌⊎◌, append_assoc, take_all}
-use Rattle.std.specs.Int.{IsInRange}
+use Rattle.std.proofs.Common.{◌≡◌, ◌≢◌, ℕ, zero, suc, ◌+◌, ◌-◌, ◌*◌, ◌%◌, ◌^◌, ◌<◌, ◌≤◌, ◌==◌, Bool, true, false, ◌&&◌, not, nat_lt, nat_le, cond, List, [], ◌∷◌, ◌++◌, length, get_or, decimal, Some, Ok, All, refl, sym, ap, ◌∙◌, arith, lit<, inl, inr, append_assoc, take_all}
 use Rattle.std.specs.Int.Digits.{AllBelowBase}
-use Rattle.std.specs.List.{list_any, prefix_len, suffix_len}
-use Rattle.std.specs.Net.Text.{ipv4_text, hex_groups_text}
+use Rattle.std.specs.List.{suffix_len}
 use Rattle.std.proofs.lemmas.Bool.{cases_lt, cases_Bool, lt-ltb, le-ltb, lt-leb, le-leb, ne_eqb, eq-eqb, ltb-true, ltb-false, and_left, and_right}
 use Rattle.std.proofs.lemmas.Bool.Decides.{nat_tests}
 use Rattle.std.proofs.lemmas.List.Folds.{list_any_none}
@@ -12,9 +10,9 @@ use Rattle.std.proofs.lemmas.Nat.{pow-add, pow_pos}
 use Rattle.std.proofs.Math.Nat.{pow-le-pow_right}
 use Rattle.std.proofs.NetLemmas.Alphabet.{IsDigitOrDot, IsHexOrColon, All-ipv4_text, All-hex_groups_text}
 use Rattle.std.proofs.NetLemmas.Texts.{AllSegments}
-use Rattle.geo_addr.specs.AddressTexts.{is_six, number_in, address_in, at_number}
+use Rattle.geo_addr.specs.AddressTexts.{is_six, number_in, address_in}
 use Rattle.geo_addr.specs.Lines.{is_blank, trimmed_start, trimmed_end}
-use Rattle.geo_addr.specs.Prefixes.{address_length, aligned_block, block_in, block_of_sides, cut_first, length_in}
+use Rattle.geo_addr.specs.Prefixes.{address_length, aligned_block, block_in, length_in}
 use Rattle.geo_addr.specs.Printing.{address_text, block_text, eight_groups, four_octets, groups_before, number_text, printed_length, range_text, text4, text6}
 use Rattle.geo_addr.specs.Ranges.{Ends, IsBlock, IsRange, Prefix, is_v4, range_of_block}
 use Rattle.geo_addr.specs.Spans.{is_same, ordered_range, span_in}

@@ -1,6 +1,6 @@
 -- Members of a list, read one behind another.
-use Rattle.std.proofs.Common.{◌≡◌, ℕ, zero, suc, ◌+◌, ◌*◌, ◌/◌, ◌%◌, ◌^◌, ◌<◌, ◌≤◌, Bool, true, false, ◌&&◌, ◌||◌, not, cond, nat_le, List, [], ◌∷◌, length, flat_map, Result, Ok, Err, refl, sym, ap, ◌∙◌, subst, arith, ◌==◌, lit<, inl, inr, ◌⊎◌}
-use Rattle.std.specs.List.{list_any, list_all, slice_split}
+use Rattle.std.proofs.Common.{◌≡◌, ℕ, ◌+◌, ◌*◌, ◌/◌, ◌%◌, ◌^◌, ◌<◌, ◌≤◌, Bool, true, false, ◌&&◌, not, cond, nat_le, List, [], ◌∷◌, length, Result, Ok, Err, refl, sym, ap, ◌∙◌, subst, arith, ◌==◌, lit<}
+use Rattle.std.specs.List.{list_all}
 use Rattle.std.specs.Char.{is_digit}
 use Rattle.std.specs.Str.Parse.{digits_value}
 use Rattle.std.specs.Int.Digits.{number_from_digits_after}
@@ -13,7 +13,7 @@ use Rattle.geo_addr.specs.declared.fault.AddrFault.TheVariants.{Form, Octet, Gro
 use Rattle.geo_addr.specs.declared.side.Side.{Side}
 use Rattle.geo_addr.specs.Lines.{pieces}
 use Rattle.geo_addr.specs.Ipv4Texts.{are_four, is_part, is_octet, octets_number, ipv4_of}
-use Rattle.geo_addr.specs.Ipv6Texts.{is_group, is_dotted, has_bad_octet, are_members, groups_of, members}
+use Rattle.geo_addr.specs.Ipv6Texts.{is_group, is_dotted, has_bad_octet, groups_of, members}
 use Rattle.geo_addr.specs.Sides.{Adds, IsSmall, ReadsMembers, ReadsSide, no_groups}
 use Rattle.geo_addr.proofs.PartLemmas.{pieces_all}
 

@@ -1,5 +1,5 @@
 -- The range of the two sides of a hyphen.
-use Rattle.std.proofs.Common.{◌≡◌, ◌≢◌, ℕ, List, ◌∷◌, ◌++◌, Option, Some, None, All, Bor, MatchOption, refl, sym, ap, ◌∙◌}
+use Rattle.std.proofs.Common.{◌≡◌, ◌≢◌, ℕ, List, ◌∷◌, ◌++◌, Option, Some, None, All, Bor, MatchOption, sym, ap, ◌∙◌}
 use Rattle.geo_addr.specs.Lines.{trimmed_start, trimmed_end}
 use Rattle.geo_addr.specs.Prefixes.{block_in}
 use Rattle.geo_addr.specs.Spans.{range_between, range_of_read, range_of_sides, span_in}

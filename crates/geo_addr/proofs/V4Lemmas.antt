@@ -1,10 +1,8 @@
 -- Parts between dots.
-use Rattle.std.proofs.Common.{◌≡◌, ℕ, ◌+◌, ◌*◌, ◌<◌, ◌≤◌, Bool, true, false, ◌&&◌, not, List, [], ◌∷◌, length, Ok, Err, Result, refl, sym, ap, ◌∙◌, subst, arith}
-use Rattle.std.specs.Str.Parse.{digits_value}
+use Rattle.std.proofs.Common.{◌≡◌, ℕ, Bool, true, false, ◌&&◌, List, [], ◌∷◌, Ok, Err, refl, ap}
 use Rattle.std.proofs.lemmas.Bool.{and_left, and_right}
 use Rattle.geo_addr.specs.Lines.{pieces}
 use Rattle.geo_addr.specs.Ipv4Texts.{is_part, is_octet, are_four, ipv4_of, octets_number}
-use Rattle.geo_addr.specs.declared.fault.AddrFault.{AddrFault}
 use Rattle.geo_addr.specs.declared.fault.AddrFault.TheVariants.{Form, Octet}
 use Rattle.geo_addr.proofs.PartLemmas.{pieces_digits, whole_piece}
 

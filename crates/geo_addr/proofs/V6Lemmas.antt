@@ -1,5 +1,5 @@
 -- The two sides of `::`, and the number of their groups.
-use Rattle.std.proofs.Common.{◌≡◌, ℕ, zero, suc, ◌+◌, ◌-◌, ◌*◌, ◌^◌, ◌<◌, ◌≤◌, Bool, true, false, ◌&&◌, ◌||◌, Option, Some, None, nat_eq, get_or, drop, add-one, List, [], ◌∷◌, ◌++◌, length, replicate, Result, Ok, Err, refl, sym, ap, ap₂, ◌∙◌, subst, lit<, arith}
+use Rattle.std.proofs.Common.{◌≡◌, ℕ, zero, suc, ◌+◌, ◌-◌, ◌*◌, ◌^◌, ◌<◌, ◌≤◌, Bool, true, false, ◌&&◌, ◌||◌, Option, Some, None, nat_eq, get_or, drop, add-one, List, [], ◌∷◌, ◌++◌, length, replicate, Ok, Err, refl, sym, ap, ap₂, ◌∙◌, lit<, arith}
 use Rattle.std.specs.Option.{option_map}
 use Rattle.std.specs.List.{list_any, starts_with}
 use Rattle.std.specs.Int.Digits.{number_from_digits_after}
@@ -12,7 +12,7 @@ use Rattle.geo_addr.specs.declared.fault.AddrFault.{AddrFault}
 use Rattle.geo_addr.specs.declared.fault.AddrFault.TheVariants.{Form, Octet, Groups}
 use Rattle.geo_addr.specs.declared.side.Side.{Side}
 use Rattle.geo_addr.specs.Ipv6Texts.{is_group, has_bad_octet, double_at, are_members, members, groups_in, groups_number, filled, whole_address, elided_address}
-use Rattle.geo_addr.specs.Sides.{Adds, IsSmall, ReadsMembers, ReadsSide, no_groups}
+use Rattle.geo_addr.specs.Sides.{ReadsSide}
 use Rattle.geo_addr.proofs.SideLemmas.{group_not_bad}
 
 -- where dots are not allowed there is no bad octet

@@ -37,4 +37,6 @@ pub use span::parse_span;
 pub use text::Text;
 
 #[cfg(test)]
+mod address_tests;
+#[cfg(test)]
 mod tests;

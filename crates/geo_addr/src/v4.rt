@@ -16,8 +16,8 @@ fn part(text: &[u8]) -> Option<u128>
     decimal(text, 1, 3)
 }
 
-#[tactic(auto, unfolding(crate::specs::Ipv4Texts::is_octet))]
 /// Whether a part that spells `value` is an octet: no zero in front, and at most 255.
+#[tactic(auto, unfolding(crate::specs::Ipv4Texts::is_octet))]
 fn is_octet(part: &[u8], value: u128) -> bool
     requires { value ≡ digits_value 10 part.now }
     ensures { MatchBool result
@@ -27,8 +27,8 @@ fn is_octet(part: &[u8], value: u128) -> bool
     (part.len() < 2 || part[0] != b'0') && value <= 255
 }
 
-#[tactic(auto, unfolding(crate::specs::Ipv4Texts::ipv4_of))]
 /// The address that four decimal numbers with dots between them spell.
+#[tactic(auto, unfolding(crate::specs::Ipv4Texts::ipv4_of))]
 pub(crate) fn read_v4(text: &[u8]) -> Result<u128, AddrFault>
     ensures value { result ≡ ipv4_in text.now }
     ensures small { IfOk result (λ number. number < 2 ^ 32) }
@@ -45,6 +45,7 @@ pub(crate) fn read_v4(text: &[u8]) -> Result<u128, AddrFault>
     read_parts(a, b, c, d)
 }
 
+/// The address that the four parts between dots spell.
 fn read_parts(a: &[u8], b: &[u8], c: &[u8], d: &[u8]) -> Result<u128, AddrFault>
     ensures value { result ≡ ipv4_of (a.now ∷ b.now ∷ c.now ∷ pieces 46 d.now) }
     ensures small { IfOk result (λ number. number < 2 ^ 32) }

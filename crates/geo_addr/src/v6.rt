@@ -5,6 +5,9 @@ ghost use Rattle.geo_addr.specs.Sides.{IsSmall};
 use crate::fault::AddrFault;
 use crate::side::{Side, read_side};
 
+/// How many groups may stand beside `::`, which stands for one at least.
+const MOST_BESIDE_DOUBLE: u32 = 7;
+
 /// The place of the first `::`.
 fn double_at(text: &[u8]) -> Option<usize>
     ensures place { result ≡ double_at text.now }
@@ -56,7 +59,7 @@ fn read_elided(left: &[u8], right: &[u8]) -> Result<u128, AddrFault>
         Ok(side) => side,
         Err(fault) => return Err(fault),
     };
-    if head.groups + tail.groups > 7 {
+    if head.groups + tail.groups > MOST_BESIDE_DOUBLE {
         return Err(AddrFault::Groups);
     }
     Ok(joined(head, tail))

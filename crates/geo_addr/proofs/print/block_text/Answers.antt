@@ -1,4 +1,4 @@
-use Rattle.std.proofs.Common.{◌∙◌, ap, arith, subst}
+use Rattle.std.proofs.Common.{◌∙◌, ap, subst}
 use Rattle.geo_addr.specs.Prefixes.{block_in}
 use Rattle.geo_addr.specs.Ranges.{IsBlock, Prefix, is_v4}
 use Rattle.geo_addr.proofs.ReadBack.{block_text-from, block_text-reads}

@@ -1,4 +1,4 @@
-use Rattle.std.proofs.Common.{◌∙◌, ◌≤◌, ap, arith, subst, sym}
+use Rattle.std.proofs.Common.{◌∙◌, ap, arith, subst, sym}
 use Rattle.geo_addr.specs.Ranges.{IsBlock, Prefix, is_v4}
 use Rattle.geo_addr.proofs.ReadBack.{v4_length}
 use Rattle.geo_addr.proofs.print.printed_length.Goals as goal

@@ -1,4 +1,4 @@
-use Rattle.std.proofs.Common.{◌∙◌, ap, arith, subst}
+use Rattle.std.proofs.Common.{◌∙◌, ap, subst}
 use Rattle.geo_addr.specs.Ranges.{Ends, IsRange}
 use Rattle.geo_addr.specs.Spans.{span_in}
 use Rattle.geo_addr.proofs.ReadBack.{range_text-from, range_text-reads}

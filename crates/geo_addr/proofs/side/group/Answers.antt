@@ -1,4 +1,4 @@
-use Rattle.std.proofs.Common.{◌<◌, length, take, arith, subst, take_all, ◌∙◌}
+use Rattle.std.proofs.Common.{◌<◌, length, arith, subst, take_all, ◌∙◌}
 use Rattle.std.proofs.lemmas.Bool.Decides.{nat_tests}
 use Rattle.geo_addr.proofs.GroupLemmas.{ReadDigits, ReadDigits-lt, ReadDigits-room, ReadDigits-more, is_group-read}
 use Rattle.geo_addr.proofs.side.group.Goals as goal

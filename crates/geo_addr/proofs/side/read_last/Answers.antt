@@ -1,4 +1,4 @@
-use Rattle.geo_addr.proofs.SideLemmas.{reads_last_group, reads_last_other, reads_last_dotted, reads_last_fault}
+use Rattle.geo_addr.proofs.SideLemmas.{reads_last_group, reads_last_dotted, reads_last_fault}
 use Rattle.geo_addr.proofs.side.read_last.Goals as goal
 
 pub returns-in-Some-clause-reads : goal.returns-in-Some-clause-reads

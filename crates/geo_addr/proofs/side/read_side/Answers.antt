@@ -1,4 +1,3 @@
-use Rattle.std.proofs.Common.{arith}
 use Rattle.geo_addr.proofs.SideLemmas.{ReadsOn-start, ReadsOn-last, ReadsOn-group, ReadsOn-other}
 use Rattle.geo_addr.proofs.side.read_side.Goals as goal
 

@@ -1,5 +1,5 @@
-use Rattle.std.proofs.Common.{◌∙◌, sym, ap, Ok}
-use Rattle.geo_addr.specs.Spans.{range_of_read, range_between}
+use Rattle.std.proofs.Common.{◌∙◌, ap, Ok}
+use Rattle.geo_addr.specs.Spans.{range_of_read}
 use Rattle.geo_addr.proofs.SpanLemmas.{span_in-alone, span_in-hyphen}
 use Rattle.geo_addr.proofs.span.parse_span.Goals as goal
 

@@ -1,4 +1,4 @@
-use Rattle.std.proofs.Common.{rules, arith}
+use Rattle.std.proofs.Common.{arith}
 use Rattle.std.proofs.lemmas.Bool.{and_from, and_left, and_right}
 use Rattle.geo_addr.proofs.V4Lemmas.{AreParts, first_fails, second_fails, third_fails, fourth_fails, no_octets, four_octets}
 use Rattle.geo_addr.proofs.v4.read_parts.Goals as goal

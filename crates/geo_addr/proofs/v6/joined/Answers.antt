@@ -1,4 +1,4 @@
-use Rattle.std.proofs.Common.{arith, ap, ◌*◌, ◌+◌}
+use Rattle.std.proofs.Common.{arith, ap, ◌*◌}
 use Rattle.geo_addr.proofs.V6Lemmas.{joined_fits}
 use Rattle.geo_addr.proofs.v6.joined.Goals as goal
 

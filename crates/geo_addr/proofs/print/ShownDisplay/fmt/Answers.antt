@@ -1,4 +1,3 @@
-use Rattle.std.proofs.Common.{rules}
 use Rattle.geo_addr.specs.Printing.{text4, text6}
 use Rattle.geo_addr.proofs.print.ShownDisplay.fmt.Goals as goal
 
