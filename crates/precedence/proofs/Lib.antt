@@ -1,3 +1,5 @@
 pub mod BoundaryLemmas
+pub mod FirstLemmas
 pub mod RankLemmas
+pub mod RankingLemmas
 pub mod SegmentLemmas

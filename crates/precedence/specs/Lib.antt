@@ -1,4 +1,5 @@
 pub mod Boundaries
 pub mod Edges
 pub mod Marks
+pub mod Ranking
 pub mod Segments

@@ -2,6 +2,7 @@
 #![tactic(auto)]
 
 mod boundaries;
+mod delegations;
 mod segments;
 
 pub use segments::segments_of;
