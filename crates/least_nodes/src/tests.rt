@@ -43,14 +43,26 @@ fn nodes_and_places_in_order(rt: HostRuntime) -> Result<(), Fail> {
         (&[], 0, &[]),
         (&[(0, u128::MAX, 1)], 0, &[1]),
         // 128 addresses from 10.0.0.0 and 128 from 10.0.1.0
-        (&[(0x0a00_0000, 0x0a00_007f, 1), (0x0a00_0100, 0x0a00_017f, 1)], 121, &[1]),
+        (
+            &[(0x0a00_0000, 0x0a00_007f, 1), (0x0a00_0100, 0x0a00_017f, 1)],
+            121,
+            &[1],
+        ),
         // 128 addresses from 192.0.2.0 and 128 from 192.0.2.128
-        (&[(0xc000_0200, 0xc000_027f, 1), (0xc000_0280, 0xc000_02ff, 1)], 120, &[1]),
+        (
+            &[(0xc000_0200, 0xc000_027f, 1), (0xc000_0280, 0xc000_02ff, 1)],
+            120,
+            &[1],
+        ),
         // 256 addresses from 192.0.2.0
         (&[(0xc000_0200, 0xc000_02ff, 1)], 120, &[1]),
         (&[(0, half - 1, 7), (half, u128::MAX, 5)], 1, &[7, 5]),
         // two equal halves, each of two leaves
-        (&[(quarter, half - 1, 2), (half + quarter, u128::MAX, 2)], 2, &[2]),
+        (
+            &[(quarter, half - 1, 2), (half + quarter, u128::MAX, 2)],
+            2,
+            &[2],
+        ),
     ];
     for (painted, nodes, leaves) in cases {
         let layout = layout_of::<Brand>(&rt, rt.alloc(), painted, Blank::new(1))?;
