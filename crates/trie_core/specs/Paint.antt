@@ -38,6 +38,14 @@ HoldsPainted pairs old n first parts = (rec : Rec) × IsOf pairs rec × IsPainte
 abbrev pub HoldsPaintedRoot : List Pair → (ℕ → Option ℕ) → List Part → Type 0
 HoldsPaintedRoot pairs was parts = (root : Root) × IsRootOf pairs root × ((a : ℕ) → a < 2 ^ 128 → leaf_at pairs root a ≡ over (leaf_in parts a) (was a))
 
+-- the store is full, and no root of it has the parts' leaves and these leaves elsewhere
+abbrev pub IsFullWithout : List Pair → (ℕ → Option ℕ) → List Part → Type 0
+IsFullWithout pairs was parts = (length pairs + 1 ≡ 2 ^ 32) × (HoldsPaintedRoot pairs was parts → ⊥)
+
+-- one range with its leaf
+abbrev pub one_part : Ends → ℕ → List Part
+one_part range leaf = record { range = range; leaf = leaf } ∷ []
+
 -- the range has an address of the block of 2 ^ n addresses from `first`, and not all of them
 abbrev pub is_cut : ℕ → ℕ → Ends → Bool
 is_cut n first r = (nat_le first r.last && nat_lt r.first (first + 2 ^ n)) && not (nat_le r.first first && nat_le (first + 2 ^ n) (r.last + 1))

@@ -1,6 +1,7 @@
 //! Nodes of a store, and the records that a node's two children are.
 
-/// The number of a node in its store. A store numbers its nodes from 0 on, in the order in which they were made.
+/// The number of a node in its store, which numbers its nodes from 0 on in the order in which they
+/// were made.
 #[derive(Clone, Copy, Debug, PartialEq, Eq, PartialOrd, Ord, Hash)]
 pub struct NodeId(pub(crate) u32);
 

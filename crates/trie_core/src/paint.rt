@@ -1,9 +1,9 @@
 //! Painting ranges of addresses with leaves.
-ghost use Rattle.std.specs.Prelude.{◌≡◌, ℕ, ◌+◌, ◌-◌, ◌*◌, ◌^◌, ◌<◌, ◌≤◌, ◌↔◌, length, Some, IfOk, IsErrOf, IsTrue, ◌∷◌, []};
+ghost use Rattle.std.specs.Prelude.{◌≡◌, ℕ, ◌+◌, ◌-◌, ◌*◌, ◌^◌, ◌<◌, ◌≤◌, ◌↔◌, length, Some, IfOk, IsErrOf, IsTrue};
 ghost use Rattle.geo_addr.specs.Ranges.{IsWithin};
 ghost use Rattle.trie_core.specs.Tree.{height};
 ghost use Rattle.trie_core.specs.Store.{meaning, leaf_at, record_of, IsOf, IsRootOf, GrowsBy, IsKept, AddedUnder, IsSound};
-ghost use Rattle.trie_core.specs.Paint.{IsAscending, leaf_in, over, IsPainted, HoldsPainted, HoldsPaintedRoot, paint_cost, AllTouch, IsFront, IsBack, IsHalved};
+ghost use Rattle.trie_core.specs.Paint.{IsAscending, leaf_in, over, IsPainted, HoldsPainted, IsFullWithout, one_part, paint_cost, AllTouch, IsFront, IsBack, IsHalved};
 
 use crate::fault::StoreFault;
 use crate::node::{Rec, Root};
@@ -32,16 +32,17 @@ impl Store {
     ) -> Result<Root, StoreFault>
         requires { IsRootOf self.old root }
         ensures of { IfOk result (IsRootOf self.new) }
-        ensures on_range { IfOk result (λ r. (a : ℕ) → a < 2 ^ 128 → IsWithin range a → leaf_at self.new r a ≡ Some leaf) }
-        ensures elsewhere { IfOk result
-            (λ r. (a : ℕ) → a < 2 ^ 128 → (IsWithin range a → ⊥) → leaf_at self.new r a ≡ leaf_at self.old root a) }
+        ensures on_range { IfOk result (λ r. (a : ℕ) → a < 2 ^ 128 → IsWithin range a
+            → leaf_at self.new r a ≡ Some leaf) }
+        ensures elsewhere { IfOk result (λ r. (a : ℕ) → a < 2 ^ 128 → (IsWithin range a → ⊥)
+            → leaf_at self.new r a ≡ leaf_at self.old root a) }
         ensures ticks { steps.old ≤ steps.new }
         ensures few_ticks { steps.new ≤ steps.old + 256 }
         ensures grows { GrowsBy self.old self.new (steps.new - steps.old) }
         ensures kept { IsKept self.old self.new }
         ensures under { IfOk result (λ r. AddedUnder self.old self.new (record_of r)) }
         ensures full { IsErrOf result StoreFault.Full
-            ↔ ((length self.new + 1 ≡ 2 ^ 32) × (HoldsPaintedRoot self.new (leaf_at self.old root) (record { range = range; leaf = leaf } ∷ []) → ⊥)) }
+            ↔ IsFullWithout self.new (leaf_at self.old root) (one_part range leaf) }
         ensures sound { IsSound self.new }
     {
         self.paint_all(root, &[Part { range, leaf }], steps)
@@ -60,15 +61,15 @@ impl Store {
         requires of { IsRootOf self.old root }
         requires ascending { IsAscending parts.now }
         ensures of { IfOk result (IsRootOf self.new) }
-        ensures lookups { IfOk result
-            (λ r. (a : ℕ) → a < 2 ^ 128 → leaf_at self.new r a ≡ over (leaf_in parts.now a) (leaf_at self.old root a)) }
+        ensures lookups { IfOk result (λ r. (a : ℕ) → a < 2 ^ 128
+            → leaf_at self.new r a ≡ over (leaf_in parts.now a) (leaf_at self.old root a)) }
         ensures ticks { steps.old ≤ steps.new }
         ensures few_ticks { steps.new ≤ steps.old + 256 * length parts.now }
         ensures grows { GrowsBy self.old self.new (steps.new - steps.old) }
         ensures kept { IsKept self.old self.new }
         ensures under { IfOk result (λ r. AddedUnder self.old self.new (record_of r)) }
         ensures full { IsErrOf result StoreFault.Full
-            ↔ ((length self.new + 1 ≡ 2 ^ 32) × (HoldsPaintedRoot self.new (leaf_at self.old root) parts.now → ⊥)) }
+            ↔ IsFullWithout self.new (leaf_at self.old root) parts.now }
         ensures sound { IsSound self.new }
     {
         let rec = self.rec_of(root);
@@ -76,7 +77,7 @@ impl Store {
         Ok(Root(rec))
     }
 
-    // The record of the block of 2 ^ bits addresses from first to last, with the parts painted on it.
+    // The record of the block of 2 ^ bits addresses from first to last with the parts painted on it.
     fn paint_block<L: Ledger>(
         &mut self,
         rec: Rec,
@@ -94,14 +95,15 @@ impl Store {
         requires ascending { IsAscending parts.now }
         requires touching { AllTouch first last parts.now }
         ensures of { IfOk result (IsOf self.new) }
-        ensures painted { IfOk result (λ r. IsPainted (meaning self.old rec) (meaning self.new r) bits first parts.now) }
+        ensures painted { IfOk result
+            (λ r. IsPainted (meaning self.old rec) (meaning self.new r) bits first parts.now) }
         ensures ticks { steps.old ≤ steps.new }
         ensures cost { steps.new ≤ steps.old + paint_cost bits first parts.now }
         ensures grows { GrowsBy self.old self.new (steps.new - steps.old) }
         ensures kept { IsKept self.old self.new }
         ensures under { IfOk result (AddedUnder self.old self.new) }
-        ensures full { IsErrOf result StoreFault.Full
-            → (length self.new + 1 ≡ 2 ^ 32) × (HoldsPainted self.new (meaning self.old rec) bits first parts.now → ⊥) }
+        ensures full { IsErrOf result StoreFault.Full → (length self.new + 1 ≡ 2 ^ 32)
+            × (HoldsPainted self.new (meaning self.old rec) bits first parts.now → ⊥) }
         ensures memory { IsErrOf result StoreFault.Memory → length self.new + 1 < 2 ^ 32 }
         ensures sound { IsSound self.new }
     {

@@ -15,9 +15,11 @@ use std::sync::ledger::Ledger;
 /// The most nodes that a store holds: one less than there are node numbers.
 const MOST_NODES: usize = 0xffff_ffff;
 
-/// A store of nodes, in which no two nodes have the same children.
+/// A store of nodes, in which no two nodes have the same children, so that one record stands for each
+/// tree (`laws::equal_leaves_equal_records`).
 ///
-/// Contracts see the list of the nodes' children, by the number of the node.
+/// Contracts see the list of the nodes' children, by the number of the node. The caller hands in only
+/// records and roots of this store: those that it gave, before or after whatever refusals.
 #[derive(Drop)]
 pub struct Store {
     pairs: IndexSet<Pair>,
@@ -66,7 +68,8 @@ impl Store {
         requires right_low { height (meaning self.old right) ≤ 127 }
         ensures of { IfOk result (IsOf self.new) }
         ensures meaning { IfOk result
-            (λ r. meaning self.new r ≡ join nat_eq (meaning self.old left) (meaning self.old right)) }
+            (λ r. meaning self.new r
+            ≡ join nat_eq (meaning self.old left) (meaning self.old right)) }
         ensures steps { steps.new ≡ steps.old + 1 }
         ensures grows { GrowsBy self.old self.new 1 }
         ensures kept { IsKept self.old self.new }
@@ -120,7 +123,8 @@ impl Store {
     pub fn children(&self, id: NodeId) -> (Rec, Rec)
         requires { IsOf self.now (Rec.Node id) }
         ensures of { IsOf self.now result.0 × IsOf self.now result.1 }
-        ensures meaning { meaning self.now (Rec.Node id) ≡ node (meaning self.now result.0) (meaning self.now result.1) }
+        ensures meaning { meaning self.now (Rec.Node id)
+            ≡ node (meaning self.now result.0) (meaning self.now result.1) }
         ensures pair { pair_of self.now id ≡ Some (record { left = result.0; right = result.1 }) }
         ensures sound { IsSound self.now }
     {
