@@ -1,7 +1,13 @@
 -- The number of a place that was just put into the list.
-use Rattle.std.proofs.Common.{◌≡◌, ℕ, suc, ◌+◌, ◌<◌, Bool, true, false, cond, not, ◌||◌, ltb, List, [], ◌∷◌, ◌++◌, length, position, Option, Some, None, option_map, refl, sym, ap, ◌∙◌, arith}
+use Rattle.std.proofs.Common.{◌≡◌, ℕ, suc, ◌+◌, ◌<◌, Bool, true, false, cond, not, ◌&&◌, ◌||◌, ltb, eqb, get_or, slice_get, length-append, List, [], ◌∷◌, ◌++◌, length, position, Option, Some, None, option_map, refl, sym, ap, ◌∙◌, arith}
+use Rattle.std.specs.Cmp.Lexicographic.{bytes_decides}
 use Rattle.std.specs.List.{list_any, position_or_len}
-use Rattle.std.proofs.lemmas.Bool.Decides.{nat_tests}
+use Rattle.std.proofs.lemmas.List.Folds.{position_or_len_push}
+use Rattle.std.proofs.lemmas.List.Sums.{passes_at_first}
+use Rattle.std.proofs.lemmas.Option.{slice_get-get_or}
+use Rattle.geo_terms.specs.Numbers.{NumbersNamePlaces, NumbersStay, PlacesAreToldApart, number_of, place_at, same_place}
+use Rattle.geo_terms.specs.PlaceForm.{PlaceParts, same_text}
+use Rattle.std.proofs.lemmas.Bool.Decides.{Decides-ltb, nat_tests}
 
 -- the place of a member behind one that does not pass
 position_later : {X : Type 0} (q : X → Bool) (k : X) (xs : List X) (n : ℕ) → q k ≡ false → position q xs ≡ Some n → position q (k ∷ xs) ≡ Some (1 + n)
@@ -17,3 +23,65 @@ position_after_insert q (x ∷ xs) y is =
         | false ↦ position_later q x (xs ++ y ∷ []) (position_or_len q xs) e
       ] (position_after_insert q xs y is)
     ] refl
+
+-- two texts are the same where the test says so
+text_told : (x y : List ℕ) → (same_text x y ≡ true → x ≡ y) × (x ≡ y → same_text x y ≡ true)
+text_told x y = bytes_decides x y
+
+and_parts : (x y : Bool) → (x && y) ≡ true → (x ≡ true) × (y ≡ true)
+and_parts true y h = (refl, h)
+and_parts false y h = absurd (let e : false ≡ true = h in cc)
+
+same_parts : (x y : PlaceParts) → same_place x y ≡ true → x ≡ y
+same_parts x y h =
+    let three = and_parts (same_text x.country y.country && same_text x.region y.region && same_text x.city y.city) (same_text x.postal y.postal) h in
+    let two = and_parts (same_text x.country y.country && same_text x.region y.region) (same_text x.city y.city) three.0 in
+    let one = and_parts (same_text x.country y.country) (same_text x.region y.region) two.0 in
+    let country = (text_told x.country y.country).0 one.0 in
+    let region = (text_told x.region y.region).0 one.1 in
+    let city = (text_told x.city y.city).0 two.1 in
+    let postal = (text_told x.postal y.postal).0 three.1 in
+    λ i. record { country = country i; region = region i; city = city i; postal = postal i }
+
+place_is_itself : (x y : PlaceParts) → x ≡ y → same_place x y ≡ true
+place_is_itself x y e =
+    rw ((text_told x.country y.country).1 (ap (λ p. p.country) e), (text_told x.region y.region).1 (ap (λ p. p.region) e),
+        (text_told x.city y.city).1 (ap (λ p. p.city) e), (text_told x.postal y.postal).1 (ap (λ p. p.postal) e)) refl
+
+pub places_are_told_apart : PlacesAreToldApart
+places_are_told_apart x y = (same_parts x y, place_is_itself x y)
+
+pub numbers_name_places : NumbersNamePlaces
+numbers_name_places places p n = by_test (ltb (position_or_len (same_place p) places) (length places)) refl
+  where
+    by_test : (b : Bool) → ltb (position_or_len (same_place p) places) (length places) ≡ b
+        → option_map (λ i. i + 1) (cond b (Some (position_or_len (same_place p) places)) None) ≡ Some n → place_at places n ≡ Some p
+    by_test false is e = absurd (let f : None ≡ Some n = e in cc)
+    by_test true is e =
+        let i = position_or_len (same_place p) places in
+        let below : i < length places = (Decides-ltb i (length places)).0 is in
+        let at : n ≡ suc i = (let f : Some (i + 1) ≡ Some n = e in let g : i + 1 ≡ n = cc in omega arith) in
+        let found : p ≡ get_or places i p = same_parts p (get_or places i p) (passes_at_first (same_place p) places p below) in
+        rw (at, slice_get-get_or places i p below) (ap (λ q. Some q) (sym found))
+
+-- a member at the end changes no place of one that was found before it
+position_stays : {X : Type 0} (q : X → Bool) (xs : List X) (y : X) (n : ℕ) → option_map (λ i. i + 1) (position q xs) ≡ Some n → option_map (λ i. i + 1) (position q (xs ++ y ∷ [])) ≡ Some n
+position_stays {X} q xs y n = by_test (ltb (position_or_len q xs) (length xs)) refl
+  where
+    by_test : (b : Bool) → ltb (position_or_len q xs) (length xs) ≡ b → option_map (λ i. i + 1) (cond b (Some (position_or_len q xs)) None) ≡ Some n
+        → option_map (λ i. i + 1) (position q (xs ++ y ∷ [])) ≡ Some n
+    by_test false is e = absurd (let f : None ≡ Some n = e in cc)
+    by_test true is e =
+        let below : position_or_len q xs < length xs = (Decides-ltb (position_or_len q xs) (length xs)).0 is in
+        let apart : eqb (position_or_len q xs) (length xs) ≡ false = grind (arith, nat_tests) in
+        let same : position_or_len q (xs ++ y ∷ []) ≡ position_or_len q xs =
+            position_or_len_push q xs y ∙ ap (λ b. cond b (length xs + cond (q y) 0 1) (position_or_len q xs)) apart in
+        let within : ltb (position_or_len q (xs ++ y ∷ [])) (length (xs ++ y ∷ [])) ≡ true =
+            (Decides-ltb (position_or_len q (xs ++ y ∷ [])) (length (xs ++ y ∷ []))).1 (omega (arith, length-append xs (y ∷ []))) in
+        ap (λ b. option_map (λ i. i + 1) (cond b (Some (position_or_len q (xs ++ y ∷ []))) None)) within
+        ∙ ap (λ i. Some (i + 1)) same ∙ e
+
+pub numbers_stay : NumbersStay
+numbers_stay places p more n h =
+    elim (list_any (same_place more) places) as (λ b. number_of (cond b places (places ++ more ∷ [])) p ≡ Some n)
+        [ true ↦ h | false ↦ position_stays (same_place p) places more n h ]

@@ -54,9 +54,10 @@ impl Places {
     }
 
     /// The number of the place: the one that it has, or the next one.
-    #[tactic(auto, using(crate::proofs::NumberLemmas::position_after_insert))]
+    #[tactic(auto, using(crate::proofs::NumberLemmas::position_after_insert, crate::proofs::NumberLemmas::numbers_name_places))]
     pub fn intern(&mut self, place: &Place) -> Result<u32, PlacesFault>
         ensures number { IfOk result (λ number. number_of self.new place.now ≡ Some number) }
+        ensures held { IfOk result (λ number. place_at self.new number ≡ Some place.now) }
         ensures table { OnOk result (self.new ≡ with_place self.old place.now) }
         ensures known { IfSome (number_of self.old place.now) (λ number. result ≡ Ok number) }
         ensures full { (result ≡ Err PlacesFault.Full) ↔ (IsNone (number_of self.old place.now) × (length self.old ≡ 2 ^ 32 - 1)) }
