@@ -2,3 +2,5 @@ pub mod MarkerLemmas
 pub mod TextLemmas
 pub mod MetadataLemmas
 pub mod AdoptLemmas
+pub mod PlaceLemmas
+pub mod WritingLemmas

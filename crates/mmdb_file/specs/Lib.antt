@@ -6,3 +6,4 @@ pub mod PlaceValue
 pub mod FileImage
 pub mod Laws
 pub mod Adopting
+pub mod Writing

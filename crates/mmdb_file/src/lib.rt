@@ -2,9 +2,12 @@
 #![tactic(auto)]
 
 mod adopted;
+mod data;
 mod fault;
 mod laws;
 mod marker;
+mod nodes;
+mod numbers;
 mod place;
 
 pub use adopted::Mmdb;

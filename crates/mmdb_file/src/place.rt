@@ -2,6 +2,7 @@
 ghost use Rattle.std.specs.Prelude.{◌≡◌, [], ◌∷◌, ◌++◌, IfOk, OnOk, map as map_list, codes};
 ghost use Rattle.mmdb_data.specs.Tree.{text as text_tree, list as list_tree, item, no_items};
 ghost use Rattle.mmdb_data.specs.View.{tree as value_tree, pair_view};
+ghost use Rattle.mmdb_file.specs.Writing.{CanBeRead};
 ghost use Rattle.mmdb_file.specs.PlaceValue.{one, subdivision as subdivision_of, city_member, country_member, postal_member, region_member, subdivision_list, place_value as value_of_place};
 
 use geo_addr::{Memory, Text};
@@ -11,15 +12,31 @@ use std::alloc::Global;
 
 /// The value of a place: a map of its parts by the names that readers of city files know, empty parts
 /// left out.
-#[tactic(auto, unfolding(crate::specs::PlaceValue::place_value))]
 pub fn place_value(alloc: Global, place: &Place) -> Result<Value, Memory>
-    ensures { IfOk result (λ value. value_tree value ≡ value_of_place place.now) }
+    ensures value { IfOk result (λ value. value_tree value ≡ value_of_place place.now) }
+    ensures readable { IfOk result (λ value. CanBeRead (value_tree value)) }
+{
+    let (country, region) = (place.country.as_str(), place.region.as_str());
+    let value = value_of_parts(alloc, country, region, place.city.as_str(), place.postal.as_str())?;
+    Ok(value)
+}
+
+#[tactic(auto, unfolding(crate::specs::PlaceValue::place_value))]
+fn value_of_parts(
+    alloc: Global,
+    country: &str,
+    region: &str,
+    city: &str,
+    postal: &str,
+) -> Result<Value, Memory>
+    ensures { IfOk result (λ value. value_tree value ≡ value_of_place (record {
+        country = country.now; region = region.now; city = city.now; postal = postal.now })) }
 {
     let mut members = Vec::new(alloc);
-    add_city(alloc, &mut members, place.city.as_str())?;
-    add_country(alloc, &mut members, place.country.as_str())?;
-    add_postal(alloc, &mut members, place.postal.as_str())?;
-    add_region(alloc, &mut members, place.region.as_str())?;
+    add_city(alloc, &mut members, city)?;
+    add_country(alloc, &mut members, country)?;
+    add_postal(alloc, &mut members, postal)?;
+    add_region(alloc, &mut members, region)?;
     Ok(Value::Map(members))
 }
 

@@ -1,0 +1,74 @@
+-- The steps of the writer.
+use Rattle.std.proofs.Common.{◌≡◌, ℕ, zero, suc, ◌+◌, ◌*◌, ◌<◌, ◌≤◌, not, Bool, true, false, List, [], ◌∷◌, ◌++◌, length, take, drop, get_or, Option, Some, None, refl, sym, ap, ◌∙◌, arith, append_assoc, append-nil, length-append, length-take, inl, inr, subst, All, add-one}
+use Rattle.std.proofs.Common.{map as map_list}
+use Rattle.mmdb_data.specs.Tree.{Tree}
+use Rattle.mmdb_data.specs.Spelling.{spelling}
+use Rattle.mmdb_file.specs.Section.{spellings, starts_from}
+use Rattle.std.specs.List.{position, position_or_len}
+use Rattle.std.proofs.lemmas.Bool.{cases_lt, lt-ltb}
+use Rattle.std.proofs.lemmas.List.{take_more, take_at, take_all}
+use Rattle.std.proofs.lemmas.List.Elements.{All-push}
+use Rattle.std.proofs.Math.Seq.{drop-cons}
+use Rattle.std.proofs.lemmas.List.Sums.{prefix_len-le-length}
+use Rattle.std.proofs.Math.Nat.{add-mul, mul-le-mul_right}
+use Rattle.mmdb_tree.specs.declared.bits.Bits.{Bits}
+use Rattle.mmdb_tree.specs.Nodes.{node_bytes, tree_bytes, width}
+use Rattle.mmdb_tree.proofs.NodeLemmas.{length-node_bytes}
+
+pub none_is_len : {X : Type 0} (p : X → Bool) (xs : List X) → position p xs ≡ None → position_or_len p xs ≡ length xs
+none_is_len p xs none =
+    elim (cases_lt (position_or_len p xs) (length xs)) [
+      | inl a ↦ absurd (let found : position p xs ≡ Some (position_or_len p xs) = rw (lt-ltb (position_or_len p xs) (length xs) a) refl in cc)
+      | inr a ↦ omega (arith, prefix_len-le-length (λ x. not (p x)) xs)
+    ]
+
+pub tree_bytes-append : (bits : Bits) (xs ys : List (ℕ × ℕ)) → tree_bytes bits (xs ++ ys) ≡ tree_bytes bits xs ++ tree_bytes bits ys
+tree_bytes-append bits [] ys = refl
+tree_bytes-append bits (x ∷ xs) ys = ap (λ t. node_bytes bits x.0 x.1 ++ t) (tree_bytes-append bits xs ys) ∙ sym (append_assoc (node_bytes bits x.0 x.1) (tree_bytes bits xs) (tree_bytes bits ys))
+
+pub length-tree_bytes : (bits : Bits) (nodes : List (ℕ × ℕ)) → length (tree_bytes bits nodes) ≡ length nodes * width bits
+length-tree_bytes bits [] = omega arith
+length-tree_bytes bits (x ∷ xs) = omega (arith, length-append (node_bytes bits x.0 x.1) (tree_bytes bits xs), length-node_bytes bits x.0 x.1, length-tree_bytes bits xs, add-mul (length xs) 1 (width bits))
+
+pub put_more : (bits : Bits) (nodes : List (ℕ × ℕ)) (tree new : List ℕ) (n : ℕ) → n < length nodes → length nodes * width bits ≡ length tree → take (n * width bits) tree ≡ tree_bytes bits (take n nodes)
+    → new ≡ take (n * width bits) tree ++ (node_bytes bits (get_or nodes n (0, 0)).0 (get_or nodes n (0, 0)).1 ++ drop (n * width bits + width bits) tree)
+    → take ((n + 1) * width bits) new ≡ tree_bytes bits (take (n + 1) nodes)
+put_more bits nodes tree new n inside room done is =
+    let node : ℕ × ℕ = get_or nodes n (0, 0) in
+    let bytes : List ℕ = node_bytes bits node.0 node.1 in
+    let front : List ℕ = take (n * width bits) tree in
+    let more : take (n + 1) nodes ≡ take n nodes ++ node ∷ [] = take_more nodes n (0, 0) inside in
+    let below : (n + 1) * width bits ≤ length nodes * width bits = mul-le-mul_right (width bits) (omega arith) in
+    let step : (n + 1) * width bits ≡ n * width bits + 1 * width bits = add-mul n 1 (width bits) in
+    let long : length (front ++ bytes) ≡ (n + 1) * width bits = omega (arith, length-append front bytes, length-take (n * width bits) tree, length-node_bytes bits node.0 node.1) in
+    let whole : new ≡ (front ++ bytes) ++ drop (n * width bits + width bits) tree = is ∙ sym (append_assoc front bytes (drop (n * width bits + width bits) tree)) in
+    let taken : take ((n + 1) * width bits) ((front ++ bytes) ++ drop (n * width bits + width bits) tree) ≡ front ++ bytes = take_at (front ++ bytes) (drop (n * width bits + width bits) tree) ((n + 1) * width bits) long in
+    let last : tree_bytes bits (node ∷ []) ≡ bytes = append-nil bytes in
+    ap (take ((n + 1) * width bits)) whole ∙ taken ∙ ap (λ f. f ++ bytes) done ∙ sym (ap (tree_bytes bits) more ∙ tree_bytes-append bits (take n nodes) (node ∷ []) ∙ ap (λ b. tree_bytes bits (take n nodes) ++ b) last)
+
+-- one more value in the data section
+module _ (value : ℕ → Tree) (numbers : List ℕ) (i : ℕ) (inside : i < length numbers) where
+  rest_is : map_list value (drop i numbers) ≡ value (get_or numbers i 0) ∷ map_list value (drop (i + 1) numbers)
+  rest_is = ap (map_list value) (drop-cons numbers i 0 inside ∙ ap (λ n. get_or numbers i 0 ∷ drop n numbers) (sym (add-one i)))
+
+  pub data_bytes : (made new total : List ℕ) → made ++ spellings (map_list value (drop i numbers)) ≡ total → new ≡ made ++ spelling (value (get_or numbers i 0)) → new ++ spellings (map_list value (drop (i + 1) numbers)) ≡ total
+  data_bytes made new total before is =
+      ap (λ b. b ++ spellings (map_list value (drop (i + 1) numbers))) is
+      ∙ append_assoc made (spelling (value (get_or numbers i 0))) (spellings (map_list value (drop (i + 1) numbers)))
+      ∙ sym (ap (λ v. made ++ spellings v) rest_is) ∙ before
+
+  pub data_starts : (made new starts later total : List ℕ) → starts ++ starts_from (length made) (map_list value (drop i numbers)) ≡ total
+      → later ≡ starts ++ length made ∷ [] → new ≡ made ++ spelling (value (get_or numbers i 0)) → later ++ starts_from (length new) (map_list value (drop (i + 1) numbers)) ≡ total
+  data_starts made new starts later total before is_later is_new =
+      let long : length new ≡ length made + length (spelling (value (get_or numbers i 0))) = ap length is_new ∙ length-append made (spelling (value (get_or numbers i 0))) in
+      let rest : List ℕ = starts_from (length made + length (spelling (value (get_or numbers i 0)))) (map_list value (drop (i + 1) numbers)) in
+      ap (λ n. later ++ starts_from n (map_list value (drop (i + 1) numbers))) long
+      ∙ ap (λ s. s ++ rest) is_later
+      ∙ append_assoc starts (length made ∷ []) rest
+      ∙ sym (ap (λ v. starts ++ starts_from (length made) v) rest_is) ∙ before
+
+pub All_more : {X : Type 0} (P : X → Type 0) (xs : List X) (i : ℕ) (d : X) → i < length xs → All P (take i xs) → P (get_or xs i d) → All P (take (i + 1) xs)
+All_more P xs i d inside before here = subst (All P) (sym (take_more xs i d inside)) (All-push P (take i xs) (get_or xs i d) before here)
+
+pub All_whole : {X : Type 0} (P : X → Type 0) (xs : List X) (i : ℕ) → length xs ≤ i → All P (take i xs) → All P xs
+All_whole P xs i past all = subst (All P) (take_all i xs past) all

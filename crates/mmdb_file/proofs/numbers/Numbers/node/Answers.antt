@@ -1,0 +1,7 @@
+use Rattle.std.proofs.Common.{◌∙◌, sym}
+use Rattle.mmdb_file.specs.Writing.{same_id}
+use Rattle.mmdb_file.proofs.WritingLemmas.{none_is_len}
+use Rattle.mmdb_file.proofs.numbers.Numbers.node.Goals as goal
+
+pub returns-in-None : goal.returns-in-None
+returns-in-None c = c.len.ensures.len ∙ sym (none_is_len (same_id c.args.id) c.args.self.now.nodes.keys (sym c.get_index_of.ensures.index ∙ c.in-None.is))

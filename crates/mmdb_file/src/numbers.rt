@@ -1,0 +1,76 @@
+//! The numbers that stand for the records of a store.
+ghost use Rattle.std.specs.Prelude.{◌≡◌, ◌+◌, ◌^◌, ◌<◌, ◌≤◌, ℕ, [], length, slice_index, IfOk};
+ghost use Rattle.least_nodes.specs.Layout.{each_once};
+ghost use Rattle.mmdb_file.specs.Writing.{record_number};
+
+use geo_addr::Memory;
+use indexmap::IndexSet;
+use std::alloc::Global;
+use std::hash::Hash;
+use trie_core::{NodeId, Rec};
+
+/// The bytes between the search tree and the data section.
+pub(crate) const GAP: u32 = 16;
+
+/// The nodes and the places of a file in order, and where the value of each place begins.
+#[derive(Drop)]
+pub(crate) struct Numbers {
+    pub(crate) count: u32,
+    pub(crate) nodes: IndexSet<NodeId>,
+    pub(crate) places: IndexSet<u32>,
+    pub(crate) starts: Vec<u32>,
+}
+
+impl Numbers {
+    /// The record as it stands in the file.
+    pub(crate) fn record(&self, rec: Rec) -> u32
+        requires few { length self.now.nodes.keys < 2 ^ 32 }
+        requires low { (k : ℕ) → self.now.count + 16 + slice_index self.now.starts.items k < 2 ^ 32 }
+        ensures { result ≡ record_number self.now.count self.now.nodes.keys self.now.places.keys self.now.starts.items rec }
+    {
+        match rec {
+            Rec::Leaf(number) => self.leaf(number),
+            Rec::Node(id) => self.node(id),
+        }
+    }
+
+    fn leaf(&self, number: u32) -> u32
+        requires low { (k : ℕ) → self.now.count + 16 + slice_index self.now.starts.items k < 2 ^ 32 }
+        ensures { result ≡ record_number self.now.count self.now.nodes.keys self.now.places.keys self.now.starts.items (Rec.Leaf number) }
+    {
+        match self.places.get_index_of(&number) {
+            Some(index) => self.count + GAP + start_at(&self.starts, index),
+            None => self.count,
+        }
+    }
+
+    fn node(&self, id: NodeId) -> u32
+        requires few { length self.now.nodes.keys < 2 ^ 32 }
+        ensures { result ≡ record_number self.now.count self.now.nodes.keys self.now.places.keys self.now.starts.items (Rec.Node id) }
+    {
+        match self.nodes.get_index_of(&id) {
+            Some(index) => index as u32,
+            None => self.nodes.len() as u32,
+        }
+    }
+}
+
+fn start_at(starts: &[u32], index: usize) -> u32
+    ensures { result ≡ slice_index starts.now index }
+{
+    match starts.get(index) {
+        Some(start) => *start,
+        None => 0,
+    }
+}
+
+/// The set of these items, in their order.
+pub(crate) fn set_of<T: Eq + Hash + Copy>(alloc: Global, items: &[T]) -> Result<IndexSet<T>, Memory>
+    ensures { IfOk result (λ set. set.keys ≡ each_once T.eq [] items.now) }
+{
+    let mut set = IndexSet::with_capacity(alloc, items.len())?;
+    for item in items {
+        set.insert(*item)?;
+    }
+    Ok(set)
+}
