@@ -5,7 +5,7 @@ ghost use Rattle.geo_addr.specs.Ranges.{IsRange};
 ghost use Rattle.precedence.specs.Boundaries.{told, AreBoundaries};
 ghost use Rattle.precedence.specs.Edges.{edges_of, edges_from, after_edge, sweep};
 
-use geo_addr::{Addr, Memory, Range};
+use geo_addr::{Memory, Range};
 use std::alloc::Global;
 use std::collections::BTreeSet;
 
@@ -36,11 +36,11 @@ pub fn boundaries_of(alloc: Global, ranges: &[Range]) -> Result<Vec<Boundary>, M
 }
 
 // What the boundaries tell of an address.
-pub fn told(boundaries: &[Boundary], at: Addr) -> Option<usize>
+pub fn told(boundaries: &[Boundary], at: u128) -> Option<usize>
     requires { IsNonDecreasingBy (λ b. b.at) boundaries.now }
-    ensures { result ≡ told None boundaries.now at.0 }
+    ensures { result ≡ told None boundaries.now at }
 {
-    let passed = boundaries.partition_point(|boundary| boundary.at <= at.0);
+    let passed = boundaries.partition_point(|boundary| boundary.at <= at);
     let last = passed.checked_sub(1)?;
     boundaries[last].first
 }

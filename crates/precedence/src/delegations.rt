@@ -1,12 +1,12 @@
 //! The first delegation that holds an address.
-ghost use Rattle.std.specs.Prelude.{◌≡◌, ◌++◌, All, IfOk, OnOk, None, option_and_then, flat_map, map};
+ghost use Rattle.std.specs.Prelude.{◌≡◌, ◌++◌, ◌<◌, ◌^◌, All, IfOk, OnOk, None, [], option_and_then, flat_map, map};
 ghost use Rattle.std.specs.List.Sorted.{IsNonDecreasingBy};
 ghost use Rattle.std.specs.Option.{option_copied};
 ghost use Rattle.precedence.specs.Boundaries.{told};
 ghost use Rattle.precedence.specs.Ranking.{seen, ranked, ranked_rows, ranked_files, ranked_cmp, delegation_at, delegation_of_rank, IsDelegation, IsIndex};
 
 use crate::boundaries::{Boundary, boundaries_of, told};
-use geo_addr::{Addr, Memory, Range};
+use geo_addr::{Memory, Range};
 use geo_terms::{Delegation, Statement, Stats};
 use std::alloc::Global;
 use std::cmp::Ordering;
@@ -34,6 +34,17 @@ pub struct DelegationIndex {
     boundaries: Vec<Boundary>,
 }
 
+/// The index of no files.
+pub fn no_delegations(alloc: Global) -> DelegationIndex
+    ensures { IsIndex [] result }
+{
+    DelegationIndex {
+        spots: Vec::new(alloc),
+        boundaries: Vec::new(alloc),
+    }
+}
+
+/// The index of several files.
 pub fn index_of(alloc: Global, stats: &[Stats]) -> Result<DelegationIndex, Memory>
     ensures { IfOk result (λ index. IsIndex stats.now index) }
 {
@@ -49,10 +60,11 @@ pub fn index_of(alloc: Global, stats: &[Stats]) -> Result<DelegationIndex, Memor
 pub fn first_delegation<'a>(
     index: &DelegationIndex,
     stats: &'a [Stats],
-    at: Addr,
+    at: u128,
 ) -> Option<&'a Delegation>
     requires { IsNonDecreasingBy (λ b. b.at) index.now.boundaries.items }
-    ensures { option_copied result ≡ option_and_then (delegation_of_rank stats.entry.now index.entry.now.spots.items) (told None index.entry.now.boundaries.items at.0) }
+    ensures found { option_copied result ≡ option_and_then (delegation_of_rank stats.entry.now index.entry.now.spots.items) (told None index.entry.now.boundaries.items at) }
+    ensures within { at < 2 ^ 128 }
 {
     let rank = told(index.boundaries.as_slice(), at)?;
     let spot = index.spots.as_slice().get(rank)?;

@@ -3,6 +3,10 @@
 
 mod boundaries;
 mod delegations;
+mod files;
+mod notes;
 mod segments;
+mod sources;
 
 pub use segments::segments_of;
+pub use sources::Sources;
