@@ -2,10 +2,15 @@
 //! What a case prints is counts and no times, so that its output is the same wherever it runs.
 #![tactic(auto)]
 
+mod order;
 mod paint;
+mod ranges;
 
 use anyhow::{Context, bail};
 use std::env;
+
+/// How many times the case `order` orders its small root.
+const ORDERED: u32 = 1000;
 
 fn main(rt: HostRuntime) -> anyhow::Result<()> {
     let mut words = env::args(&rt)?;
@@ -15,6 +20,8 @@ fn main(rt: HostRuntime) -> anyhow::Result<()> {
     let size: u32 = size.parse().context("the size is to be a number")?;
     match case.as_str() {
         "paint" => paint::run(rt.alloc(), &rt, size),
+        "fill" => order::run(rt.alloc(), &rt, size, 0),
+        "order" => order::run(rt.alloc(), &rt, size, ORDERED),
         _ => bail!("no case is called {case}"),
     }
 }

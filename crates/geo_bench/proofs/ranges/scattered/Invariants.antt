@@ -1,6 +1,6 @@
 use Rattle.std.proofs.Common.{◌+◌, ◌*◌, ◌<◌, All}
 use Rattle.trie_core.specs.Paint.{IsAscending}
-use Rattle.geo_bench.proofs.paint.scattered.Given as goal
+use Rattle.geo_bench.proofs.ranges.scattered.Given as goal
 
 abbrev pub invariant-loop-index : goal.invariant-loop-index
 invariant-loop-index l = record {

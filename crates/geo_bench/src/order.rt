@@ -1,0 +1,52 @@
+//! The cases `fill` and `order`: a store of many nodes, and a root in it that has few.
+ghost use Rattle.std.specs.Prelude.{◌≡◌, ◌<◌};
+ghost use Rattle.trie_core.specs.Paint.{IsAscending};
+
+use crate::ranges::{MOST, scattered};
+use anyhow::ensure;
+use geo_outside::Steps;
+use std::alloc::Global;
+use std::io::Print;
+use std::marker::Brand;
+use std::sync::ledger::{Blank, Ledger};
+use trie_core::{Part, Store};
+
+/// Fills a store from so many ranges with leaves of their own, orders a root of one range in it so many
+/// times, and prints how many nodes the store has, and how many of them that root has.
+pub fn run(alloc: Global, rt: &impl Print, size: u32, times: u32) -> anyhow::Result<()> {
+    ensure!(size <= MOST, "the case takes at most {MOST} ranges");
+    let many = scattered(alloc, size, u32::MAX)?;
+    let one = scattered(alloc, 1, 3)?;
+    let (stored, few) = ordered::<Brand>(alloc, &many, &one, times, Blank::new(1))?;
+    println!(rt; "nodes stored {stored}")?;
+    println!(rt; "nodes under the small root {few}")?;
+    Ok(())
+}
+
+// The number of nodes in a store with a root for each of two lists of parts, and the number of those
+// under the second root, which is ordered so many times.
+fn ordered<L: Ledger>(
+    alloc: Global,
+    many: &[Part],
+    few: &[Part],
+    times: u32,
+    blank: Blank,
+) -> anyhow::Result<(u32, usize)>
+    requires many { IsAscending many.now }
+    requires few { IsAscending few.now }
+    requires name { blank.name ≡ L.name }
+    requires parts { blank.parts ≡ L.parts }
+    requires some { 0 < blank.parts }
+{
+    let mut steps: Steps<L> = Steps::new(blank);
+    let mut store = Store::new(alloc);
+    let empty = store.empty();
+    let _large = store.paint_all(empty, many, &mut steps)?;
+    let small = store.paint_all(empty, few, &mut steps)?;
+    let mut nodes = 0;
+    for _ in 0..times {
+        let layout = least_nodes::order(alloc, &store, small)?;
+        nodes = layout.nodes.as_slice().len();
+    }
+    Ok((store.len(), nodes))
+}
