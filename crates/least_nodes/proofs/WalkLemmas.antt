@@ -16,7 +16,7 @@ use Rattle.trie_core.proofs.StoreLemmas.{IsReduced-meaning, same_from_meaning}
 use Rattle.trie_core.proofs.TreeLemmas.{nat_equality}
 use Rattle.least_nodes.specs.Layout.{each_once, preorder, leaves, inner, is_place, place_order}
 use Rattle.least_nodes.specs.Laws.{IsFewest}
-use Rattle.least_nodes.specs.Order.{trees_of, AreOf, nodes_after, places_after, IsDoneBelow, IsNoted}
+use Rattle.least_nodes.specs.Order.{trees_of, AreOf, nodes_after, places_after, IsDoneBelow, IsNoted, same_node}
 use Rattle.least_nodes.proofs.Elements.{In, In-left, In-append, In-map, In-from_map, In-from_any, any-from_In, In-from_Contains, Contains-from_In, each_once-new, each_once-known, each_once-append, In-each_once, In-each_once-seen, In-each_once-new, In-filter, In-from_filter, filter-each_once, IsDistinct-from_none}
 use Rattle.least_nodes.proofs.Positions.{length-le_from_apart, Least-holds}
 use Rattle.least_nodes.proofs.TreeParts.{IsEquality-tree_eq, preorder-inside, leaves-inside}
@@ -34,6 +34,9 @@ id_equality a b = (
       λ i. record { 0 = number i },
   λ same. let h : nat_eq a.0 b.0 ≡ true = (nat_equality a.0 b.0).1 (ap (λ (x : NodeId). x.0) same) in h,
 )
+
+pub same_node_equality : IsEquality same_node
+same_node_equality a b = id_equality a b
 
 pub tree_equality : IsEquality (tree_eq nat_eq)
 tree_equality = IsEquality-tree_eq nat_eq nat_equality

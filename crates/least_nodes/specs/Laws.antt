@@ -1,10 +1,10 @@
 -- The laws of the least tree, for every height and over every kind of leaf.
-use Rattle.std.specs.Prelude.{◌≡◌, ℕ, ◌^◌, ◌<◌, ◌≤◌, Bool, List, ◌∷◌, length, Some}
+use Rattle.std.specs.Prelude.{◌≡◌, ℕ, ◌^◌, ◌<◌, ◌≤◌, Bool, List, ◌∷◌, map, length, Some}
 use Rattle.geo_addr.specs.Bits.{bits_of}
-use Rattle.trie_core.specs.Tree.{Tree, look, tree}
+use Rattle.trie_core.specs.Tree.{Tree, look, tree, HasLeaf, map_tree}
 use Rattle.trie_core.specs.Laws.{IsReducedWithin, IsEquality}
-use Rattle.least_nodes.specs.NodeList.{Member, at, go, reached}
-use Rattle.least_nodes.specs.Layout.{below, IsNode, inner, laid}
+use Rattle.least_nodes.specs.NodeList.{Member, at, go, reached, map_pair}
+use Rattle.least_nodes.specs.Layout.{below, IsNode, inner, leaf_order, laid}
 
 -- the walk from the first node answers as the tree does, along each list of n bits
 abbrev pub HasLookups : {A : Type 0} → ℕ → List (Member A × Member A) → Tree A → Type 0
@@ -38,3 +38,8 @@ LeastFor A = (eq : A → A → Bool) → IsEquality eq → (f : ℕ → A) (n : 
 -- the nodes that are written for a tree answer as the tree does
 abbrev pub LaidOut : Type 0 → Type 0
 LaidOut A = (eq : A → A → Bool) → IsEquality eq → (t : Tree A) (b : Bool) (w : List Bool) → go (laid eq t) (at 0) (b ∷ w) ≡ look t (b ∷ w)
+
+-- a renaming that gives different leaves of the tree different names keeps its layout
+abbrev pub RenamedLayout : Type 0 → Type 0 → Type 0
+RenamedLayout A B = (eq : A → A → Bool) → IsEquality eq → (eq' : B → B → Bool) → IsEquality eq' → (f : A → B) (t : Tree A) → ((a b : A) → HasLeaf t a → HasLeaf t b → f a ≡ f b → a ≡ b)
+    → (laid eq' (map_tree f t) ≡ map (map_pair f) (laid eq t)) × (leaf_order eq' (map_tree f t) ≡ map f (leaf_order eq t)) × (length (inner eq' (map_tree f t)) ≡ length (inner eq t))

@@ -28,3 +28,13 @@ module _ {A : Type 0} where
   reached nodes (says a) w = says a
   reached nodes (at i) [] = at i
   reached nodes (at i) (b ∷ w) = reached nodes (side b (records_at nodes i)) w
+
+module _ {A B : Type 0} where
+  -- the same record with its answer renamed
+  abbrev pub map_member : (A → B) → Member A → Member B
+  map_member f (at i) = at i
+  map_member f (says a) = says (f a)
+
+  -- and both records of a node
+  abbrev pub map_pair : (A → B) → Member A × Member A → Member B × Member B
+  map_pair f pair = (map_member f pair.0, map_member f pair.1)

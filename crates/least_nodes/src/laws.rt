@@ -1,5 +1,5 @@
 //! The laws of the least tree, as functions that do nothing: what each ensures is the law.
-ghost use Rattle.least_nodes.specs.Laws.{Apart, Least, LeastFor, LaidOut};
+ghost use Rattle.least_nodes.specs.Laws.{Apart, Least, LeastFor, LaidOut, RenamedLayout};
 
 pub use trie_core::laws::{
     equal_lookups_equal_trees, only_tree_of_function, tree_answers_function,
@@ -27,4 +27,10 @@ pub fn fewest_nodes_for_function<A>()
 /// every list of at least one bit, to the tree's own answer.
 pub fn layout_answers_as_tree<A>()
     ensures { LaidOut A }
+{}
+
+/// New names, the same layout: where the leaves of a tree get new names, different ones for different
+/// leaves, the nodes that are written and the order of the leaves change in the names alone.
+pub fn renamed_leaves_same_layout<A, B>()
+    ensures { RenamedLayout A B }
 {}
