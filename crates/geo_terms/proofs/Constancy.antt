@@ -1,16 +1,16 @@
 -- Between two cut points of the sources every statement holds the same addresses, so nothing that is chosen by it changes.
-use Rattle.std.proofs.Common.{◌≡◌, ℕ, suc, ◌+◌, ◌-◌, ◌^◌, ◌<◌, ◌≤◌, ◌⊎◌, Bool, true, false, cond, ◌&&◌, List, [], ◌∷◌, ◌++◌, length, get_or, map, Option, Some, None, max, nat_lt, nat_le, refl, sym, ap, ◌∙◌, subst, inl, inr, arith, append_assoc, append-nil}
-use Rattle.std.specs.List.{Any, AllByRecursion, filter, flat_map, find}
+use Rattle.std.proofs.Common.{◌≡◌, ℕ, suc, ◌+◌, ◌<◌, ◌≤◌, Bool, true, false, cond, ◌&&◌, List, [], ◌∷◌, ◌++◌, map, Option, Some, None, refl, sym, ap, ◌∙◌, subst, inl, inr, arith, append_assoc, append-nil}
+use Rattle.std.specs.List.{AllByRecursion, filter, flat_map, find}
 use Rattle.std.proofs.lemmas.Bool.Decides.{nat_tests}
 use Rattle.std.proofs.lemmas.List.{map-append}
-use Rattle.geo_addr.specs.Ranges.{Ends, Prefix, ground_first, holds, is_v4, IsEdge, IsCut, NoCut, range_of_block}
-use Rattle.geo_terms.specs.Cuts.{statement_ranges, ConstantBetweenCuts}
+use Rattle.geo_addr.specs.Ranges.{Ends, ground_first, holds, IsEdge, IsCut, NoCut, range_of_block}
+use Rattle.geo_terms.specs.Cuts.{ConstantBetweenCuts}
 use Rattle.geo_terms.specs.DelegationForm.{DelegationParts}
-use Rattle.geo_terms.specs.First.{holders, first_at, first_of}
+use Rattle.geo_terms.specs.First.{first_at, first_of}
 use Rattle.geo_terms.specs.PlaceForm.{same_text}
-use Rattle.geo_terms.specs.Precedence.{reference_before, delegation_before, override_before, entry_before, speaker, speaking_entry, entry_of, entries_within, lies_within, first_delegation, first_override, chosen, chosen_at}
+use Rattle.geo_terms.specs.Precedence.{reference_before, delegation_before, override_before, entry_before, speaker, speaking_entry, entry_of, entries_within, lies_within, first_delegation, first_override, chosen_at}
 use Rattle.geo_terms.specs.SourceForm.{FeedParts}
-use Rattle.geo_terms.specs.Sources.{InForce, references, feed_of, entries_in, entries, delegations, override_rows}
+use Rattle.geo_terms.specs.Sources.{InForce, references, entries_in, entries, delegations, override_rows}
 use Rattle.geo_terms.specs.declared.statement.Entry.{Entry}
 use Rattle.geo_terms.specs.declared.statement.Override.{Override}
 use Rattle.geo_terms.specs.declared.statement.Reference.{Reference}

@@ -1,5 +1,5 @@
 -- What is kept of numbered lines, at most one thing a line, stands in line order and no line twice.
-use Rattle.std.proofs.Common.{◌≡◌, ℕ, zero, suc, ◌+◌, ◌<◌, ◌≤◌, List, [], ◌∷◌, map, length, get_or, All, Option, Some, None, filter_map, refl, sym, ap, ◌∙◌, subst, arith}
+use Rattle.std.proofs.Common.{◌≡◌, ℕ, zero, suc, ◌+◌, ◌≤◌, List, [], ◌∷◌, map, All, Option, Some, None, filter_map, refl, sym, subst, arith}
 use Rattle.std.proofs.lemmas.List.Elements.{All-nil, All-cons}
 use Rattle.std.specs.List.{cons_option, enumerate_from}
 use Rattle.std.specs.List.Sorted.{IsStrictlyIncreasing}

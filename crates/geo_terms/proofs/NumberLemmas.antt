@@ -1,5 +1,5 @@
 -- The number of a place that was just put into the list.
-use Rattle.std.proofs.Common.{◌≡◌, ℕ, suc, ◌+◌, ◌<◌, Bool, true, false, cond, not, ◌&&◌, ◌||◌, ltb, eqb, get_or, slice_get, length-append, List, [], ◌∷◌, ◌++◌, length, position, Option, Some, None, option_map, refl, sym, ap, ◌∙◌, arith}
+use Rattle.std.proofs.Common.{◌≡◌, ℕ, suc, ◌+◌, ◌<◌, Bool, true, false, cond, not, ◌&&◌, ◌||◌, ltb, eqb, get_or, length-append, List, [], ◌∷◌, ◌++◌, length, position, Some, None, option_map, refl, sym, ap, ◌∙◌, arith}
 use Rattle.std.specs.Cmp.Lexicographic.{bytes_decides}
 use Rattle.std.specs.List.{list_any, position_or_len}
 use Rattle.std.proofs.lemmas.List.Folds.{position_or_len_push}
@@ -45,8 +45,12 @@ same_parts x y h =
 
 place_is_itself : (x y : PlaceParts) → x ≡ y → same_place x y ≡ true
 place_is_itself x y e =
-    rw ((text_told x.country y.country).1 (ap (λ p. p.country) e), (text_told x.region y.region).1 (ap (λ p. p.region) e),
-        (text_told x.city y.city).1 (ap (λ p. p.city) e), (text_told x.postal y.postal).1 (ap (λ p. p.postal) e)) refl
+    rw (
+      (text_told x.country y.country).1 (ap (λ p. p.country) e),
+      (text_told x.region y.region).1 (ap (λ p. p.region) e),
+      (text_told x.city y.city).1 (ap (λ p. p.city) e),
+      (text_told x.postal y.postal).1 (ap (λ p. p.postal) e),
+    ) refl
 
 pub places_are_told_apart : PlacesAreToldApart
 places_are_told_apart x y = (same_parts x y, place_is_itself x y)
@@ -75,13 +79,13 @@ position_stays {X} q xs y n = by_test (ltb (position_or_len q xs) (length xs)) r
         let below : position_or_len q xs < length xs = (Decides-ltb (position_or_len q xs) (length xs)).0 is in
         let apart : eqb (position_or_len q xs) (length xs) ≡ false = grind (arith, nat_tests) in
         let same : position_or_len q (xs ++ y ∷ []) ≡ position_or_len q xs =
-            position_or_len_push q xs y ∙ ap (λ b. cond b (length xs + cond (q y) 0 1) (position_or_len q xs)) apart in
+        position_or_len_push q xs y ∙ ap (λ b. cond b (length xs + cond (q y) 0 1) (position_or_len q xs)) apart in
         let within : ltb (position_or_len q (xs ++ y ∷ [])) (length (xs ++ y ∷ [])) ≡ true =
-            (Decides-ltb (position_or_len q (xs ++ y ∷ [])) (length (xs ++ y ∷ []))).1 (omega (arith, length-append xs (y ∷ []))) in
+        (Decides-ltb (position_or_len q (xs ++ y ∷ [])) (length (xs ++ y ∷ []))).1 (omega (arith, length-append xs (y ∷ []))) in
         ap (λ b. option_map (λ i. i + 1) (cond b (Some (position_or_len q (xs ++ y ∷ []))) None)) within
         ∙ ap (λ i. Some (i + 1)) same ∙ e
 
 pub numbers_stay : NumbersStay
 numbers_stay places p more n h =
     elim (list_any (same_place more) places) as (λ b. number_of (cond b places (places ++ more ∷ [])) p ≡ Some n)
-        [ true ↦ h | false ↦ position_stays (same_place p) places more n h ]
+    [ true ↦ h | false ↦ position_stays (same_place p) places more n h ]

@@ -1,13 +1,12 @@
 -- Texts of a place in upper case are in form where they were in form before.
-use Rattle.std.proofs.Common.{◌≡◌, ℕ, ◌+◌, ◌-◌, ◌<◌, ◌≤◌, Bool, true, false, cond, not, ◌&&◌, ◌||◌, eqb, nat_le, List, [], ◌∷◌, map, length, get_or, IsTrue, refl, sym, ap, ◌∙◌, subst, arith}
+use Rattle.std.proofs.Common.{◌≡◌, ℕ, ◌<◌, ◌≤◌, Bool, true, false, cond, ◌&&◌, List, [], ◌∷◌, length, get_or, IsTrue, refl, sym, ap, ◌∙◌, subst, arith}
 use Rattle.std.specs.Char.{is_ascii_alphabetic, is_ascii_alphanumeric, to_ascii_uppercase}
 use Rattle.std.specs.List.{list_all}
 use Rattle.std.specs.Prelude.{nat_eq}
 use Rattle.std.proofs.lemmas.Bool.Decides.{nat_tests}
-use Rattle.std.proofs.lemmas.List.Folds.{list_all-map}
 use Rattle.std.proofs.lemmas.List.{length-map}
 use Rattle.std.proofs.lemmas.Str.Ascii.{uppercase-uppercase}
-use Rattle.geo_terms.specs.PlaceForm.{PlaceParts, IsPlace, is_empty, is_country, is_region, is_subdivision, upper, country_of_region, country_place, nowhere, same_text, country_fits, region_fits, lengths_fit, parts_of, says_nothing}
+use Rattle.geo_terms.specs.PlaceForm.{IsPlace, is_empty, is_country, is_region, is_subdivision, upper, country_of_region, country_place, nowhere, same_text, country_fits, region_fits, lengths_fit, parts_of, says_nothing}
 
 alphabetic-upper : (b : ℕ) → is_ascii_alphabetic (to_ascii_uppercase b) ≡ is_ascii_alphabetic b
 alphabetic-upper b = grind (arith, nat_tests)

@@ -1,5 +1,4 @@
 -- The sources that a plain look-up is given.
-use Rattle.std.specs.Prelude.{ℕ}
 use Rattle.std.specs.Option.{option_copied}
 use Rattle.geo_terms.specs.Sources.{InForce}
 use Rattle.geo_terms.specs.declared.plain.AllSources.{AllSources}

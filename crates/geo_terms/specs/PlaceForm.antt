@@ -1,7 +1,7 @@
 -- What a place is: a country (ISO 3166-1), a region (ISO 3166-2), a city and a postal code, as in RFC 8805 section 2.1.1.
 use Rattle.std.specs.Prelude.{◌≡◌, ℕ, Bool, true, false, not, ◌&&◌, ◌||◌, nat_le, nat_eq, List, [], ◌∷◌, map, length, codes, if◌then◌else◌, IsTrue, Option, Some, None}
 use Rattle.std.specs.List.{list_all}
-use Rattle.std.specs.Char.{is_ascii_alphabetic, is_ascii_alphanumeric, is_ascii_uppercase, is_ascii_digit, to_ascii_uppercase}
+use Rattle.std.specs.Char.{is_ascii_alphabetic, is_ascii_alphanumeric, to_ascii_uppercase}
 use Rattle.std.specs.Cmp.Lexicographic.{pointwise}
 
 -- the four texts of a place

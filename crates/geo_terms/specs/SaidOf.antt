@@ -1,5 +1,5 @@
 -- What four fields of a line say.
-use Rattle.std.specs.Prelude.{ℕ, Bool, not, ◌&&◌, ◌||◌, ◌≤◌, nat_le, List, length, Result, Ok, Err, if◌then◌else◌, IsTrue}
+use Rattle.std.specs.Prelude.{ℕ, not, List, Result, Ok, Err, if◌then◌else◌}
 use Rattle.geo_terms.specs.PlaceForm.{PlaceParts, country_fits, region_fits, lengths_fit, parts_of, says_nothing}
 use Rattle.geo_terms.specs.declared.place.PlaceFault.{PlaceFault}
 use Rattle.geo_terms.specs.declared.place.PlaceFault.TheVariants.{Country, Region, TooLong}

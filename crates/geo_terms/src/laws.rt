@@ -12,19 +12,16 @@ pub fn constant_between_cuts()
 #[tactic(auto, using(crate::proofs::NumberLemmas::places_are_told_apart))]
 pub fn places_are_told_apart()
     ensures { PlacesAreToldApart }
-{
-}
+{}
 
 /// The number of a place leads back to the place.
 #[tactic(auto, using(crate::proofs::NumberLemmas::numbers_name_places))]
 pub fn numbers_name_places()
     ensures { NumbersNamePlaces }
-{
-}
+{}
 
 /// One more place changes no number that was given.
 #[tactic(auto, using(crate::proofs::NumberLemmas::numbers_stay))]
 pub fn numbers_stay()
     ensures { NumbersStay }
-{
-}
+{}

@@ -1,7 +1,7 @@
 -- A country that is named is not empty, so its place has a country and nothing else.
-use Rattle.std.proofs.Common.{◌≡◌, ◌≢◌, ℕ, Bool, true, false, cond, ◌&&◌, not, List, [], ◌∷◌, Option, Some, None, refl, sym, ap, ◌∙◌}
+use Rattle.std.proofs.Common.{◌≡◌, ℕ, Bool, true, false, cond, List, [], ◌∷◌, Some, None, sym, ap, ◌∙◌}
 use Rattle.geo_terms.specs.DelegationForm.{IsCountryAlone}
-use Rattle.geo_terms.specs.PlaceForm.{PlaceParts, country_place, names_country, place_of_country, is_country, same_text, upper, nowhere}
+use Rattle.geo_terms.specs.PlaceForm.{PlaceParts, country_place, names_country, place_of_country}
 
 pub country_alone : (country : List ℕ) (p : PlaceParts) → Some p ≡ place_of_country country → IsCountryAlone p
 unfolding place_of_country

@@ -1,10 +1,9 @@
 -- The lists of a file keep what a `Stats` promises.
-use Rattle.std.proofs.Common.{◌≡◌, ℕ, List, Option, Some, None, All, map, refl, sym, ap, ◌∙◌, subst}
-use Rattle.std.specs.List.Sorted.{IsStrictlyIncreasing}
+use Rattle.std.proofs.Common.{◌≡◌, ℕ, List, Some, sym, subst}
 use Rattle.geo_addr.specs.Lines.{lines_of, numbered_lines, without_mark}
 use Rattle.geo_terms.proofs.LineOrder.{All-filter_map, lines_increase}
 use Rattle.geo_terms.specs.DelegationForm.{DelegationParts}
-use Rattle.geo_terms.specs.SourceForm.{AreNotesOf, IsStats, StatsParts}
+use Rattle.geo_terms.specs.SourceForm.{IsStats}
 use Rattle.geo_terms.specs.declared.note.Note.{Note}
 use Rattle.geo_terms.specs.declared.note.Origin.TheVariants.{Stats}
 use Rattle.nro_stats.specs.File.{note_by, note_of, notes, row_by, row_of, rows, stats}

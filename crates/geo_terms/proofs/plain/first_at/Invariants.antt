@@ -1,5 +1,5 @@
 -- The first so far and the statements that are left give the first of all.
-use Rattle.std.proofs.Common.{◌≡◌, ℕ, drop, fold}
+use Rattle.std.proofs.Common.{◌≡◌, drop, fold}
 use Rattle.std.specs.Option.{option_copied}
 use Rattle.std.specs.Ordering.{is_lt}
 use Rattle.geo_terms.specs.First.{better, holders}

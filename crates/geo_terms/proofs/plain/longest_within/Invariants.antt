@@ -1,5 +1,5 @@
 -- The longest so far and the entries that are left give the longest of all.
-use Rattle.std.proofs.Common.{◌≡◌, ℕ, drop, fold}
+use Rattle.std.proofs.Common.{◌≡◌, drop, fold}
 use Rattle.std.specs.Option.{option_copied}
 use Rattle.geo_terms.specs.First.{better, first_of}
 use Rattle.geo_terms.specs.Precedence.{entry_before, entries_within}

@@ -1,5 +1,5 @@
 -- The first so far and the dumps that are left give the first of all.
-use Rattle.std.proofs.Common.{◌≡◌, ℕ, drop, fold, flat_map}
+use Rattle.std.proofs.Common.{◌≡◌, drop, fold, flat_map}
 use Rattle.std.specs.Option.{option_copied}
 use Rattle.geo_terms.specs.First.{better, first_of, holders}
 use Rattle.geo_terms.specs.Precedence.{reference_before}

@@ -1,5 +1,5 @@
 -- The lists are those of the file, which are in form.
-use Rattle.std.proofs.Common.{sym, ◌∙◌}
+use Rattle.std.proofs.Common.{◌∙◌}
 use Rattle.nro_stats.proofs.FileLemmas.{stats_in_form}
 use Rattle.nro_stats.proofs.read.read_stats.Goals as goal
 
