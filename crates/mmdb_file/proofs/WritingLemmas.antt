@@ -11,6 +11,13 @@ use Rattle.std.proofs.lemmas.List.Elements.{All-push}
 use Rattle.std.proofs.Math.Seq.{drop-cons}
 use Rattle.std.proofs.lemmas.List.Sums.{prefix_len-le-length}
 use Rattle.std.proofs.Math.Nat.{add-mul, mul-le-mul_right}
+use Rattle.std.proofs.lemmas.Option.{get_or_from_slice_get}
+use Rattle.std.specs.Prelude.{slice_get}
+use Rattle.trie_core.specs.declared.node.NodeId.{NodeId}
+use Rattle.trie_core.specs.declared.node.Pair.{Pair}
+use Rattle.trie_core.specs.declared.node.Rec.{Rec}
+use Rattle.trie_core.specs.declared.node.Rec.TheVariants.{Leaf, Node}
+use Rattle.mmdb_file.specs.Writing.{node_numbers}
 use Rattle.mmdb_tree.specs.declared.bits.Bits.{Bits}
 use Rattle.mmdb_tree.specs.Nodes.{node_bytes, tree_bytes, width}
 use Rattle.mmdb_tree.proofs.NodeLemmas.{length-node_bytes}
@@ -72,3 +79,35 @@ All_more P xs i d inside before here = subst (All P) (sym (take_more xs i d insi
 
 pub All_whole : {X : Type 0} (P : X → Type 0) (xs : List X) (i : ℕ) → length xs ≤ i → All P (take i xs) → All P xs
 All_whole P xs i past all = subst (All P) (take_all i xs past) all
+
+-- one more element of a list that a loop maps
+pub map_step : {X Y : Type 0} (f : X → Y) (xs : List X) (i : ℕ) (d : X) (made new total : List Y) (y : Y) → i < length xs → made ++ map_list f (drop i xs) ≡ total → new ≡ made ++ y ∷ [] → y ≡ f (get_or xs i d) → new ++ map_list f (drop (i + 1) xs) ≡ total
+map_step f xs i d made new total y inside before is here =
+    let rest : map_list f (drop i xs) ≡ f (get_or xs i d) ∷ map_list f (drop (i + 1) xs) = ap (map_list f) (drop-cons xs i d inside ∙ ap (λ n. get_or xs i d ∷ drop n xs) (sym (add-one i))) in
+    ap (λ z. z ++ map_list f (drop (i + 1) xs)) is
+    ∙ append_assoc made (y ∷ []) (map_list f (drop (i + 1) xs))
+    ∙ ap (λ v. made ++ v ∷ map_list f (drop (i + 1) xs)) here
+    ∙ sym (ap (λ v. made ++ v) rest) ∙ before
+
+-- the numbers of a node, by its children
+pub node_by_children : (pairs : List Pair) (number : Rec → ℕ) (id : NodeId) (left right : Rec) → slice_get pairs id.0 ≡ Some (record { left = left; right = right }) → (number left, number right) ≡ node_numbers pairs number id
+node_by_children pairs number id left right is =
+    let found : get_or pairs id.0 (record { left = Leaf 0; right = Leaf 0 }) ≡ record { left = left; right = right } = get_or_from_slice_get pairs id.0 (record { left = left; right = right }) (record { left = Leaf 0; right = Leaf 0 }) is in
+    sym (ap (λ (p : Pair). (number p.left, number p.right)) found)
+
+-- members that were added one after another
+abbrev Pairs : Type 0
+Pairs = List (List ℕ × Tree)
+
+pub with_value : (new old : Pairs) (key : List ℕ) (v w : Tree) → new ≡ old ++ (key, v) ∷ [] → v ≡ w → new ≡ old ++ (key, w) ∷ []
+with_value new old key v w is same = is ∙ ap (λ t. old ++ (key, t) ∷ []) same
+
+next : (old new later : Pairs) (xs : Pairs) (b : List ℕ × Tree) → new ≡ old ++ xs → later ≡ new ++ b ∷ [] → later ≡ old ++ (xs ++ b ∷ [])
+next old new later xs b is then = then ∙ ap (λ n. n ++ b ∷ []) is ∙ append_assoc old xs (b ∷ [])
+
+pub four : (old x1 x2 x3 x4 : Pairs) (a b c d : List ℕ × Tree) → x1 ≡ old ++ a ∷ [] → x2 ≡ x1 ++ b ∷ [] → x3 ≡ x2 ++ c ∷ [] → x4 ≡ x3 ++ d ∷ [] → x4 ≡ old ++ a ∷ b ∷ c ∷ d ∷ []
+four old x1 x2 x3 x4 a b c d e1 e2 e3 e4 =
+    next old x3 x4 (a ∷ b ∷ c ∷ []) d (next old x2 x3 (a ∷ b ∷ []) c (next old x1 x2 (a ∷ []) b e1 e2) e3) e4
+
+pub five : (old x1 x2 x3 x4 x5 : Pairs) (a b c d e : List ℕ × Tree) → x1 ≡ old ++ a ∷ [] → x2 ≡ x1 ++ b ∷ [] → x3 ≡ x2 ++ c ∷ [] → x4 ≡ x3 ++ d ∷ [] → x5 ≡ x4 ++ e ∷ [] → x5 ≡ old ++ a ∷ b ∷ c ∷ d ∷ e ∷ []
+five old x1 x2 x3 x4 x5 a b c d e e1 e2 e3 e4 e5 = next old x4 x5 (a ∷ b ∷ c ∷ d ∷ []) e (four old x1 x2 x3 x4 a b c d e1 e2 e3 e4) e5

@@ -10,7 +10,7 @@ use std::hash::Hash;
 use trie_core::{NodeId, Rec};
 
 /// The bytes between the search tree and the data section.
-pub(crate) const GAP: u32 = 16;
+pub(crate) const GAP: u64 = 16;
 
 /// The nodes and the places of a file in order, and where the value of each place begins.
 #[derive(Drop)]
@@ -18,7 +18,7 @@ pub(crate) struct Numbers {
     pub(crate) count: u32,
     pub(crate) nodes: IndexSet<NodeId>,
     pub(crate) places: IndexSet<u32>,
-    pub(crate) starts: Vec<u32>,
+    pub(crate) starts: Vec<u64>,
 }
 
 impl Numbers {
@@ -39,7 +39,7 @@ impl Numbers {
         ensures { result ≡ record_number self.now.count self.now.nodes.keys self.now.places.keys self.now.starts.items (Rec.Leaf number) }
     {
         match self.places.get_index_of(&number) {
-            Some(index) => self.count + GAP + start_at(&self.starts, index),
+            Some(index) => (u64::from(self.count) + GAP + start_at(&self.starts, index)) as u32,
             None => self.count,
         }
     }
@@ -55,7 +55,7 @@ impl Numbers {
     }
 }
 
-fn start_at(starts: &[u32], index: usize) -> u32
+fn start_at(starts: &[u64], index: usize) -> u64
     ensures { result ≡ slice_index starts.now index }
 {
     match starts.get(index) {

@@ -108,7 +108,8 @@ fn subdivision(region: &str) -> &str
     }
 }
 
-fn add(
+/// Adds a member.
+pub(crate) fn add(
     alloc: Global,
     members: &mut Vec<(Text, Value)>,
     key: &str,
