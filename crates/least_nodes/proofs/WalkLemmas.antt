@@ -202,3 +202,24 @@ few_from_inner pairs t ids known nodes_are =
         let has : Contains ids found.0 = Contains-from_In id_impl.eq-value.it id_equality found.0 ids found.1 in
         let within : found.0.0 < length pairs = All-contains (λ (x : NodeId). IsOf pairs (Node x)) ids found.0 known has in
         (found.0.0, (found.0, found.2, refl), within)
+
+-- what the answer of a walk from a record says, at the tree t that the record means
+pub record IsLayoutOf (pairs : List Pair) (t : Tree ℕ) (ids : List NodeId) (places : List ℕ) : Type 0 where
+  pub nodes : trees_of pairs ids ≡ inner nat_eq t
+  pub of : AreOf pairs ids
+  pub leaves : places ≡ place_order t
+  pub least : IsFewest 128 t (length ids)
+  pub few : length ids ≤ length pairs
+
+pub IsLayoutOf-from_walk : (pairs : List Pair) (rec root : Rec) (before ids : List NodeId) (places-before places : List ℕ) → IsSound pairs → IsOf pairs rec → rec ≡ root → before ≡ [] → places-before ≡ [] → AreOf pairs ids → trees_of pairs ids ≡ nodes_after (trees_of pairs before) (meaning pairs rec) → places ≡ places_after places-before (meaning pairs rec) → IsLayoutOf pairs (meaning pairs root) ids places
+IsLayoutOf-from_walk pairs rec root before ids places-before places sound of is none no-places known walked places-walked =
+    let t : Tree ℕ = meaning pairs rec in
+    let nodes_are : trees_of pairs ids ≡ inner nat_eq t = walked ∙ ap (λ old. nodes_after (trees_of pairs old) t) none in
+    let whole : IsLayoutOf pairs t ids places = record {
+      nodes = nodes_are;
+      of = known;
+      leaves = places-walked ∙ ap (λ old. places_after old t) no-places ∙ place_order-from_walk t;
+      least = IsFewest-from_inner pairs rec ids sound of nodes_are;
+      few = few_from_inner pairs t ids known nodes_are;
+    } in
+    subst (λ (r : Rec). IsLayoutOf pairs (meaning pairs r) ids places) is whole

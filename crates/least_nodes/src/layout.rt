@@ -37,6 +37,14 @@ pub fn order(alloc: Global, store: &Store, root: Root) -> Result<Layout, Memory>
     let rec = store.rec_of(root);
     let mut seen = Seen::new(alloc);
     visit(store, rec, &mut seen)?;
+    listed(alloc, &seen)
+}
+
+// What was seen, in order.
+fn listed(alloc: Global, seen: &Seen) -> Result<Layout, Memory>
+    ensures nodes { IfOk result (λ layout. layout.nodes ≡ seen.now.nodes.keys) }
+    ensures leaves { IfOk result (λ layout. layout.leaves ≡ seen.now.places.keys) }
+{
     let nodes = seen.nodes.as_slice().to_vec(alloc)?;
     let leaves = seen.places.as_slice().to_vec(alloc)?;
     Ok(Layout {

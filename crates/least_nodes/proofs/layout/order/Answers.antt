@@ -1,28 +1,32 @@
-use Rattle.std.proofs.Common.{◌≡◌, length, subst, sym, ap, ◌∙◌, nat_eq}
-use Rattle.trie_core.specs.Store.{meaning}
-use Rattle.least_nodes.specs.Layout.{place_order, inner}
+use Rattle.std.proofs.Common.{◌≤◌, ◌∙◌, length, subst, sym, ap}
+use Rattle.std.proofs.lemmas.Result.{IfOk-weaker}
+use Rattle.trie_core.specs.Store.{record_of, tree_of}
 use Rattle.least_nodes.specs.Laws.{IsFewest}
-use Rattle.least_nodes.specs.Order.{trees_of, AreOf, nodes_after, places_after}
-use Rattle.least_nodes.proofs.WalkLemmas.{place_order-from_walk, IsFewest-from_inner, few_from_inner}
+use Rattle.least_nodes.specs.Order.{trees_of, AreOf}
+use Rattle.least_nodes.proofs.WalkLemmas.{IsLayoutOf-from_walk}
 use Rattle.least_nodes.proofs.layout.order.Goals as goal
 
--- the list of nodes in the answer is what the walk saw
-listed : (c : goal.After-drop-seen-9) → c.of.result ≡ c.visit.new.seen.nodes.keys
-listed c = c.of.ensures ∙ c.in_ok-nodes.ensures.items_if_clones_equal (λ x y same. same) ∙ c.as_slice.ensures.keys
+pub returns-clause-nodes : goal.returns-clause-nodes
+returns-clause-nodes c =
+    let whole = IsLayoutOf-from_walk c.args.store.now c.rec_of-rec.result (record_of c.args.root) c.new-seen.result.nodes.keys c.visit.new.seen.nodes.keys c.new-seen.result.places.keys c.visit.new.seen.places.keys c.rec_of-rec.ensures.sound c.rec_of-rec.ensures.of c.rec_of-rec.ensures.same c.new-seen.ensures.nodes c.new-seen.ensures.places c.in_ok-visit.ensures.known c.in_ok-visit.ensures.nodes c.in_ok-visit.ensures.places in
+    IfOk-weaker c.listed.result _ _ (λ layout is. ap (trees_of c.args.store.now) is ∙ whole.nodes) c.listed.ensures.nodes
 
-trees : (c : goal.After-drop-seen-9) → trees_of c.args.store.now c.of.result ≡ inner nat_eq (meaning c.args.store.now c.rec_of-rec.result)
-trees c = ap (trees_of c.args.store.now) (listed c) ∙ c.in_ok-visit.ensures.nodes ∙ ap (λ ids. nodes_after (trees_of c.args.store.now ids) (meaning c.args.store.now c.rec_of-rec.result)) c.new-seen.ensures.nodes
+pub returns-clause-of : goal.returns-clause-of
+returns-clause-of c =
+    let whole = IsLayoutOf-from_walk c.args.store.now c.rec_of-rec.result (record_of c.args.root) c.new-seen.result.nodes.keys c.visit.new.seen.nodes.keys c.new-seen.result.places.keys c.visit.new.seen.places.keys c.rec_of-rec.ensures.sound c.rec_of-rec.ensures.of c.rec_of-rec.ensures.same c.new-seen.ensures.nodes c.new-seen.ensures.places c.in_ok-visit.ensures.known c.in_ok-visit.ensures.nodes c.in_ok-visit.ensures.places in
+    IfOk-weaker c.listed.result _ _ (λ layout is. subst (AreOf c.args.store.now) (sym is) whole.of) c.listed.ensures.nodes
 
 pub returns-clause-leaves : goal.returns-clause-leaves
 returns-clause-leaves c =
-    let walked = c.of-2.ensures ∙ c.in_ok-leaves.ensures.items_if_clones_equal (λ x y same. same) ∙ c.as_slice-2.ensures.keys ∙ c.in_ok-visit.ensures.places in
-    let t = meaning c.args.store.now c.rec_of-rec.result in
-    walked ∙ ap (λ seen. places_after seen t) c.new-seen.ensures.places ∙ place_order-from_walk t ∙ ap (λ r. place_order (meaning c.args.store.now r)) c.rec_of-rec.ensures.same
+    let whole = IsLayoutOf-from_walk c.args.store.now c.rec_of-rec.result (record_of c.args.root) c.new-seen.result.nodes.keys c.visit.new.seen.nodes.keys c.new-seen.result.places.keys c.visit.new.seen.places.keys c.rec_of-rec.ensures.sound c.rec_of-rec.ensures.of c.rec_of-rec.ensures.same c.new-seen.ensures.nodes c.new-seen.ensures.places c.in_ok-visit.ensures.known c.in_ok-visit.ensures.nodes c.in_ok-visit.ensures.places in
+    IfOk-weaker c.listed.result _ _ (λ layout is. is ∙ whole.leaves) c.listed.ensures.leaves
 
 pub returns-clause-least : goal.returns-clause-least
 returns-clause-least c =
-    subst (λ r. IsFewest 128 (meaning c.args.store.now r) (length c.of.result)) c.rec_of-rec.ensures.same (IsFewest-from_inner c.args.store.now c.rec_of-rec.result c.of.result c.rec_of-rec.ensures.sound c.rec_of-rec.ensures.of (trees c))
+    let whole = IsLayoutOf-from_walk c.args.store.now c.rec_of-rec.result (record_of c.args.root) c.new-seen.result.nodes.keys c.visit.new.seen.nodes.keys c.new-seen.result.places.keys c.visit.new.seen.places.keys c.rec_of-rec.ensures.sound c.rec_of-rec.ensures.of c.rec_of-rec.ensures.same c.new-seen.ensures.nodes c.new-seen.ensures.places c.in_ok-visit.ensures.known c.in_ok-visit.ensures.nodes c.in_ok-visit.ensures.places in
+    IfOk-weaker c.listed.result _ _ (λ layout is. subst (λ ids. IsFewest 128 (tree_of c.args.store.now c.args.root) (length ids)) (sym is) whole.least) c.listed.ensures.nodes
 
 pub returns-clause-few : goal.returns-clause-few
 returns-clause-few c =
-    few_from_inner c.args.store.now (meaning c.args.store.now c.rec_of-rec.result) c.of.result (subst (AreOf c.args.store.now) (sym (listed c)) c.in_ok-visit.ensures.known) (trees c)
+    let whole = IsLayoutOf-from_walk c.args.store.now c.rec_of-rec.result (record_of c.args.root) c.new-seen.result.nodes.keys c.visit.new.seen.nodes.keys c.new-seen.result.places.keys c.visit.new.seen.places.keys c.rec_of-rec.ensures.sound c.rec_of-rec.ensures.of c.rec_of-rec.ensures.same c.new-seen.ensures.nodes c.new-seen.ensures.places c.in_ok-visit.ensures.known c.in_ok-visit.ensures.nodes c.in_ok-visit.ensures.places in
+    IfOk-weaker c.listed.result _ _ (λ layout is. subst (λ ids. length ids ≤ length c.args.store.now) (sym is) whole.few) c.listed.ensures.nodes
