@@ -7,6 +7,8 @@ mod files;
 mod notes;
 mod segments;
 mod sources;
+#[cfg(test)]
+mod tests;
 
 pub use segments::segments_of;
 pub use sources::Sources;

@@ -112,6 +112,17 @@ impl Sources {
         self.record_at(Addr(segment.first))
     }
 
+    /// The records of several segments, in their order.
+    pub fn choices(&self, segments: &[Range]) -> Result<Vec<Option<&Place>>, Memory>
+        ensures { IfOk result (λ choices. map option_copied choices.items ≡ map (λ r. record_at self.now r.first) segments.now) }
+    {
+        let mut choices = Vec::with_capacity(self.alloc, segments.len())?;
+        for segment in segments {
+            choices.push(self.choice(*segment))?;
+        }
+        Ok(choices)
+    }
+
     /// The notes of all sources, in the order of a report.
     pub fn report(&self) -> Result<Vec<Note>, Memory>
         ensures { IfOk result (λ notes. notes.items ≡ report self.now) }
