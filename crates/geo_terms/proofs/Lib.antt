@@ -1,3 +1,4 @@
+pub mod FirstLemmas
 pub mod LineOrder
 pub mod NumberLemmas
 pub mod Constancy

@@ -4,6 +4,7 @@ pub mod DelegationForm
 pub mod First
 pub mod Numbers
 pub mod NoteText
+pub mod Orders
 pub mod PlaceForm
 pub mod Precedence
 pub mod Report

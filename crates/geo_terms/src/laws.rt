@@ -1,5 +1,6 @@
 //! Laws over the definitions alone, which the crates above rest on.
 ghost use Rattle.geo_terms.specs.Cuts.{ConstantBetweenCuts};
+ghost use Rattle.geo_terms.specs.Orders.{FirstsAreFirst};
 ghost use Rattle.geo_terms.specs.Numbers.{NumbersNamePlaces, NumbersStay, PlacesAreToldApart};
 
 /// What the sources say of an address is constant between their cut points.
@@ -24,4 +25,10 @@ pub fn numbers_name_places()
 #[tactic(auto, using(crate::proofs::NumberLemmas::numbers_stay))]
 pub fn numbers_stay()
     ensures { NumbersStay }
+{}
+
+/// In each order of precedence the first of a list is a member that no other one goes before.
+#[tactic(auto, using(crate::proofs::FirstLemmas::firsts_are_first))]
+pub fn firsts_are_first()
+    ensures { FirstsAreFirst }
 {}
