@@ -1,9 +1,9 @@
 -- What one pass over sorted edges tells of an address: the first range that holds it.
-use Rattle.std.proofs.Common.{◌≡◌, ℕ, zero, suc, ◌+◌, ◌-◌, ◌^◌, ◌<◌, ◌≤◌, ◌⊎◌, Bool, true, false, cond, not, ◌&&◌, ◌||◌, eqb, ltb, leb, max, List, [], ◌∷◌, ◌++◌, length, get_or, Option, Some, None, slice_get, refl, sym, ap, ◌∙◌, subst, inl, inr, arith}
+use Rattle.std.proofs.Common.{◌≡◌, ℕ, zero, suc, ◌+◌, ◌-◌, ◌^◌, ◌<◌, ◌≤◌, ◌⊎◌, Bool, true, false, cond, not, ◌&&◌, ◌||◌, eqb, ltb, leb, max, List, [], ◌∷◌, ◌++◌, length, get_or, Option, None, slice_get, refl, sym, ap, ◌∙◌, subst, inl, inr, arith}
 use Rattle.std.specs.List.{All, AllByRecursion, list_any, position}
 use Rattle.std.specs.List.Sorted.{IsPermutation, IsNonDecreasingBy, IsPartitionPoint}
 use Rattle.std.proofs.lemmas.Bool.Decides.{nat_tests}
-use Rattle.std.proofs.lemmas.List.Elements.{All-from_recursion, recursion_from_All, All-append}
+use Rattle.std.proofs.lemmas.List.Elements.{All-from_recursion, recursion_from_All}
 use Rattle.std.proofs.lemmas.List.Folds.{list_any-append}
 use Rattle.std.proofs.lemmas.List.Sorted.{list_any-IsPermutation, All-permutation}
 use Rattle.geo_addr.specs.Ranges.{Ends, IsRange, ground_first, holds}
@@ -11,7 +11,7 @@ use Rattle.precedence.specs.Boundaries.{told, AreBoundaries}
 use Rattle.precedence.specs.Edges.{edges_of, edges_from, after_edge, sweep}
 use Rattle.precedence.specs.declared.boundaries.Boundary.{Boundary}
 use Rattle.precedence.specs.declared.boundaries.Edge.{Edge}
-use Rattle.precedence.proofs.RankLemmas.{Up, is_in, after_all, flag, up_all, in_all, head_is_position}
+use Rattle.precedence.proofs.RankLemmas.{after_all, flag, up_all, in_all, head_is_position}
 
 -- the edges at or below an address
 abbrev upto : ℕ → List Edge → List Edge
@@ -71,9 +71,9 @@ before_ground v a r s t (e ∷ es) h low high =
         let below : e.at ≤ a = grind (arith, nat_tests) in
         elim (eqb e.rank r) as (λ b. eqb e.rank r ≡ b → b ≡ false) [
           | true ↦ λ is. absurd (elim e.opens as (λ b. e.opens ≡ b → ⊥) [
-              | true ↦ λ o. let at : e.at ≡ s = h.0.opening is o in omega arith
-              | false ↦ λ o. let at : e.at ≡ t = h.0.closing is o in omega arith
-            ] refl)
+            | true ↦ λ o. let at : e.at ≡ s = h.0.opening is o in omega arith
+            | false ↦ λ o. let at : e.at ≡ t = h.0.closing is o in omega arith
+          ] refl)
           | false ↦ λ is. refl
         ] refl
 
@@ -183,7 +183,7 @@ ranks_from n [] = tt
 ranks_from n (r ∷ rs) =
     each_append (λ e. (n ≤ e.rank) × (e.rank < n + length (r ∷ rs))) (edges_of n r) (edges_from (n + 1) rs)
     (edges_cases n r (λ es. AllByRecursion (λ e. (n ≤ e.rank) × (e.rank < n + length (r ∷ rs))) es)
-      (λ ends. ((omega arith, omega arith), ((omega arith, omega arith), tt))) (λ never. ((omega arith, omega arith), tt)))
+    (λ ends. ((omega arith, omega arith), ((omega arith, omega arith), tt))) (λ never. ((omega arith, omega arith), tt)))
     (each_weaker (λ e. (n + 1 ≤ e.rank) × (e.rank < n + 1 + length rs)) (λ e. (n ≤ e.rank) × (e.rank < n + length (r ∷ rs))) (λ e h. (omega (arith, h.0), omega (arith, h.1))) (edges_from (n + 1) rs) (ranks_from (n + 1) rs))
 
 -- an edge of another rank fits
@@ -208,20 +208,22 @@ fits_from d n zero (r ∷ rs) below =
     let e : n + 0 ≡ n = omega arith in
     subst (λ i. AllByRecursion (Fits i (ground_first r) (r.last + 1)) (edges_from n (r ∷ rs))) (sym e)
     (each_append (Fits n (ground_first r) (r.last + 1)) (edges_of n r) (edges_from (n + 1) rs)
-      (edges_cases n r (λ es. AllByRecursion (Fits n (ground_first r) (r.last + 1)) es)
-        (λ ends. (fits_own n (ground_first r) (r.last + 1), (fits_end n (ground_first r) (r.last + 1), tt)))
-        (λ never. (fits_own n (ground_first r) (r.last + 1), tt)))
-      (each_weaker (λ e. (n + 1 ≤ e.rank) × (e.rank < n + 1 + length rs)) (Fits n (ground_first r) (r.last + 1)) (λ e h. fits_other n (ground_first r) (r.last + 1) e (inr (omega (arith, h.0)))) (edges_from (n + 1) rs) (ranks_from (n + 1) rs)))
+    (edges_cases n r (λ es. AllByRecursion (Fits n (ground_first r) (r.last + 1)) es)
+    (λ ends. (fits_own n (ground_first r) (r.last + 1), (fits_end n (ground_first r) (r.last + 1), tt)))
+    (λ never. (fits_own n (ground_first r) (r.last + 1), tt)))
+    (each_weaker (λ e. (n + 1 ≤ e.rank) × (e.rank < n + 1 + length rs)) (Fits n (ground_first r) (r.last + 1)) (λ e h. fits_other n (ground_first r) (r.last + 1) e (inr (omega (arith, h.0)))) (edges_from (n + 1) rs) (ranks_from (n + 1) rs)))
 fits_from d n (suc k) (r ∷ rs) below =
     let e : n + 1 + k ≡ n + suc k = omega arith in
     let x : Ends = get_or rs k d in
     subst (λ i. AllByRecursion (Fits i (ground_first x) (x.last + 1)) (edges_from n (r ∷ rs))) e
     (each_append (Fits (n + 1 + k) (ground_first x) (x.last + 1)) (edges_of n r) (edges_from (n + 1) rs)
-      (edges_cases n r (λ es. AllByRecursion (Fits (n + 1 + k) (ground_first x) (x.last + 1)) es)
-        (λ ends. (fits_other (n + 1 + k) (ground_first x) (x.last + 1) (record { at = ground_first r; rank = n; opens = true }) (inl (omega arith)),
-          (fits_other (n + 1 + k) (ground_first x) (x.last + 1) (record { at = r.last + 1; rank = n; opens = false }) (inl (omega arith)), tt)))
-        (λ never. (fits_other (n + 1 + k) (ground_first x) (x.last + 1) (record { at = ground_first r; rank = n; opens = true }) (inl (omega arith)), tt)))
-      (fits_from d (n + 1) k rs (omega arith)))
+    (edges_cases n r (λ es. AllByRecursion (Fits (n + 1 + k) (ground_first x) (x.last + 1)) es)
+    (λ ends. (
+      fits_other (n + 1 + k) (ground_first x) (x.last + 1) (record { at = ground_first r; rank = n; opens = true }) (inl (omega arith)),
+      (fits_other (n + 1 + k) (ground_first x) (x.last + 1) (record { at = r.last + 1; rank = n; opens = false }) (inl (omega arith)), tt),
+    ))
+    (λ never. (fits_other (n + 1 + k) (ground_first x) (x.last + 1) (record { at = ground_first r; rank = n; opens = true }) (inl (omega arith)), tt)))
+    (fits_from d (n + 1) k rs (omega arith)))
 
 or_right : (x y : Bool) → y ≡ true → (x || y) ≡ true
 or_right true y e = refl
@@ -234,13 +236,13 @@ some_from d b n zero (r ∷ rs) below ends =
     let same : eqb n n ≡ true = grind (arith, nat_tests) in
     subst (λ i. some_edge (edges_from n (r ∷ rs)) i b ≡ true) (sym e)
     (edges_cases n r (λ es. some_edge (es ++ edges_from (n + 1) rs) n b ≡ true)
-      (λ _. elim b as (λ c. ((eqb n n && cond c true false) || ((eqb n n && cond c false true) || some_edge (edges_from (n + 1) rs) n c)) ≡ true) [ true ↦ rw same refl | false ↦ rw same refl ])
-      (λ never. elim b as (λ c. (c ≡ false → r.last < 2 ^ 128 - 1) → ((eqb n n && cond c true false) || some_edge (edges_from (n + 1) rs) n c) ≡ true) [ true ↦ λ _. rw same refl | false ↦ λ f. absurd (let lt : r.last < 2 ^ 128 - 1 = f refl in omega arith) ] ends))
+    (λ _. elim b as (λ c. ((eqb n n && cond c true false) || ((eqb n n && cond c false true) || some_edge (edges_from (n + 1) rs) n c)) ≡ true) [ true ↦ rw same refl | false ↦ rw same refl ])
+    (λ never. elim b as (λ c. (c ≡ false → r.last < 2 ^ 128 - 1) → ((eqb n n && cond c true false) || some_edge (edges_from (n + 1) rs) n c) ≡ true) [ true ↦ λ _. rw same refl | false ↦ λ f. absurd (let lt : r.last < 2 ^ 128 - 1 = f refl in omega arith) ] ends))
 some_from d b n (suc k) (r ∷ rs) below ends =
     let e : n + 1 + k ≡ n + suc k = omega arith in
     subst (λ i. some_edge (edges_from n (r ∷ rs)) i b ≡ true) e
     (list_any-append (λ x. eqb x.rank (n + 1 + k) && (cond b x.opens (not x.opens))) (edges_of n r) (edges_from (n + 1) rs)
-      ∙ or_right (some_edge (edges_of n r) (n + 1 + k) b) (some_edge (edges_from (n + 1) rs) (n + 1 + k) b) (some_from d b (n + 1) k rs (omega arith) ends))
+    ∙ or_right (some_edge (edges_of n r) (n + 1 + k) b) (some_edge (edges_from (n + 1) rs) (n + 1 + k) b) (some_from d b (n + 1) k rs (omega arith) ends))
 
 -- the ground of a range is not empty
 ground_before : (x : Ends) → IsRange x → ground_first x < x.last + 1
@@ -265,9 +267,9 @@ module _ (ranges : List Ends) (d : Ends) (es : List Edge) (same : IsPermutation 
   past_ranks a r le =
       unmoved false a r es
       (recursion_from_All (λ e. eqb e.rank r ≡ false) es
-        (All-permutation (λ e. eqb e.rank r ≡ false) (edges_from 0 ranges) es same
-          (All-from_recursion (λ e. eqb e.rank r ≡ false) (edges_from 0 ranges)
-            (each_weaker (λ e. (0 ≤ e.rank) × (e.rank < 0 + length ranges)) (λ e. eqb e.rank r ≡ false) (λ e h. let lt : e.rank < 0 + length ranges = h.1 in grind (arith, nat_tests)) (edges_from 0 ranges) (ranks_from 0 ranges)))))
+      (All-permutation (λ e. eqb e.rank r ≡ false) (edges_from 0 ranges) es same
+      (All-from_recursion (λ e. eqb e.rank r ≡ false) (edges_from 0 ranges)
+      (each_weaker (λ e. (0 ≤ e.rank) × (e.rank < 0 + length ranges)) (λ e. eqb e.rank r ≡ false) (λ e h. let lt : e.rank < 0 + length ranges = h.1 in grind (arith, nat_tests)) (edges_from 0 ranges) (ranks_from 0 ranges)))))
 
   fits : (r : ℕ) → r < length ranges → AllByRecursion (Fits r (ground_first (get_or ranges r d)) ((get_or ranges r d).last + 1)) es
   fits r below =
@@ -275,8 +277,8 @@ module _ (ranges : List Ends) (d : Ends) (es : List Edge) (same : IsPermutation 
       let e : 0 + r ≡ r = omega arith in
       recursion_from_All (Fits r (ground_first x) (x.last + 1)) es
       (All-permutation (Fits r (ground_first x) (x.last + 1)) (edges_from 0 ranges) es same
-        (All-from_recursion (Fits r (ground_first x) (x.last + 1)) (edges_from 0 ranges)
-          (subst (λ i. AllByRecursion (Fits i (ground_first x) (x.last + 1)) (edges_from 0 ranges)) e (fits_from d 0 r ranges below))))
+      (All-from_recursion (Fits r (ground_first x) (x.last + 1)) (edges_from 0 ranges)
+      (subst (λ i. AllByRecursion (Fits i (ground_first x) (x.last + 1)) (edges_from 0 ranges)) e (fits_from d 0 r ranges below))))
 
   among : (r : ℕ) (b : Bool) → r < length ranges → (b ≡ false → (get_or ranges r d).last < 2 ^ 128 - 1) → some_edge es r b ≡ true
   among r b below ends =
@@ -324,11 +326,11 @@ at-sweep ks (e ∷ es) (suc k) d c below = at-sweep (after_edge ks e) es k d c (
 pub are_boundaries : (ranges : List Ends) (es : List Edge) → IsPermutation (edges_from 0 ranges) es → IsNonDecreasingBy (λ (e : Edge). e.at) es → All IsRange ranges → AreBoundaries ranges (sweep [] es)
 are_boundaries ranges es same sorted all = record {
   ordered = λ i j d le below.
-    let c : Edge = record { at = 0; rank = 0; opens = false } in
-    let n : length (sweep [] es) ≡ length es = length-sweep [] es in
-    let x : (get_or (sweep [] es) i d).at ≡ (get_or es i c).at = at-sweep [] es i d c (omega arith) in
-    let y : (get_or (sweep [] es) j d).at ≡ (get_or es j c).at = at-sweep [] es j d c (omega arith) in
-    omega (arith, sorted i j c le (omega arith));
+      let c : Edge = record { at = 0; rank = 0; opens = false } in
+      let n : length (sweep [] es) ≡ length es = length-sweep [] es in
+      let x : (get_or (sweep [] es) i d).at ≡ (get_or es i c).at = at-sweep [] es i d c (omega arith) in
+      let y : (get_or (sweep [] es) j d).at ≡ (get_or es j c).at = at-sweep [] es j d c (omega arith) in
+      omega (arith, sorted i j c le (omega arith));
   tell = tell ranges (record { first = 0; last = 0 }) es same sorted all;
 }
 

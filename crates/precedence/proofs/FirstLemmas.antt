@@ -1,5 +1,5 @@
 -- The first member in an order: no member goes before it, and it is the only such member where members that tie are equal.
-use Rattle.std.proofs.Common.{◌≡◌, ℕ, zero, suc, ◌+◌, ◌<◌, ◌⊎◌, Bool, true, false, cond, List, [], ◌∷◌, get_or, length, Option, Some, None, Contains, refl, sym, ap, ◌∙◌, subst, inl, inr, arith}
+use Rattle.std.proofs.Common.{◌≡◌, zero, suc, ◌⊎◌, Bool, true, false, cond, List, [], ◌∷◌, Some, Contains, refl, sym, ap, ◌∙◌, subst, inl, inr, arith}
 use Rattle.std.specs.Cmp.{IsStrictWeakOrder}
 use Rattle.std.specs.List.{AllByRecursion, filter, fold}
 use Rattle.geo_terms.specs.First.{better, first_of}

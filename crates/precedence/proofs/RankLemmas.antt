@@ -1,5 +1,5 @@
 -- Ranks in force, as an ascending list: which ranks are in it behind several edges.
-use Rattle.std.proofs.Common.{◌≡◌, ℕ, zero, suc, ◌+◌, ◌-◌, ◌<◌, ◌≤◌, Bool, true, false, cond, not, ◌&&◌, ◌||◌, eqb, ltb, leb, List, [], ◌∷◌, ◌++◌, length, get_or, Option, Some, None, slice_get, Ordering, refl, sym, ap, ◌∙◌, subst, inl, inr, arith}
+use Rattle.std.proofs.Common.{◌≡◌, ℕ, suc, ◌+◌, ◌<◌, ◌≤◌, Bool, true, false, cond, not, ◌&&◌, ◌||◌, eqb, ltb, List, [], ◌∷◌, length, get_or, slice_get, Ordering, refl, sym, ap, ◌∙◌, subst, inl, inr, arith}
 use Rattle.std.specs.List.{list_any, position, position_or_len}
 use Rattle.std.specs.List.Sorted.{IsStrictlyIncreasing}
 use Rattle.std.specs.Ordering.{nat_cmp, match_ordering, is_eq}
@@ -98,6 +98,7 @@ in_edge ks e r up =
     opened : (b k : Bool) → (b || k) ≡ cond b true k
     opened true k = refl
     opened false k = refl
+
     closed : (b k : Bool) → (not b && k) ≡ cond b false k
     closed true k = refl
     closed false k = refl
@@ -136,6 +137,7 @@ head_is_position p xs d (k ∷ ks) up h =
   where
     same : eqb k k ≡ true
     same = grind (arith, nat_tests)
+
     earlier : (j : ℕ) → j < k → p (get_or xs j d) ≡ false
     earlier j lt =
         let out : is_in (k ∷ ks) j ≡ false = none_below k j (k ∷ ks) (omega arith, up.1) lt in
@@ -173,14 +175,18 @@ same_members low (x ∷ xs) (y ∷ ys) up vp there back =
     not_less : Among x (y ∷ ys) → y ≤ x
     not_less (inl e) = omega arith
     not_less (inr later) = omega (arith, up_above (y + 1) x ys vp.1 later)
+
     not_more : Among y (x ∷ xs) → x ≤ y
     not_more (inl e) = omega arith
     not_more (inr later) = omega (arith, up_above (x + 1) y xs up.1 later)
+
     same : x ≡ y
     same = let le : y ≤ x = not_less (there x (inl refl)) in let ge : x ≤ y = not_more (back y (inl refl)) in omega arith
+
     behind : (c : ℕ) → Among c xs → Among c (y ∷ ys) → Among c ys
     behind c is (inl e) = absurd (let lt : x + 1 ≤ c = up_above (x + 1) c xs up.1 is in let s : x ≡ y = same in omega arith)
     behind c is (inr later) = later
+
     ahead : (c : ℕ) → Among c ys → Among c (x ∷ xs) → Among c xs
     ahead c is (inl e) = absurd (let lt : y + 1 ≤ c = up_above (y + 1) c ys vp.1 is in let s : x ≡ y = same in omega arith)
     ahead c is (inr later) = later

@@ -1,5 +1,5 @@
 -- Of the delegations in their order, the one of the lowest rank that holds an address is the first that holds it.
-use Rattle.std.proofs.Common.{◌≡◌, ℕ, zero, suc, ◌+◌, ◌-◌, ◌^◌, ◌<◌, ◌≤◌, ◌⊎◌, Bool, true, false, cond, eqb, ltb, List, [], ◌∷◌, ◌++◌, length, get_or, map, take, drop, Option, Some, None, Contains, Ordering, slice_get, refl, sym, ap, ◌∙◌, subst, inl, inr, arith}
+use Rattle.std.proofs.Common.{◌≡◌, ℕ, zero, suc, ◌+◌, ◌<◌, ◌≤◌, Bool, true, false, cond, ltb, List, [], ◌∷◌, ◌++◌, length, get_or, map, drop, Option, Some, None, Ordering, slice_get, refl, sym, ap, ◌∙◌, subst, inl, inr, arith}
 use Rattle.std.specs.Cmp.{IsTotalOrder, IsStrictWeakOrder}
 use Rattle.std.specs.List.{All, AllByRecursion, filter, flat_map, position, position_or_len}
 use Rattle.std.specs.List.Sorted.{IsPermutation, IsSortedBy}
@@ -13,13 +13,12 @@ use Rattle.std.proofs.lemmas.List.Sorted.{ranks_by, sorted_far, All-permutation,
 use Rattle.std.proofs.lemmas.Map.Lookups.{exact_unsigned, exact_bytes}
 use Rattle.geo_addr.specs.Ranges.{Ends, IsRange, size, holds}
 use Rattle.geo_terms.specs.DelegationForm.{DelegationParts, IsCountryAlone}
-use Rattle.geo_terms.specs.First.{first_of, first_at, holders}
+use Rattle.geo_terms.specs.First.{first_of, first_at}
 use Rattle.geo_terms.specs.PlaceForm.{PlaceParts}
 use Rattle.geo_terms.specs.Precedence.{delegation_cmp, delegation_before, text_cmp}
 use Rattle.geo_terms.specs.SourceForm.{StatsParts}
-use Rattle.precedence.specs.Boundaries.{told, AreBoundaries}
+use Rattle.precedence.specs.Boundaries.{AreBoundaries}
 use Rattle.precedence.specs.Ranking.{Ranked, seen, ranked, ranked_rows, ranked_files, ranked_cmp, IsDelegation, delegation_at, delegation_of_rank, IsIndex}
-use Rattle.precedence.specs.declared.boundaries.Boundary.{Boundary}
 use Rattle.precedence.specs.declared.delegations.Candidate.{Candidate}
 use Rattle.precedence.specs.declared.delegations.DelegationIndex.{DelegationIndex}
 use Rattle.precedence.specs.declared.delegations.Spot.{Spot}
@@ -30,8 +29,8 @@ unfolding delegation_cmp
 delegation_total =
     then_total (on_total (λ (d : DelegationParts). size d.range) nat_cmp_total)
     (then_total (on_total (λ (d : DelegationParts). d.range.first) nat_cmp_total)
-      (then_total (on_total (λ (d : DelegationParts). d.place.country) nat_list_cmp_total)
-        (then_total (on_total (λ (d : DelegationParts). d.slot) nat_list_cmp_total) (on_total (λ (d : DelegationParts). d.line) nat_cmp_total))))
+    (then_total (on_total (λ (d : DelegationParts). d.place.country) nat_list_cmp_total)
+    (then_total (on_total (λ (d : DelegationParts). d.slot) nat_list_cmp_total) (on_total (λ (d : DelegationParts). d.line) nat_cmp_total))))
 
 pub ranked_total : IsTotalOrder ranked_cmp
 unfolding ranked_cmp
@@ -129,10 +128,10 @@ position_here p x xs is = rw is (grind (arith, nat_tests))
 position_later : {X : Type 0} (p : X → Bool) (x : X) (xs : List X) → p x ≡ false → position p (x ∷ xs) ≡ option_map (λ n. 1 + n) (position p xs)
 position_later p x xs fails =
     rw fails (elim (ltb (position_or_len p xs) (length xs)) as (λ b. ltb (position_or_len p xs) (length xs) ≡ b
-      → cond (ltb (1 + position_or_len p xs) (suc (length xs))) (Some (1 + position_or_len p xs)) None ≡ option_map (λ n. 1 + n) (cond b (Some (position_or_len p xs)) None)) [
-        | true ↦ λ e. let f : ltb (1 + position_or_len p xs) (suc (length xs)) ≡ true = grind (arith, nat_tests) in rw f refl
-        | false ↦ λ e. let f : ltb (1 + position_or_len p xs) (suc (length xs)) ≡ false = grind (arith, nat_tests) in rw f refl
-      ] refl)
+    → cond (ltb (1 + position_or_len p xs) (suc (length xs))) (Some (1 + position_or_len p xs)) None ≡ option_map (λ n. 1 + n) (cond b (Some (position_or_len p xs)) None)) [
+      | true ↦ λ e. let f : ltb (1 + position_or_len p xs) (suc (length xs)) ≡ true = grind (arith, nat_tests) in rw f refl
+      | false ↦ λ e. let f : ltb (1 + position_or_len p xs) (suc (length xs)) ≡ false = grind (arith, nat_tests) in rw f refl
+    ] refl)
 
 -- the delegation of the rank that is the place of the first range that holds
 by_rank : (stats : List StatsParts) (a : ℕ) (rs : List Ranked) → AllByRecursion (IsOwn stats) rs
@@ -140,10 +139,10 @@ by_rank : (stats : List StatsParts) (a : ℕ) (rs : List Ranked) → AllByRecurs
 by_rank stats a [] own = refl
 by_rank stats a (r ∷ rs) own =
     elim (holds r.delegation.range a) as (λ b. holds r.delegation.range a ≡ b
-      → option_and_then (delegation_of_rank stats (map (λ r. r.spot) (r ∷ rs))) (position (λ r. holds r a) (map range_of (r ∷ rs))) ≡ cond b (Some r.delegation) (found rs a)) [
-        | true ↦ λ e. rw (position_here (λ (x : Ends). holds x a) r.delegation.range (map range_of rs) e) own.0.there
-        | false ↦ λ e. rw (position_later (λ (x : Ends). holds x a) r.delegation.range (map range_of rs) e) (later (position (λ r. holds r a) (map range_of rs)) ∙ by_rank stats a rs own.1)
-      ] refl
+    → option_and_then (delegation_of_rank stats (map (λ r. r.spot) (r ∷ rs))) (position (λ r. holds r a) (map range_of (r ∷ rs))) ≡ cond b (Some r.delegation) (found rs a)) [
+      | true ↦ λ e. rw (position_here (λ (x : Ends). holds x a) r.delegation.range (map range_of rs) e) own.0.there
+      | false ↦ λ e. rw (position_later (λ (x : Ends). holds x a) r.delegation.range (map range_of rs) e) (later (position (λ r. holds r a) (map range_of rs)) ∙ by_rank stats a rs own.1)
+    ] refl
   where
     later : (o : Option ℕ) → option_and_then (delegation_of_rank stats (map (λ r. r.spot) (r ∷ rs))) (option_map (λ n. 1 + n) o) ≡ option_and_then (delegation_of_rank stats (map (λ r. r.spot) rs)) o
     later None = refl
@@ -168,19 +167,21 @@ is_found a [] d order is = absurd cc
 is_found a (r ∷ rs) d order is =
     elim (holds r.delegation.range a) as (λ b. holds r.delegation.range a ≡ b → cond b (Some r.delegation) (found rs a) ≡ Some d → IsFound a (r ∷ rs) d) [
       | true ↦ λ e here. let same : r.delegation ≡ d = cc in
-        subst (λ (x : DelegationParts). IsFound a (r ∷ rs) x) same (record {
-          among = inl refl;
-          held = e;
-          least = ((λ _. not_before_itself delegation_before delegation_weak r.delegation),
-            under_map (λ x. holds x.range a ≡ true → delegation_before x r.delegation ≡ false) rs
-            (each_weaker (λ (s : Ranked). delegation_before s.delegation r.delegation ≡ false) (λ s. holds s.delegation.range a ≡ true → delegation_before s.delegation r.delegation ≡ false) (λ s h _. h) rs order.0));
-        })
+          subst (λ (x : DelegationParts). IsFound a (r ∷ rs) x) same (record {
+            among = inl refl;
+            held = e;
+            least = (
+              (λ _. not_before_itself delegation_before delegation_weak r.delegation),
+              under_map (λ x. holds x.range a ≡ true → delegation_before x r.delegation ≡ false) rs
+                  (each_weaker (λ (s : Ranked). delegation_before s.delegation r.delegation ≡ false) (λ s. holds s.delegation.range a ≡ true → delegation_before s.delegation r.delegation ≡ false) (λ s h _. h) rs order.0),
+            );
+          })
       | false ↦ λ e later. let h = is_found a rs d order.1 later in
-        record {
-          among = inr h.among;
-          held = h.held;
-          least = ((λ is. absurd (let f : false ≡ true = sym e ∙ is in cc)), h.least);
-        }
+          record {
+            among = inr h.among;
+            held = h.held;
+            least = ((λ is. absurd (let f : false ≡ true = sym e ∙ is in cc)), h.least);
+          }
     ] refl is
 
 none_found : (a : ℕ) (rs : List Ranked) → found rs a ≡ None → AllByRecursion (λ d. holds d.range a ≡ false) (map (λ r. r.delegation) rs)
@@ -198,25 +199,27 @@ found_first a rs ds order same all =
     elim (found rs a) as (λ o. found rs a ≡ o → o ≡ first_at delegation_before (λ d. d.range) ds a) [
       | None ↦ λ is. sym (ap (λ xs. first_of delegation_before xs) (none_kept (λ d. holds d.range a) ds (none is)))
       | Some d ↦ λ is. let h = is_found a rs d order is in
-        let here : Among d ds = among_from_contains d ds (Contains-permutation (map (λ r. r.delegation) rs) ds d back (contains_from_among d (map (λ r. r.delegation) rs) h.among)) in
-        sym (first_is delegation_before delegation_weak d (filter (λ d. holds d.range a) ds)
-            (among_filter (λ d. holds d.range a) d ds here h.held)
-            (all_filter (λ d. holds d.range a) (λ e. delegation_before e d ≡ false) ds
-              (recursion_from_All (λ e. holds e.range a ≡ true → delegation_before e d ≡ false) ds
-                (All-permutation (λ e. holds e.range a ≡ true → delegation_before e d ≡ false) (map (λ r. r.delegation) rs) ds back
-                  (All-from_recursion (λ e. holds e.range a ≡ true → delegation_before e d ≡ false) (map (λ r. r.delegation) rs) h.least))))
-            (all_filter (λ d. holds d.range a) (λ e. delegation_before d e ≡ false → delegation_before e d ≡ false → e ≡ d) ds
-              (each_weaker IsDelegation (λ e. holds e.range a ≡ true → delegation_before d e ≡ false → delegation_before e d ≡ false → e ≡ d)
-                (λ e k _ before after. tie d e (own d here) k before after) ds (recursion_from_All IsDelegation ds all))))
+          let here : Among d ds = among_from_contains d ds (Contains-permutation (map (λ r. r.delegation) rs) ds d back (contains_from_among d (map (λ r. r.delegation) rs) h.among)) in
+          sym (first_is delegation_before delegation_weak d (filter (λ d. holds d.range a) ds)
+          (among_filter (λ d. holds d.range a) d ds here h.held)
+          (all_filter (λ d. holds d.range a) (λ e. delegation_before e d ≡ false) ds
+          (recursion_from_All (λ e. holds e.range a ≡ true → delegation_before e d ≡ false) ds
+          (All-permutation (λ e. holds e.range a ≡ true → delegation_before e d ≡ false) (map (λ r. r.delegation) rs) ds back
+          (All-from_recursion (λ e. holds e.range a ≡ true → delegation_before e d ≡ false) (map (λ r. r.delegation) rs) h.least))))
+          (all_filter (λ d. holds d.range a) (λ e. delegation_before d e ≡ false → delegation_before e d ≡ false → e ≡ d) ds
+          (each_weaker IsDelegation (λ e. holds e.range a ≡ true → delegation_before d e ≡ false → delegation_before e d ≡ false → e ≡ d)
+          (λ e k _ before after. tie d e (own d here) k before after) ds (recursion_from_All IsDelegation ds all))))
     ] refl
   where
     back : IsPermutation (map (λ r. r.delegation) rs) ds
     back = IsPermutation-sym ds (map (λ r. r.delegation) rs) same
+
     none : found rs a ≡ None → AllByRecursion (λ d. holds d.range a ≡ false) ds
     none is =
         recursion_from_All (λ d. holds d.range a ≡ false) ds
         (All-permutation (λ d. holds d.range a ≡ false) (map (λ r. r.delegation) rs) ds back
-          (All-from_recursion (λ d. holds d.range a ≡ false) (map (λ r. r.delegation) rs) (none_found a rs is)))
+        (All-from_recursion (λ d. holds d.range a ≡ false) (map (λ r. r.delegation) rs) (none_found a rs is)))
+
     own : (d : DelegationParts) → Among d ds → IsDelegation d
     own d here = let at = contains_from_among d ds here in subst IsDelegation at.2 (all at.0 d at.1)
 
@@ -291,20 +294,23 @@ pub is_index : (stats : List StatsParts) (cs sorted : List Candidate) (index : D
 is_index stats cs sorted index made valid same up spots bs = record {
   ordered = bs.ordered;
   tell = λ a within.
-    ap (option_and_then (delegation_of_rank stats index.spots.items)) (bs.tell a within ∙ ap (position (λ r. holds r a)) (sym (map_map seen range_of sorted)))
-    ∙ ap (λ ss. option_and_then (delegation_of_rank stats ss) (position (λ r. holds r a) (map range_of rs))) (spots ∙ sym (map_map seen (λ r. r.spot) sorted))
-    ∙ by_rank stats a rs owns
-    ∙ found_first a rs (flat_map (λ t. t.rows) stats) (in_order stats sorted owns (sorted_far before_seen (ranks_by ranked_total seen) sorted up)) all
-    (all_valid stats (recursion_from_All (λ t. All IsDelegation t.rows) stats valid));
+      ap (option_and_then (delegation_of_rank stats index.spots.items)) (bs.tell a within ∙ ap (position (λ r. holds r a)) (sym (map_map seen range_of sorted)))
+      ∙ ap (λ ss. option_and_then (delegation_of_rank stats ss) (position (λ r. holds r a) (map range_of rs))) (spots ∙ sym (map_map seen (λ r. r.spot) sorted))
+      ∙ by_rank stats a rs owns
+      ∙ found_first a rs (flat_map (λ t. t.rows) stats) (in_order stats sorted owns (sorted_far before_seen (ranks_by ranked_total seen) sorted up)) all
+      (all_valid stats (recursion_from_All (λ t. All IsDelegation t.rows) stats valid));
 }
   where
     rs : List Ranked
     rs = map seen sorted
+
     moved : IsPermutation (ranked_files 0 stats) rs
     moved = subst (λ (xs : List Ranked). IsPermutation xs rs) made (IsPermutation-map seen cs sorted same)
+
     owns : AllByRecursion (IsOwn stats) rs
     owns =
         recursion_from_All (IsOwn stats) rs
         (All-permutation (IsOwn stats) (ranked_files 0 stats) rs moved (All-from_recursion (IsOwn stats) (ranked_files 0 stats) (own_files stats 0 stats refl)))
+
     all : IsPermutation (flat_map (λ t. t.rows) stats) (map (λ r. r.delegation) rs)
     all = subst (λ (xs : List DelegationParts). IsPermutation xs (map (λ r. r.delegation) rs)) (all_ranked 0 stats) (IsPermutation-map (λ (r : Ranked). r.delegation) (ranked_files 0 stats) rs moved)

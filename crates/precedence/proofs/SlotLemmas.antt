@@ -1,10 +1,9 @@
 -- A source that is put among others in the order of names: by what a search by halving found.
-use Rattle.std.proofs.Common.{◌≡◌, ℕ, zero, suc, ◌+◌, ◌<◌, ◌≤◌, Bool, true, false, cond, Less, Equal, Greater, List, [], ◌∷◌, ◌++◌, length, get_or, set, take, drop, Option, Some, None, Ordering, Result, Ok, Err, slice_get, refl, sym, ap, ◌∙◌, subst, arith}
-use Rattle.std.specs.Cmp.{IsTotalOrder, IsStrictWeakOrder}
-use Rattle.std.specs.List.{All, AllByRecursion, AllPairs, AllWithin, HoldsAt, find, insert}
-use Rattle.std.specs.List.Sorted.{IsSortedBy, IsBinarySearchResult, IsPartitionPoint, IsNonDecreasingBy}
+use Rattle.std.proofs.Common.{◌≡◌, ℕ, zero, suc, ◌+◌, ◌<◌, ◌≤◌, true, false, Less, Equal, Greater, List, [], ◌∷◌, length, get_or, set, Some, None, Ordering, Ok, Err, slice_get, refl, sym, ap, ◌∙◌, arith}
+use Rattle.std.specs.List.{AllByRecursion, find, insert}
+use Rattle.std.specs.List.Sorted.{IsSortedBy, IsBinarySearchResult, IsPartitionPoint}
 use Rattle.std.specs.Cmp.Lexicographic.{texts_ties}
-use Rattle.std.specs.Ordering.{is_lt, is_eq, match_ordering, ordering_index, ordering_reverse}
+use Rattle.std.specs.Ordering.{is_lt, is_eq, match_ordering, ordering_reverse}
 use Rattle.std.proofs.lemmas.Cmp.{nat_list_cmp_total, tied_back}
 use Rattle.std.proofs.lemmas.List.Elements.{All-from_recursion}
 use Rattle.std.proofs.lemmas.List.Sorted.{searchable_from_sorted}

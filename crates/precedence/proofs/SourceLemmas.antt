@@ -1,5 +1,5 @@
 -- What the sources say where statistics alone are in force.
-use Rattle.std.proofs.Common.{◌≡◌, ℕ, ◌+◌, ◌-◌, ◌<◌, ◌≤◌, ◌^◌, Bool, true, false, ltb, Ordering, List, [], ◌∷◌, ◌++◌, map, get_or, arith, Option, Some, None, refl, sym, ap, ◌∙◌, append-nil}
+use Rattle.std.proofs.Common.{◌≡◌, ℕ, ◌+◌, ◌<◌, ◌≤◌, ◌^◌, true, ltb, Ordering, List, [], ◌∷◌, ◌++◌, map, get_or, arith, Option, None, refl, sym, ap, ◌∙◌, append-nil}
 use Rattle.std.specs.List.{All, AllByRecursion, Contains, flat_map}
 use Rattle.std.specs.List.Sorted.{IsStrictlyIncreasing}
 use Rattle.std.specs.Ordering.{nat_cmp}

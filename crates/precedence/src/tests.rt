@@ -154,7 +154,11 @@ fn smallest_range_first(rt: HostRuntime) -> Result<(), Fail> {
 }
 
 // The ends of each segment, and the codes of their records one after another.
-fn shown(alloc: Global, sources: &Sources, touched: &[Range]) -> Result<(Vec<(u128, u128)>, String), Fail> {
+fn shown(
+    alloc: Global,
+    sources: &Sources,
+    touched: &[Range],
+) -> Result<(Vec<(u128, u128)>, String), Fail> {
     let segments = sources.segments(touched)?;
     let mut ends = Vec::new(alloc);
     for segment in &segments {
@@ -207,19 +211,33 @@ fn printed(alloc: Global, sources: &Sources) -> Result<String, Fail> {
     Ok(text)
 }
 
+// Two files with notes, and one with a delegation that another one replaces.
+fn replaced(alloc: Global) -> Result<(Sources, Option<Stats>), Fail> {
+    let mut sources = Sources::new(alloc);
+    sources.set_stats(noted(alloc, "ripe", 7)?)?;
+    put(&mut sources, alloc, "arin", (8, 15), b"US")?;
+    sources.set_stats(noted(alloc, "apnic", 3)?)?;
+    let old = sources.set_stats(file(alloc, "arin", 8, 11, b"CA")?)?;
+    Ok((sources, old))
+}
+
 #[test]
 fn files_replace_one_another(rt: HostRuntime) -> Result<(), Fail> {
     let alloc = rt.alloc();
-    let mut sources = Sources::new(alloc);
-    let first = sources.set_stats(noted(alloc, "ripe", 7)?)?;
-    put(&mut sources, alloc, "arin", (8, 15), b"US")?;
-    let third = sources.set_stats(noted(alloc, "apnic", 3)?)?;
-    let old = sources.set_stats(file(alloc, "arin", 8, 11, b"CA")?)?;
-    assert!(rt; first.is_none() && third.is_none() && old.is_some());
-    assert!(rt; printed(alloc, &sources)?.as_str() == "stats apnic 3 S06\nstats ripe 7 S06\n");
-    let cuts = sources.cuts_in(Range { first: 8, last: 20 })?;
-    assert!(rt; cuts.as_slice() == [8, 12].as_slice());
+    let (sources, old) = replaced(alloc)?;
+    assert!(rt; old.is_some());
     assert!(rt; code_at(&sources, 11) == "CA");
     assert!(rt; code_at(&sources, 12) == "");
+    Ok(())
+}
+
+#[test]
+fn report_is_in_the_order_of_slots(rt: HostRuntime) -> Result<(), Fail> {
+    let alloc = rt.alloc();
+    let (sources, _) = replaced(alloc)?;
+    let text = printed(alloc, &sources)?;
+    assert!(rt; text.as_str() == "stats apnic 3 S06\nstats ripe 7 S06\n");
+    let cuts = sources.cuts_in(Range { first: 8, last: 20 })?;
+    assert!(rt; cuts.as_slice() == [8, 12].as_slice());
     Ok(())
 }

@@ -1,4 +1,4 @@
-use Rattle.std.proofs.Common.{◌≡◌, ◌≤◌, ◌-◌, ℕ, Bool, true, false, leb, None, cond, eqb, get_or, rules, arith, sym, ◌∙◌}
+use Rattle.std.proofs.Common.{◌≡◌, ◌-◌, true, false, leb, None, eqb, rules, arith, sym, ◌∙◌}
 use Rattle.std.specs.List.Sorted.{IsPartitionPoint}
 use Rattle.std.proofs.lemmas.List.Sorted.{IsPartitionPoint-from_clause, IsPartitionedBy-leb}
 use Rattle.std.proofs.lemmas.Bool.Decides.{nat_tests}

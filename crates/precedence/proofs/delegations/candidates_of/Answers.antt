@@ -1,4 +1,4 @@
-use Rattle.std.proofs.Common.{◌≡◌, ◌<◌, List, length, arith, subst, rules}
+use Rattle.std.proofs.Common.{◌≡◌, ◌<◌, List, length, arith, subst}
 use Rattle.std.specs.List.{All}
 use Rattle.std.proofs.lemmas.Grind.{common_steps}
 use Rattle.std.proofs.lemmas.List.Elements.{All-more}
@@ -15,7 +15,7 @@ loop-file-preserved c =
     record {
       found = grind (arith, common_steps);
       rows = All-more (λ t. All IsDelegation t.rows) c.args.stats.now c.loop-file.file c.index-stats-file.result within c.loop-file.invariant.rows
-      (subst (λ (t : StatsParts). All IsDelegation t.rows) c.index-stats-file.is (subst (λ (ds : List DelegationParts). All IsDelegation ds) same c.in_ok-push_rows.ensures.rows));
+          (subst (λ (t : StatsParts). All IsDelegation t.rows) c.index-stats-file.is (subst (λ (ds : List DelegationParts). All IsDelegation ds) same c.in_ok-push_rows.ensures.rows));
     }
 
 pub returns-clause-rows : goal.returns-clause-rows

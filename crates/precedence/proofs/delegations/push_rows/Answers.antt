@@ -1,4 +1,4 @@
-use Rattle.std.proofs.Common.{◌<◌, List, length, arith, subst, rules}
+use Rattle.std.proofs.Common.{◌<◌, List, length, arith, subst}
 use Rattle.std.specs.List.{All}
 use Rattle.std.proofs.lemmas.Grind.{common_steps}
 use Rattle.std.proofs.lemmas.List.Elements.{All-more}

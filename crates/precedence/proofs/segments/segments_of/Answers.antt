@@ -1,9 +1,9 @@
-use Rattle.std.proofs.Common.{◌≡◌, List, sym, subst, rules}
+use Rattle.std.proofs.Common.{List, sym, subst, rules}
 use Rattle.std.specs.List.{All}
 use Rattle.std.specs.List.Sorted.{IsPermutation, IsNonDecreasingBy}
 use Rattle.std.proofs.lemmas.List.Sorted.{IsNonDecreasingBy-from_sort_by_key}
 use Rattle.geo_addr.specs.Ranges.{Ends, IsRange}
-use Rattle.precedence.specs.Marks.{marks_of, sweep}
+use Rattle.precedence.specs.Marks.{marks_of}
 use Rattle.precedence.specs.Segments.{AreSegments}
 use Rattle.precedence.specs.declared.segments.Mark.{Mark}
 use Rattle.precedence.proofs.SegmentLemmas.{are_segments}

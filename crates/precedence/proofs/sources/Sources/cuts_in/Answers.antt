@@ -4,7 +4,7 @@ use Rattle.geo_addr.specs.Ranges.{Ends, AreCuts}
 use Rattle.geo_terms.specs.Cuts.{statement_ranges}
 use Rattle.geo_terms.specs.DelegationForm.{DelegationParts}
 use Rattle.geo_terms.specs.SourceForm.{StatsParts}
-use Rattle.precedence.proofs.SourceLemmas.{stats_alone, ranges_of_stats}
+use Rattle.precedence.proofs.SourceLemmas.{ranges_of_stats}
 use Rattle.precedence.proofs.sources.Sources.cuts_in.Goals as goal
 
 pub returns-clause-exact : goal.returns-clause-exact

@@ -1,9 +1,8 @@
-use Rattle.std.proofs.Common.{◌≡◌, ◌∙◌, ap, sym, Some, None, Option}
+use Rattle.std.proofs.Common.{◌≡◌, ◌∙◌, ap, sym, Some, None}
 use Rattle.std.specs.Option.{option_copied}
 use Rattle.geo_terms.specs.DelegationForm.{DelegationParts}
-use Rattle.geo_terms.specs.PlaceForm.{PlaceParts}
 use Rattle.geo_terms.specs.Precedence.{record_at, delegated_place}
-use Rattle.precedence.proofs.SourceLemmas.{stats_alone, record_by_index}
+use Rattle.precedence.proofs.SourceLemmas.{record_by_index}
 use Rattle.precedence.proofs.sources.Sources.record_at.Goals as goal
 
 pub returns-in_err-delegation : goal.returns-in_err-delegation

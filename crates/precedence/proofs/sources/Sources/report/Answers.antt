@@ -1,4 +1,4 @@
-use Rattle.std.proofs.Common.{◌≡◌, ◌∙◌, ap, subst, List}
+use Rattle.std.proofs.Common.{◌∙◌, ap, subst, List}
 use Rattle.std.specs.List.{All, flat_map}
 use Rattle.geo_terms.specs.Report.{report}
 use Rattle.geo_terms.specs.SourceForm.{StatsParts, IsStats}

@@ -1,4 +1,4 @@
-use Rattle.std.proofs.Common.{◌≡◌, ◌∙◌, ap, subst, ℕ, List}
+use Rattle.std.proofs.Common.{◌∙◌, subst, ℕ, List}
 use Rattle.precedence.specs.Segments.{AreSegments}
 use Rattle.precedence.proofs.SourceLemmas.{same_places, steady}
 use Rattle.precedence.proofs.sources.Sources.segments.Goals as goal
