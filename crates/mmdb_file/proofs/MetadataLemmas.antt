@@ -1,11 +1,10 @@
 -- The metadata that the writer writes holds no marker.
-use Rattle.std.proofs.Common.{◌≡◌, ℕ, zero, suc, ◌+◌, ◌-◌, ◌*◌, ◌%◌, ◌<◌, ◌≤◌, ◌≢◌, ◌==◌, ◌&&◌, not, Bool, true, false, List, [], ◌∷◌, ◌++◌, length, Option, Some, None, refl, sym, ap, ◌∙◌, inl, inr, append_assoc, append-nil, add-zero, length-append, arith}
+use Rattle.std.proofs.Common.{◌≡◌, ℕ, zero, suc, ◌+◌, ◌-◌, ◌*◌, ◌%◌, ◌<◌, ◌≤◌, ◌==◌, true, false, List, [], ◌∷◌, ◌++◌, length, Some, None, refl, ap, ◌∙◌, inl, inr, append_assoc, append-nil, add-zero, length-append, arith}
 use Rattle.std.specs.Prelude.{codes}
 use Rattle.std.specs.Int.{bytes_high_first}
 use Rattle.std.specs.Str.{IsUtf8}
 use Rattle.std.proofs.lemmas.Bool.{cases_lt, lt-ltb, le-ltb}
-use Rattle.std.proofs.Math.Dec.{eqb, ltb}
-use Rattle.mmdb_data.specs.Tree.{Tree, Members, map, list, text, u16, u32, u64, no_members, member, item, no_items}
+use Rattle.mmdb_data.specs.Tree.{Tree, Members, list, text, u16, u32, u64, no_members, member, item, no_items}
 use Rattle.mmdb_data.specs.Spelling.{spelling, members_spelling, sized, head, kind_bytes, size_code, size_bytes, without_zeros}
 use Rattle.mmdb_tree.specs.declared.bits.Bits.{Bits}
 use Rattle.mmdb_tree.specs.declared.bits.Bits.TheVariants.{B24, B28, B32}
@@ -13,7 +12,7 @@ use Rattle.mmdb_tree.specs.Nodes.{record_size}
 use Rattle.mmdb_file.specs.Marker.{marker, last_marker}
 use Rattle.mmdb_file.specs.Metadata.{english, told_members, metadata}
 use Rattle.mmdb_file.specs.Laws.{LastMarkerIsTheWriters}
-use Rattle.mmdb_file.proofs.MarkerLemmas.{lacks, lacks_pair, plain, parted, short_then, short_then_pair, plain_then, parted_then, behind, marker_then}
+use Rattle.mmdb_file.proofs.MarkerLemmas.{lacks, lacks_pair, plain, short_then, short_then_pair, plain_then, parted_then, behind, marker_then}
 use Rattle.mmdb_file.proofs.TextLemmas.{text_is_parted, unlike}
 
 length-without_zeros : (x : List ℕ) → length (without_zeros x) ≤ length x
@@ -153,7 +152,7 @@ unfolding m8 m9
 c8 nodes bits =
     keyed (codes "node_count") (u32 nodes) (m9 bits) k8
     (number_then (sized 6 (without_zeros (bytes_high_first 4 nodes))) (members_spelling (m9 bits)) 75 _ (key_first (codes "record_size") (u16 (record_size bits)) no_members 75 (codes "record_size") first9)
-      (omega (arith, short_number 6 4 nodes (omega arith) refl)) no75 (c9 bits))
+    (omega (arith, short_number 6 4 nodes (omega arith) refl)) no75 (c9 bits))
 
 -- spellings that are known whole
 v7 : plain (spelling (list (item (text (codes "en")) no_items))) ≡ true
@@ -202,7 +201,7 @@ unfolding m5 m6
 c5 name nodes bits utf8 few =
     let later : last_marker ((head 7 1 ++ sized 2 (codes "en")) ++ (sized 2 name ++ members_spelling (m6 nodes bits))) ≡ None =
     plain_then (head 7 1 ++ sized 2 (codes "en")) (sized 2 name ++ members_spelling (m6 nodes bits)) english_head
-      (named name (members_spelling (m6 nodes bits)) 74 _ (key_first (codes "ip_version") (u16 6) (m7 nodes bits) 74 (codes "ip_version") first6) utf8 few refl refl (c6 nodes bits)) in
+    (named name (members_spelling (m6 nodes bits)) 74 _ (key_first (codes "ip_version") (u16 6) (m7 nodes bits) 74 (codes "ip_version") first6) utf8 few refl refl (c6 nodes bits)) in
     keyed (codes "description") (english name) (m6 nodes bits) k5 (rw english_is later)
 
 c4 : (name : List ℕ) (nodes : ℕ) (bits : Bits) → IsUtf8 name → length name ≤ 64 → last_marker (members_spelling (m4 name nodes bits)) ≡ None
@@ -216,14 +215,14 @@ unfolding m3 m4
 c3 epoch name nodes bits utf8 few =
     keyed (codes "build_epoch") (u64 epoch) (m4 name nodes bits) k3
     (pair_then (sized 9 (without_zeros (bytes_high_first 8 epoch))) (members_spelling (m4 name nodes bits)) 77 100 _ (key_first (codes "database_type") (text name) (m5 name nodes bits) 77 (codes "database_type") first4)
-      (omega (arith, short_number 9 8 epoch (omega arith) refl)) no77_100 (c4 name nodes bits utf8 few))
+    (omega (arith, short_number 9 8 epoch (omega arith) refl)) no77_100 (c4 name nodes bits utf8 few))
 
 none_in_metadata : (epoch : ℕ) (name : List ℕ) (nodes : ℕ) (bits : Bits) → IsUtf8 name → length name ≤ 64 → last_marker (metadata epoch name nodes (record_size bits)) ≡ None
 unfolding metadata told_members m3 m4 m5 m6 m7 m8 m9
 none_in_metadata epoch name nodes bits utf8 few =
     plain_then (head 7 9) _ v0
     (known (codes "binary_format_major_version") (u16 2) (member (codes "binary_format_minor_version") (u16 0) (m3 epoch name nodes bits)) k1 v1
-      (known (codes "binary_format_minor_version") (u16 0) (m3 epoch name nodes bits) k2 v2 (c3 epoch name nodes bits utf8 few)))
+    (known (codes "binary_format_minor_version") (u16 0) (m3 epoch name nodes bits) k2 v2 (c3 epoch name nodes bits utf8 few)))
 
 pub last_is_the_writers : LastMarkerIsTheWriters
 last_is_the_writers front epoch name nodes bits utf8 few =

@@ -1,17 +1,17 @@
 -- The value of a place can be written and is read again.
-use Rattle.std.proofs.Common.{◌≡◌, ℕ, zero, suc, ◌+◌, ◌*◌, ◌<◌, ◌≤◌, ◌==◌, ◌&&◌, ◌||◌, not, Bool, true, false, List, [], ◌∷◌, ◌++◌, length, drop, max, get_or, refl, sym, ap, subst, ◌∙◌, arith, length-append, length-drop, inl, inr}
+use Rattle.std.proofs.Common.{◌≡◌, ℕ, suc, ◌+◌, ◌*◌, ◌<◌, ◌≤◌, ◌==◌, ◌&&◌, not, List, [], ◌∷◌, ◌++◌, length, drop, get_or, refl, sym, ap, subst, ◌∙◌, arith, length-append, length-drop, inl, inr}
 use Rattle.std.specs.Prelude.{codes, nat_le, nat_eq, IsTrue}
 use Rattle.std.specs.Char.{is_ascii_alphabetic, is_ascii_alphanumeric}
-use Rattle.std.specs.List.{after_first, position_or_len, list_all}
-use Rattle.std.specs.Str.{IsUtf8, is_utf8, chars, IsCharBoundary}
+use Rattle.std.specs.List.{position_or_len, list_all}
+use Rattle.std.specs.Str.{IsUtf8, is_utf8, chars}
 use Rattle.std.proofs.lemmas.Str.{IsUtf8-from_is_utf8, IsUtf8-drop, IsCharBoundary-after_ascii, IsUtf8-nil}
 use lib.Utf8.{encode}
 use Rattle.std.proofs.lemmas.Bool.{cases_lt, and_parts, leb-true, false≢true}
 use Rattle.std.proofs.lemmas.Bool.Decides.{eqb_tells}
 use Rattle.std.proofs.Math.ListN.{drop_of_length-le}
-use Rattle.mmdb_data.specs.Tree.{Tree, Members, map, list, text, item, no_items, IsNarrow, MembersAreNarrow, IsTyped, MembersAreTyped, members_len, members_depth, members_count, depth, count, most}
+use Rattle.mmdb_data.specs.Tree.{Tree, map, text, IsNarrow, MembersAreNarrow, IsTyped, MembersAreTyped, members_len, members_depth, members_count, depth, count, most}
 use Rattle.mmdb_data.specs.View.{members_of}
-use Rattle.geo_terms.specs.PlaceForm.{PlaceParts, IsPlace, country_fits, region_fits, lengths_fit, is_empty, is_country, is_region, is_subdivision, longest}
+use Rattle.geo_terms.specs.PlaceForm.{PlaceParts, IsPlace, country_fits, region_fits, lengths_fit, is_empty, is_subdivision, longest}
 use Rattle.mmdb_file.specs.PlaceValue.{one, unless_empty, subdivision, city_member, country_member, postal_member, region_member, subdivision_list, place_value}
 use Rattle.mmdb_file.specs.Writing.{CanBeRead}
 
@@ -103,8 +103,8 @@ holds_at (b ∷ bytes) inside =
     elim (eqb_tells b 45) [
       | inl same ↦ let first : position_or_len (λ b. b == 45) (b ∷ bytes) ≡ 0 = rw same.0 refl in ap (λ i. get_or (b ∷ bytes) i 0) first ∙ same.1
       | inr told ↦
-        let later : position_or_len (λ b. b == 45) (b ∷ bytes) ≡ suc (position_or_len (λ b. b == 45) bytes) = rw told.0 (omega arith) in
-        ap (λ i. get_or (b ∷ bytes) i 0) later ∙ holds_at bytes (omega (arith, inside, later))
+          let later : position_or_len (λ b. b == 45) (b ∷ bytes) ≡ suc (position_or_len (λ b. b == 45) bytes) = rw told.0 (omega arith) in
+          ap (λ i. get_or (b ∷ bytes) i 0) later ∙ holds_at bytes (omega (arith, inside, later))
     ]
 
 -- the text after a dash is a text, and no longer
@@ -114,9 +114,9 @@ subdivision_text region utf8 =
     let i : ℕ = position_or_len (λ b. b == 45) region in
     elim (cases_lt i (length region)) [
       | inl inside ↦
-        let dash : get_or region i 0 ≡ 45 = holds_at region inside in
-        let low : get_or region i 0 < 128 = omega arith in
-        IsUtf8-drop region (i + 1) utf8 (IsCharBoundary-after_ascii region i utf8 inside low)
+          let dash : get_or region i 0 ≡ 45 = holds_at region inside in
+          let low : get_or region i 0 < 128 = omega arith in
+          IsUtf8-drop region (i + 1) utf8 (IsCharBoundary-after_ascii region i utf8 inside low)
       | inr past ↦ let none : drop (i + 1) region ≡ [] = drop_of_length-le region (omega arith) in subst IsUtf8 (sym none) IsUtf8-nil
     ]
 
@@ -171,17 +171,22 @@ readable place texts =
     let c : List (List ℕ × Tree) = postal_member place.postal in
     let d : List (List ℕ × Tree) = region_member place.region in
     map_fine (a ++ (b ++ (c ++ d)))
-    (omega (arith, length-append a (b ++ (c ++ d)), length-append b (c ++ d), length-append c d,
+    (omega (
+      arith,
+      length-append a (b ++ (c ++ d)),
+      length-append b (c ++ d),
+      length-append c d,
       length-unless place.city (codes "city") (one (codes "names") (one (codes "en") (text place.city))),
       length-unless place.country (codes "country") (one (codes "iso_code") (text place.country)),
       length-unless place.postal (codes "postal") (one (codes "code") (text place.postal)),
-      length-unless place.region (codes "subdivisions") (subdivision_list place.region)))
+      length-unless place.region (codes "subdivisions") (subdivision_list place.region),
+    ))
     (AreFine-append a (b ++ (c ++ d)) (city_fine place.city texts.city.0 texts.city.1)
-      (AreFine-append b (c ++ d)
-        (AreFine-unless place.country (codes "country") (one (codes "iso_code") (text place.country)) (code_fine (codes "country") (codes "iso_code") place.country text_country text_iso_code texts.country.0 (omega arith) (omega arith) texts.country.1))
-        (AreFine-append c d
-          (AreFine-unless place.postal (codes "postal") (one (codes "code") (text place.postal)) (code_fine (codes "postal") (codes "code") place.postal text_postal text_code texts.postal.0 (omega arith) (omega arith) texts.postal.1))
-          (region_fine place.region texts.region.0 texts.region.1))))
+    (AreFine-append b (c ++ d)
+    (AreFine-unless place.country (codes "country") (one (codes "iso_code") (text place.country)) (code_fine (codes "country") (codes "iso_code") place.country text_country text_iso_code texts.country.0 (omega arith) (omega arith) texts.country.1))
+    (AreFine-append c d
+    (AreFine-unless place.postal (codes "postal") (one (codes "code") (text place.postal)) (code_fine (codes "postal") (codes "code") place.postal text_postal text_code texts.postal.0 (omega arith) (omega arith) texts.postal.1))
+    (region_fine place.region texts.region.0 texts.region.1))))
 
 -- the texts of a place are short
 country_of_two : (code : List ℕ) → IsTrue (country_fits code) → length code ≤ 2

@@ -1,9 +1,8 @@
 -- In UTF-8 the bytes 205 and 239 are never neighbours: each begins a character.
-use Rattle.std.proofs.Common.{◌≡◌, ℕ, suc, ◌+◌, ◌/◌, ◌%◌, ◌<◌, ◌≤◌, ◌≢◌, ◌==◌, ◌&&◌, not, Bool, true, false, cond, List, [], ◌∷◌, ◌++◌, refl, subst, inl, inr, arith, sym}
+use Rattle.std.proofs.Common.{◌≡◌, ℕ, ◌+◌, ◌/◌, ◌≢◌, ◌==◌, true, false, List, [], ◌∷◌, ◌++◌, refl, subst, inl, inr, arith, sym}
 use Rattle.std.specs.Str.{IsUtf8}
 use Rattle.std.proofs.lemmas.Bool.Decides.{eqb_tells}
 use Rattle.std.proofs.lemmas.Bool.{cases_lt, lt-ltb, le-ltb}
-use Rattle.std.proofs.Math.Dec.{eqb, ltb}
 use lib.Utf8.{encode, encodes, next}
 use Rattle.mmdb_file.proofs.MarkerLemmas.{parted, not_both}
 
@@ -33,15 +32,15 @@ character c x h =
     elim (cases_lt c 128) [
       | inl a ↦ rw (lt-ltb c 128 a) (front c x (omega arith) h)
       | inr a ↦ rw (le-ltb c 128 a)
-        (elim (cases_lt c 2048) [
-          | inl b ↦ rw (lt-ltb c 2048 b) (led (192 + c / 64) c x (inner c x h))
-          | inr b ↦ rw (le-ltb c 2048 b)
-            (elim (cases_lt c 65536) [
-              | inl d ↦ rw (lt-ltb c 65536 d) (led (224 + c / 4096) (c / 64) (next c ∷ x) (inner (c / 64) (next c ∷ x) (inner c x h)))
-              | inr d ↦ rw (le-ltb c 65536 d)
-                (led (240 + c / 262144) (c / 4096) (next (c / 64) ∷ next c ∷ x) (inner (c / 4096) (next (c / 64) ∷ next c ∷ x) (inner (c / 64) (next c ∷ x) (inner c x h))))
-            ])
-        ])
+          (elim (cases_lt c 2048) [
+            | inl b ↦ rw (lt-ltb c 2048 b) (led (192 + c / 64) c x (inner c x h))
+            | inr b ↦ rw (le-ltb c 2048 b)
+                (elim (cases_lt c 65536) [
+                  | inl d ↦ rw (lt-ltb c 65536 d) (led (224 + c / 4096) (c / 64) (next c ∷ x) (inner (c / 64) (next c ∷ x) (inner c x h)))
+                  | inr d ↦ rw (le-ltb c 65536 d)
+                      (led (240 + c / 262144) (c / 4096) (next (c / 64) ∷ next c ∷ x) (inner (c / 4096) (next (c / 64) ∷ next c ∷ x) (inner (c / 64) (next c ∷ x) (inner c x h))))
+                ])
+          ])
     ]
 
 characters : (cs : List ℕ) → parted (encodes cs) ≡ true

@@ -1,10 +1,10 @@
 -- The steps of the writer.
-use Rattle.std.proofs.Common.{◌≡◌, ℕ, zero, suc, ◌+◌, ◌*◌, ◌<◌, ◌≤◌, not, Bool, true, false, List, [], ◌∷◌, ◌++◌, length, take, drop, get_or, Option, Some, None, refl, sym, ap, ◌∙◌, arith, append_assoc, append-nil, length-append, length-take, inl, inr, subst, All, add-one}
+use Rattle.std.proofs.Common.{◌≡◌, ℕ, zero, suc, ◌+◌, ◌*◌, ◌<◌, ◌≤◌, not, Bool, true, false, List, [], ◌∷◌, ◌++◌, length, take, drop, get_or, Some, None, refl, sym, ap, ◌∙◌, arith, append_assoc, append-nil, length-append, length-take, inl, inr, subst, All, add-one}
 use Rattle.std.proofs.Common.{map as map_list}
-use Rattle.mmdb_data.specs.Tree.{Tree}
+use Rattle.mmdb_data.specs.Tree.{Tree, map, most, CanBeSpelled}
 use Rattle.mmdb_data.specs.Spelling.{spelling}
 use Rattle.mmdb_file.specs.Section.{spellings, starts_from}
-use Rattle.std.specs.List.{position, position_or_len}
+use Rattle.std.specs.List.{position, position_or_len, list_any}
 use Rattle.std.proofs.lemmas.Bool.{cases_lt, lt-ltb}
 use Rattle.std.proofs.lemmas.List.{take_more, take_at, take_all}
 use Rattle.std.proofs.lemmas.List.Elements.{All-push}
@@ -12,14 +12,19 @@ use Rattle.std.proofs.Math.Seq.{drop-cons}
 use Rattle.std.proofs.lemmas.List.Sums.{prefix_len-le-length}
 use Rattle.std.proofs.Math.Nat.{add-mul, mul-le-mul_right}
 use Rattle.std.proofs.lemmas.Option.{get_or_from_slice_get}
-use Rattle.std.specs.Prelude.{slice_get}
+use Rattle.std.specs.Prelude.{slice_get, slice_index, nat_eq, max, if◌then◌else◌, ◌^◌}
 use Rattle.trie_core.specs.declared.node.NodeId.{NodeId}
 use Rattle.trie_core.specs.declared.node.Pair.{Pair}
 use Rattle.trie_core.specs.declared.node.Rec.{Rec}
 use Rattle.trie_core.specs.declared.node.Rec.TheVariants.{Leaf, Node}
-use Rattle.mmdb_file.specs.Writing.{node_numbers}
+use Rattle.mmdb_file.specs.Writing.{node_numbers, record_number, nodes_from, same_id}
+use Rattle.mmdb_file.specs.Metadata.{told_members, english}
+use Rattle.mmdb_tree.specs.Laws.{NodeFits}
+use Rattle.mmdb_tree.specs.declared.bits.Bits.TheVariants.{B24, B28, B32}
+use Rattle.least_nodes.specs.Layout.{each_once}
+use Rattle.std.proofs.lemmas.List.{get_or-map}
 use Rattle.mmdb_tree.specs.declared.bits.Bits.{Bits}
-use Rattle.mmdb_tree.specs.Nodes.{node_bytes, tree_bytes, width}
+use Rattle.mmdb_tree.specs.Nodes.{node_bytes, tree_bytes, width, limit}
 use Rattle.mmdb_tree.proofs.NodeLemmas.{length-node_bytes}
 
 pub none_is_len : {X : Type 0} (p : X → Bool) (xs : List X) → position p xs ≡ None → position_or_len p xs ≡ length xs
@@ -103,7 +108,7 @@ pub with_value : (new old : Pairs) (key : List ℕ) (v w : Tree) → new ≡ old
 with_value new old key v w is same = is ∙ ap (λ t. old ++ (key, t) ∷ []) same
 
 next : (old new later : Pairs) (xs : Pairs) (b : List ℕ × Tree) → new ≡ old ++ xs → later ≡ new ++ b ∷ [] → later ≡ old ++ (xs ++ b ∷ [])
-next old new later xs b is then = then ∙ ap (λ n. n ++ b ∷ []) is ∙ append_assoc old xs (b ∷ [])
+next old new later xs b is more = more ∙ ap (λ n. n ++ b ∷ []) is ∙ append_assoc old xs (b ∷ [])
 
 pub four : (old x1 x2 x3 x4 : Pairs) (a b c d : List ℕ × Tree) → x1 ≡ old ++ a ∷ [] → x2 ≡ x1 ++ b ∷ [] → x3 ≡ x2 ++ c ∷ [] → x4 ≡ x3 ++ d ∷ [] → x4 ≡ old ++ a ∷ b ∷ c ∷ d ∷ []
 four old x1 x2 x3 x4 a b c d e1 e2 e3 e4 =
@@ -111,3 +116,81 @@ four old x1 x2 x3 x4 a b c d e1 e2 e3 e4 =
 
 pub five : (old x1 x2 x3 x4 x5 : Pairs) (a b c d e : List ℕ × Tree) → x1 ≡ old ++ a ∷ [] → x2 ≡ x1 ++ b ∷ [] → x3 ≡ x2 ++ c ∷ [] → x4 ≡ x3 ++ d ∷ [] → x5 ≡ x4 ++ e ∷ [] → x5 ≡ old ++ a ∷ b ∷ c ∷ d ∷ e ∷ []
 five old x1 x2 x3 x4 x5 a b c d e e1 e2 e3 e4 e5 = next old x4 x5 (a ∷ b ∷ c ∷ d ∷ []) e (four old x1 x2 x3 x4 a b c d e1 e2 e3 e4) e5
+
+-- the metadata can be written
+pub told_spelled : (epoch : ℕ) (name : List ℕ) (nodes size : ℕ) → length name ≤ 64 → CanBeSpelled (map (told_members epoch name nodes size))
+unfolding told_members english
+told_spelled epoch name nodes size few =
+    let short : length name ≤ most = omega arith in (
+      (
+        omega arith,
+        (
+          omega arith,
+          tt,
+          (
+            omega arith,
+            tt,
+            (
+              omega arith,
+              tt,
+              (
+                omega arith,
+                short,
+                (
+                  omega arith,
+                  (omega arith, (omega arith, short, tt)),
+                  (omega arith, tt, (omega arith, (omega arith, (omega arith, tt)), (omega arith, tt, (omega arith, tt, tt)))),
+                ),
+              ),
+            ),
+          ),
+        ),
+      ),
+      omega arith,
+    )
+
+-- no value begins behind the end of the data section
+pub starts-le : (values : List Tree) (n k : ℕ) → slice_index (starts_from n values) k ≤ n + length (spellings values)
+starts-le [] n k = omega arith
+starts-le (value ∷ values) n zero = omega arith
+starts-le (value ∷ values) n (suc k) = omega (arith, starts-le values (n + length (spelling value)) k, length-append (spelling value) (spellings values))
+
+-- a set is no longer than the list that it was made of
+pub length-each_once : {X : Type 0} (eq : X → X → Bool) (seen xs : List X) → length (each_once eq seen xs) ≤ length seen + length xs
+length-each_once eq seen [] = omega arith
+length-each_once eq seen (x ∷ xs) =
+    elim (list_any (eq x) seen) as (λ (b : Bool). length (if b then each_once eq seen xs else each_once eq (seen ++ x ∷ []) xs) ≤ length seen + length (x ∷ xs)) [
+      | true ↦ omega (arith, length-each_once eq seen xs)
+      | false ↦ omega (arith, length-each_once eq (seen ++ x ∷ []) xs, length-append seen (x ∷ []))
+    ]
+
+-- the numbers of all records fit where the greatest do
+pub record_number-lt : (count end : ℕ) (ids : List NodeId) (places starts : List ℕ) (rec : Rec) → length ids < end → count < end → ((k : ℕ) → count + 16 + slice_index starts k < end) → record_number count ids places starts rec < end
+record_number-lt count end ids places starts (Leaf k) few some low =
+    elim (list_any (nat_eq k) places) as (λ (b : Bool). (if b then count + 16 + slice_index starts (position_or_len (nat_eq k) places) else count) < end) [
+      | true ↦ low (position_or_len (nat_eq k) places)
+      | false ↦ some
+    ]
+record_number-lt count end ids places starts (Node id) few some low = omega (arith, few, prefix_len-le-length (λ x. not (same_id id x)) ids)
+
+pub length-mapped : {X Y : Type 0} (f : X → Y) (xs : List X) → length (map_list f xs) ≡ length xs
+length-mapped f [] = refl
+length-mapped f (x ∷ xs) = ap suc (length-mapped f xs)
+
+-- the nodes fit where each number does
+pub nodes_fit : (bits : Bits) (pairs : List Pair) (number : Rec → ℕ) (root : Rec) (ids : List NodeId) → ((rec : Rec) → number rec < limit bits) → (k : ℕ) → k < length (nodes_from pairs number root ids) → NodeFits bits (get_or (nodes_from pairs number root ids) k (0, 0))
+nodes_fit bits pairs number root [] fits zero inside = (fits root, fits root)
+nodes_fit bits pairs number root [] fits (suc k) inside = absurd (omega arith)
+nodes_fit bits pairs number root (id ∷ ids) fits k inside =
+    let f : NodeId → ℕ × ℕ = node_numbers pairs number in
+    let at : get_or (map_list f (id ∷ ids)) k (0, 0) ≡ f (get_or (id ∷ ids) k id) = get_or-map f (id ∷ ids) k id (0, 0) (omega (arith, inside, length-mapped f (id ∷ ids))) in
+    subst (NodeFits bits) (sym at) (fits _, fits _)
+
+pub length-nodes_from : (pairs : List Pair) (number : Rec → ℕ) (root : Rec) (ids : List NodeId) → length (nodes_from pairs number root ids) ≡ max 1 (length ids)
+length-nodes_from pairs number root [] = refl
+length-nodes_from pairs number root (id ∷ ids) = omega (arith, length-mapped (node_numbers pairs number) (id ∷ ids))
+
+pub limit-le : (bits : Bits) → limit bits ≤ 2 ^ 32
+limit-le B24 = omega arith
+limit-le B28 = omega arith
+limit-le B32 = omega arith

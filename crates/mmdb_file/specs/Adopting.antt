@@ -3,7 +3,7 @@ use Rattle.std.specs.Prelude.{◌≡◌, Option, Some, None, Result, Ok, Err}
 use Rattle.mmdb_file.specs.declared.adopted.Metadata.{Metadata}
 use Rattle.mmdb_file.specs.declared.fault.OpenFault.{OpenFault}
 use Rattle.mmdb_file.specs.declared.fault.OpenFault.TheVariants.{Memory}
-use Rattle.mmdb_file.specs.Walk.{Opened, Told}
+use Rattle.mmdb_file.specs.Walk.{Told}
 
 -- what was read of the metadata
 abbrev pub told_view : Metadata → Told

@@ -1,5 +1,5 @@
 -- The data section: the values in order, and where each begins.
-use Rattle.std.specs.Prelude.{◌≡◌, ◌<◌, ℕ, ◌+◌, ◌*◌, List, [], ◌∷◌, ◌++◌, length, slice_index, slice_index_or, Ok}
+use Rattle.std.specs.Prelude.{◌≡◌, ◌<◌, ℕ, ◌+◌, List, [], ◌∷◌, ◌++◌, length, slice_index, slice_index_or, Ok}
 use Rattle.mmdb_data.specs.Tree.{Tree, bool}
 use Rattle.mmdb_data.specs.Spelling.{spelling}
 use Rattle.mmdb_data.specs.Reading.{reads}

@@ -1,15 +1,21 @@
 -- What the writer's steps give.
-use Rattle.std.specs.Prelude.{◌≤◌, ◌<◌, ℕ, ◌+◌, ◌^◌, ◌==◌, Bool, List, [], ◌∷◌, map, slice_index, slice_index_or, nat_eq, if◌then◌else◌}
+use Rattle.std.specs.Prelude.{◌≤◌, ℕ, ◌+◌, ◌==◌, Bool, List, [], ◌∷◌, map, length, max, slice_index, slice_index_or, nat_eq, if◌then◌else◌}
 use Rattle.std.specs.List.{position_or_len, list_any}
 use Rattle.trie_core.specs.declared.node.NodeId.{NodeId}
 use Rattle.trie_core.specs.declared.node.Rec.{Rec}
 use Rattle.trie_core.specs.declared.node.Rec.TheVariants.{Leaf, Node}
 use Rattle.trie_core.specs.declared.node.Pair.{Pair}
 use Rattle.mmdb_file.specs.declared.numbers.Numbers.{Numbers}
-use Rattle.mmdb_data.specs.Tree.{Tree, CanBeSpelled, IsTyped, count}
+use Rattle.geo_terms.specs.Numbers.{place_at}
+use Rattle.geo_terms.specs.PlaceForm.{PlaceParts}
+use Rattle.trie_core.specs.Tree.{Tree}
+use Rattle.least_nodes.specs.Layout.{inner, place_order}
+use Rattle.mmdb_file.specs.FileImage.{answer_value}
+use Rattle.mmdb_file.specs.Section.{spellings}
+use Rattle.mmdb_data.specs.Tree.{Tree as Value, CanBeSpelled, IsTyped, count}
 
 -- a value that is written is read again
-abbrev pub CanBeRead : Tree → Type 0
+abbrev pub CanBeRead : Value → Type 0
 CanBeRead value = CanBeSpelled value × IsTyped value × (count value ≤ 100000)
 
 -- whether two nodes of a store are the same
@@ -35,3 +41,15 @@ node_numbers pairs number id =
 abbrev pub nodes_from : List Pair → (Rec → ℕ) → (root : Rec) → List NodeId → List (ℕ × ℕ)
 nodes_from pairs number root [] = (number root, number root) ∷ []
 nodes_from pairs number root (id ∷ ids) = map (node_numbers pairs number) (id ∷ ids)
+
+-- how many nodes are written for a tree: its different nodes, and one where it is a leaf
+abbrev pub count_for : Tree ℕ → ℕ
+count_for t = max (length (inner nat_eq t)) 1
+
+-- the data section that is written for a tree of place numbers
+abbrev pub section_for : List PlaceParts → Tree ℕ → List ℕ
+section_for places t = spellings (map (λ k. answer_value (place_at places k)) (place_order t))
+
+-- no record is above this number
+abbrev pub end_for : List PlaceParts → Tree ℕ → ℕ
+end_for places t = count_for t + 16 + length (section_for places t)

@@ -1,3 +1,4 @@
+use geo_addr::Memory;
 use thiserror::Error;
 
 /// Why no file was written.
@@ -7,6 +8,17 @@ pub enum FileFault {
     TooLarge = 1,
     #[error("out of memory")]
     Memory = 2,
+}
+
+impl From<Memory> for FileFault {
+    ghost use Rattle.std.specs.Prelude.{◌≡◌};
+    ghost use Rattle.mmdb_file.specs.declared.fault.FileFault.{FileFault};
+
+    ghost from_gives = { λ _ fault. fault ≡ FileFault.Memory };
+
+    fn from(_refused: Memory) -> FileFault {
+        FileFault::Memory
+    }
 }
 
 /// Why bytes are no MaxMind DB file; where several things are wrong, the first of this list.

@@ -10,9 +10,14 @@ mod metadata;
 mod nodes;
 mod numbers;
 mod place;
+mod writing;
 
 pub use adopted::Mmdb;
 pub use fault::{FileFault, OpenFault, WalkFault};
-pub use place::place_value;
-pub use metadata::Meta;
 pub use laws::last_marker_is_the_writers;
+pub use metadata::Meta;
+pub use place::place_value;
+pub use writing::{Emitted, write_file};
+
+#[cfg(test)]
+mod tests;

@@ -2,6 +2,11 @@
 ghost use Rattle.std.specs.Prelude.{◌≡◌, ◌-◌, ◌+◌, ◌≤◌, ◌<◌, length, IfSome, IsTrue};
 ghost use Rattle.mmdb_file.specs.Marker.{marker, begins, last_marker as last_marker_of};
 
+/// The bytes AB CD EF and then `MaxMind.com`.
+pub(crate) const MARKER: [u8; 14] = [
+    0xAB, 0xCD, 0xEF, b'M', b'a', b'x', b'M', b'i', b'n', b'd', b'.', b'c', b'o', b'm',
+];
+
 /// How long the marker is.
 pub(crate) const MARKER_LEN: usize = 14;
 
@@ -27,6 +32,22 @@ fn begins_marker(bytes: &[u8]) -> bool
 {
     matches!(
         bytes,
-        [0xAB, 0xCD, 0xEF, b'M', b'a', b'x', b'M', b'i', b'n', b'd', b'.', b'c', b'o', b'm', ..]
+        [
+            0xAB,
+            0xCD,
+            0xEF,
+            b'M',
+            b'a',
+            b'x',
+            b'M',
+            b'i',
+            b'n',
+            b'd',
+            b'.',
+            b'c',
+            b'o',
+            b'm',
+            ..
+        ]
     )
 }

@@ -22,7 +22,12 @@ pub struct Meta {
 
 /// The metadata map.
 #[tactic(auto, unfolding(crate::specs::Metadata::told_members))]
-pub(crate) fn metadata_of(alloc: Global, meta: &Meta, nodes: u32, bits: Bits) -> Result<Value, Memory>
+pub(crate) fn metadata_of(
+    alloc: Global,
+    meta: &Meta,
+    nodes: u32,
+    bits: Bits,
+) -> Result<Value, Memory>
     ensures { IfOk result (λ value. value_tree value
         ≡ map_tree (told_members meta.now.epoch meta.now.name nodes (record_size bits))) }
 {
@@ -61,9 +66,19 @@ fn add_tree(
         ≡ map_list pair_view members.old.items ++ tree_members nodes (record_size bits)) }
 {
     add(alloc, members, "ip_version", number16(6))?;
-    add(alloc, members, "languages", list_of(alloc, text(alloc, "en")?)?)?;
+    add(
+        alloc,
+        members,
+        "languages",
+        list_of(alloc, text(alloc, "en")?)?,
+    )?;
     add(alloc, members, "node_count", number32(nodes))?;
-    add(alloc, members, "record_size", number16(u16::from(bits.size())))?;
+    add(
+        alloc,
+        members,
+        "record_size",
+        number16(u16::from(bits.size())),
+    )?;
     Ok(())
 }
 

@@ -48,7 +48,12 @@ pub(crate) fn nodes_of(
     }
 }
 
-fn root_node(alloc: Global, store: &Store, root: Root, numbers: &Numbers) -> Result<Vec<(u32, u32)>, Memory>
+fn root_node(
+    alloc: Global,
+    store: &Store,
+    root: Root,
+    numbers: &Numbers,
+) -> Result<Vec<(u32, u32)>, Memory>
     requires root { IsRootOf store.now root }
     requires few { length numbers.now.nodes.keys < 2 ^ 32 }
     requires low { (k : ℕ) → numbers.now.count + 16 + slice_index numbers.now.starts.items k < 2 ^ 32 }
@@ -61,7 +66,12 @@ fn root_node(alloc: Global, store: &Store, root: Root, numbers: &Numbers) -> Res
     Ok(nodes)
 }
 
-fn inner_nodes(alloc: Global, store: &Store, ids: &[NodeId], numbers: &Numbers) -> Result<Vec<(u32, u32)>, Memory>
+fn inner_nodes(
+    alloc: Global,
+    store: &Store,
+    ids: &[NodeId],
+    numbers: &Numbers,
+) -> Result<Vec<(u32, u32)>, Memory>
     requires of { AreOf store.now ids.now }
     requires few { length numbers.now.nodes.keys < 2 ^ 32 }
     requires low { (k : ℕ) → numbers.now.count + 16 + slice_index numbers.now.starts.items k < 2 ^ 32 }

@@ -17,7 +17,13 @@ pub fn place_value(alloc: Global, place: &Place) -> Result<Value, Memory>
     ensures readable { IfOk result (λ value. CanBeRead (value_tree value)) }
 {
     let (country, region) = (place.country.as_str(), place.region.as_str());
-    let value = value_of_parts(alloc, country, region, place.city.as_str(), place.postal.as_str())?;
+    let value = value_of_parts(
+        alloc,
+        country,
+        region,
+        place.city.as_str(),
+        place.postal.as_str(),
+    )?;
     Ok(value)
 }
 
@@ -30,7 +36,11 @@ fn value_of_parts(
     postal: &str,
 ) -> Result<Value, Memory>
     ensures { IfOk result (λ value. value_tree value ≡ value_of_place (record {
-        country = country.now; region = region.now; city = city.now; postal = postal.now })) }
+      country = country.now;
+      region = region.now;
+      city = city.now;
+      postal = postal.now;
+    })) }
 {
     let mut members = Vec::new(alloc);
     add_city(alloc, &mut members, city)?;

@@ -9,8 +9,8 @@ use Rattle.mmdb_file.proofs.data.data_of.Given as goal
 abbrev pub invariant-loop-number : goal.invariant-loop-number
 invariant-loop-number l = record {
   bytes : l.made.bytes.items ++ spellings (map_list (λ k. answer_value (place_at l.places k)) (drop l.number-index l.numbers))
-    ≡ spellings (map_list (λ k. answer_value (place_at l.places k)) l.numbers);
+      ≡ spellings (map_list (λ k. answer_value (place_at l.places k)) l.numbers);
   starts : l.made.starts.items ++ starts_from (length l.made.bytes.items) (map_list (λ k. answer_value (place_at l.places k)) (drop l.number-index l.numbers))
-    ≡ starts_from 0 (map_list (λ k. answer_value (place_at l.places k)) l.numbers);
+      ≡ starts_from 0 (map_list (λ k. answer_value (place_at l.places k)) l.numbers);
   readable : All (λ k. CanBeRead (answer_value (place_at l.places k))) (take l.number-index l.numbers);
 }

@@ -1,4 +1,4 @@
-use Rattle.std.proofs.Common.{◌∙◌, sym, arith}
+use Rattle.std.proofs.Common.{arith}
 use Rattle.mmdb_file.proofs.AdoptLemmas.{found_here, none_here}
 use Rattle.mmdb_file.proofs.marker.last_marker.Goals as goal
 

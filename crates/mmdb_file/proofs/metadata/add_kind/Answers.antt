@@ -1,4 +1,4 @@
-use Rattle.std.proofs.Common.{◌≡◌, ◌∙◌, ap, codes}
+use Rattle.std.proofs.Common.{◌∙◌, ap, codes}
 use Rattle.mmdb_data.specs.Tree.{Tree}
 use Rattle.mmdb_file.specs.Metadata.{english}
 use Rattle.mmdb_file.specs.PlaceValue.{one}

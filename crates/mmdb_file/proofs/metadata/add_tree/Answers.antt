@@ -1,4 +1,4 @@
-use Rattle.std.proofs.Common.{◌≡◌, ◌∙◌, ap}
+use Rattle.std.proofs.Common.{◌∙◌, ap}
 use Rattle.mmdb_data.specs.Tree.{Tree, list, item, no_items, u16}
 use Rattle.mmdb_file.proofs.WritingLemmas.{four, with_value}
 use Rattle.mmdb_file.proofs.metadata.add_tree.Goals as goal

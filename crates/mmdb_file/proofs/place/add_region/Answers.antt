@@ -1,8 +1,8 @@
-use Rattle.std.proofs.Common.{◌≡◌, ◌∙◌, ◌==◌, ℕ, Bool, false, List, [], ◌∷◌, ◌++◌, length, OnOk, codes, sym, refl, ap, subst}
+use Rattle.std.proofs.Common.{◌≡◌, ◌∙◌, ◌==◌, ℕ, false, List, [], ◌∷◌, ◌++◌, length, OnOk, codes, sym, refl, ap, subst}
 use Rattle.std.proofs.Common.{map as map_list}
 use Rattle.mmdb_data.specs.Tree.{Tree}
 use Rattle.mmdb_data.specs.View.{pair_view}
-use Rattle.mmdb_file.specs.PlaceValue.{unless_empty, region_member}
+use Rattle.mmdb_file.specs.PlaceValue.{unless_empty}
 use Rattle.mmdb_file.proofs.place.add_region.Goals as goal
 
 member_is : (text key : List ℕ) (value : Tree) → (length text == 0) ≡ false → (key, value) ∷ [] ≡ unless_empty text key value

@@ -1,6 +1,4 @@
-use Rattle.std.proofs.Common.{◌≡◌, ◌∙◌, ◌≤◌, length, sym, ap, subst, arith}
-use Rattle.std.specs.Str.{IsUtf8}
-use Rattle.mmdb_data.specs.Tree.{Tree, most}
+use Rattle.std.proofs.Common.{length, sym, ap, subst, arith}
 use Rattle.mmdb_file.specs.Writing.{CanBeRead}
 use Rattle.mmdb_file.proofs.PlaceLemmas.{readable, short_country, short_region, short_city, short_postal}
 use Rattle.mmdb_file.proofs.place.place_value.Goals as goal

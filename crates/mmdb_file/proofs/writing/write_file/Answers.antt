@@ -1,0 +1,53 @@
+use Rattle.std.proofs.Common.{◌≡◌, ◌∙◌, ◌+◌, ap, sym, length, arith, [], ℕ, List}
+use Rattle.std.specs.Prelude.{slice_index, nat_eq, option_map, Some}
+use Rattle.trie_core.specs.declared.node.NodeId.{NodeId}
+use Rattle.trie_core.specs.declared.node.Rec.TheVariants.{Node}
+use Rattle.trie_core.specs.Store.{tree_of, meaning}
+use Rattle.least_nodes.specs.Layout.{inner}
+use Rattle.least_nodes.specs.Order.{trees_of}
+use Rattle.mmdb_tree.specs.Nodes.{smallest, record_size}
+use Rattle.mmdb_file.specs.Section.{spellings}
+use Rattle.std.proofs.Common.{map as map_list}
+use Rattle.geo_terms.specs.Numbers.{place_at}
+use Rattle.mmdb_file.specs.FileImage.{answer_value}
+use Rattle.mmdb_file.specs.Writing.{same_id, section_for, count_for, end_for}
+use Rattle.mmdb_file.proofs.WritingLemmas.{length-each_once, starts-le, length-mapped}
+use Rattle.mmdb_file.proofs.writing.write_file.Goals as goal
+
+pub written-requires-clause-keys : goal.written-requires-clause-keys
+written-requires-clause-keys c =
+    omega (arith, ap length c.in_ok-numbers.ensures.nodes, length-each_once same_id [] c.as_slice-ids.result.now, c.in_ok-numbers.ensures.count, c.max-count.ensures)
+
+pub written-requires-clause-low : goal.written-requires-clause-low
+written-requires-clause-low c = λ k.
+    omega (
+      arith,
+      ap (λ (s : List ℕ). slice_index s k) (c.in_ok-numbers.ensures.starts ∙ c.in_ok-section.ensures.starts),
+      starts-le (map_list (λ k'. answer_value (place_at c.args.places.now k')) c.as_slice-leaves.result.now) 0 k,
+      ap length c.in_ok-section.ensures.bytes,
+      c.len-len.ensures,
+      c.in_ok-section.section.bytes.ok.0,
+      c.in_ok-numbers.ensures.count,
+      c.in-Some.ensures.low,
+    )
+
+section_is : (c : goal.After-drop-layout-3) → c.len-len.result ≡ length (section_for c.args.places.now (tree_of c.args.store.now c.args.root))
+section_is c =
+    let spelled : length c.in_ok-section.section.bytes.items ≡ length (spellings (map_list (λ k. answer_value (place_at c.args.places.now k)) c.as_slice-leaves.result.now)) = ap length c.in_ok-section.ensures.bytes in
+    let places : length (spellings (map_list (λ k. answer_value (place_at c.args.places.now k)) c.as_slice-leaves.result.now)) ≡ length (section_for c.args.places.now (tree_of c.args.store.now c.args.root)) =
+    ap (λ (ks : List ℕ). length (spellings (map_list (λ k. answer_value (place_at c.args.places.now k)) ks))) (c.as_slice-leaves.ensures ∙ c.in_ok-layout.ensures.leaves) in
+    omega (arith, c.len-len.ensures, c.in_ok-section.section.bytes.ok.0, spelled, places)
+
+count_is : (c : goal.After-drop-layout-3) → c.max-count.result ≡ count_for (tree_of c.args.store.now c.args.root)
+count_is c =
+    let ids : length c.as_slice-ids.result.now ≡ length c.in_ok-layout.layout.nodes = ap length c.as_slice-ids.ensures in
+    let trees : length (trees_of c.args.store.now c.in_ok-layout.layout.nodes) ≡ length (inner nat_eq (tree_of c.args.store.now c.args.root)) = ap length c.in_ok-layout.ensures.nodes in
+    omega (arith, c.max-count.ensures, ids, trees, length-mapped (λ (id : NodeId). meaning c.args.store.now (Node id)) c.in_ok-layout.layout.nodes)
+
+pub returns-clause-section : goal.returns-clause-section
+returns-clause-section c = section_is c
+
+pub returns-clause-bits : goal.returns-clause-bits
+returns-clause-bits c =
+    let end : c.max-count.result + 16 + c.len-len.result ≡ end_for c.args.places.now (tree_of c.args.store.now c.args.root) = omega (arith, section_is c, count_is c) in
+    ap (λ (n : ℕ). option_map record_size (smallest n)) (sym end) ∙ ap (option_map record_size) (sym c.in-Some.ensures.bits) ∙ ap Some (sym c.size.ensures)

@@ -1,0 +1,176 @@
+//! Writing a file.
+ghost use Rattle.std.specs.Prelude.{◌≡◌, ◌+◌, ◌*◌, ◌^◌, ◌<◌, ◌≤◌, ◌++◌, ℕ, length, max, IfOk, OnOk, IfSome, slice_index_or, slice_index, [], nat_eq, List, option_map, Some, None, Err};
+ghost use Rattle.trie_core.specs.Store.{IsRootOf, record_of, tree_of};
+ghost use Rattle.least_nodes.specs.Layout.{each_once};
+ghost use Rattle.least_nodes.specs.Order.{AreOf};
+ghost use Rattle.mmdb_file.specs.Writing.{nodes_from, number_of, same_id, count_for, section_for, end_for};
+ghost use Rattle.least_nodes.specs.Laws.{HasLookups};
+ghost use Rattle.least_nodes.specs.NodeList.{Member};
+ghost use Rattle.mmdb_tree.specs.Laws.{NodeFits};
+ghost use Rattle.mmdb_tree.specs.Nodes.{limit, smallest, record_size, tree_bytes};
+ghost use Rattle.mmdb_file.specs.FileImage.{file_of};
+ghost use Rattle.mmdb_file.specs.declared.fault.FileFault.TheVariants as faults;
+
+use crate::data::data_of;
+use crate::fault::FileFault;
+use crate::marker::MARKER;
+use crate::metadata::{Meta, metadata_of};
+use crate::nodes::{nodes_of, put_nodes};
+use crate::numbers::{Numbers, set_of};
+use geo_addr::Memory;
+use geo_terms::Places;
+use least_nodes::order;
+use mmdb_data::encode;
+use mmdb_tree::{Bits, record_bits};
+use std::alloc::Global;
+use trie_core::{NodeId, Root, Store};
+
+/// A file that was written, and its counts.
+#[derive(Debug, Drop)]
+pub struct Emitted {
+    pub bytes: Vec<u8>,
+    pub nodes: u64,
+    /// The bytes of the data section.
+    pub section: u64,
+    /// The bits of a record.
+    pub bits: u8,
+}
+
+/// The file of the tree that the root means, whose leaf 0 is no data and whose leaf k is the place of
+/// number k.
+///
+/// Each node and each place stands once, in the order of a walk that takes a node before its children
+/// and the left child before the right one.
+pub fn write_file(
+    alloc: Global,
+    store: &Store,
+    root: Root,
+    places: &Places,
+    meta: &Meta,
+) -> Result<Emitted, FileFault>
+    requires root { IsRootOf store.now root }
+    requires name { length meta.now.name ≤ 64 }
+    ensures nodes { IfOk result (λ file. file.nodes ≡ count_for (tree_of store.now root)) }
+
+    // No list of at least one node that answers as the tree does is shorter.
+    ensures fewest { IfOk result (λ file. (nodes : List (Member ℕ × Member ℕ)) → 0 < length nodes
+        → HasLookups 128 nodes (tree_of store.now root) → file.nodes ≤ length nodes) }
+    ensures section { IfOk result
+        (λ file. file.section ≡ length (section_for places.now (tree_of store.now root))) }
+    ensures bits { IfOk result (λ file. option_map record_size (smallest (end_for places.now (tree_of store.now root))) ≡ Some file.bits) }
+    ensures too_large { result ≡ Err faults.TooLarge → smallest (end_for places.now (tree_of store.now root)) ≡ None }
+{
+    let layout = order(alloc, store, root)?;
+    let (ids, leaves) = (layout.nodes.as_slice(), layout.leaves.as_slice());
+    let section = data_of(alloc, places, leaves)?;
+    let count = ids.len().max(1);
+    let len = section.bytes.len();
+    let Some(bits) = bits_for(count, len) else {
+        return Err(FileFault::TooLarge);
+    };
+    let numbers = numbers_of(alloc, count as u32, ids, leaves, section.starts)?;
+    let bytes = written(
+        alloc,
+        store,
+        root,
+        ids,
+        &numbers,
+        bits,
+        &section.bytes,
+        meta,
+    )?;
+    Ok(Emitted {
+        bytes,
+        nodes: count as u64,
+        section: len as u64,
+        bits: bits.size(),
+    })
+}
+
+fn numbers_of(
+    alloc: Global,
+    count: u32,
+    ids: &[NodeId],
+    leaves: &[u32],
+    starts: Vec<u64>,
+) -> Result<Numbers, Memory>
+    ensures count { IfOk result (λ numbers. numbers.count ≡ count) }
+    ensures nodes { IfOk result (λ numbers. numbers.nodes.keys ≡ each_once same_id [] ids.now) }
+    ensures places { IfOk result (λ numbers. numbers.places.keys ≡ each_once nat_eq [] leaves.now) }
+    ensures starts { IfOk result (λ numbers. numbers.starts.items ≡ starts.items) }
+{
+    let nodes = set_of(alloc, ids)?;
+    let places = set_of(alloc, leaves)?;
+    Ok(Numbers {
+        count,
+        nodes,
+        places,
+        starts,
+    })
+}
+
+fn written(
+    alloc: Global,
+    store: &Store,
+    root: Root,
+    ids: &[NodeId],
+    numbers: &Numbers,
+    bits: Bits,
+    section: &[u8],
+    meta: &Meta,
+) -> Result<Vec<u8>, Memory>
+    requires root { IsRootOf store.now root }
+    requires of { AreOf store.now ids.now }
+    requires name { length meta.now.name ≤ 64 }
+    requires ids { length ids.now ≤ numbers.now.count }
+    requires keys { length numbers.now.nodes.keys ≤ numbers.now.count }
+    requires low { (k : ℕ) → numbers.now.count + 16 + slice_index numbers.now.starts.items k < limit bits }
+    ensures { IfOk result (λ bytes. bytes.items ≡ file_of bits
+        (nodes_from store.now (number_of numbers.now) (record_of root) ids.now) section.now meta.now.epoch meta.now.name) }
+{
+    let nodes = nodes_of(alloc, store, root, ids, numbers)?;
+    file_bytes(alloc, bits, nodes.as_slice(), section, meta)
+}
+
+fn bits_for(nodes: usize, section_len: usize) -> Option<Bits>
+    ensures bits { result ≡ smallest (nodes + 16 + section_len) }
+    ensures low { IfSome result (λ bits. nodes + 16 + section_len < limit bits) }
+{
+    if nodes >= 1 << 32 || section_len >= 1 << 32 {
+        return None;
+    }
+    record_bits(nodes as u64, section_len as u64)
+}
+
+#[tactic(auto, unfolding(crate::specs::FileImage::file_of, crate::specs::Marker::marker, crate::specs::Metadata::metadata))]
+fn file_bytes(
+    alloc: Global,
+    bits: Bits,
+    nodes: &[(u32, u32)],
+    section: &[u8],
+    meta: &Meta,
+) -> Result<Vec<u8>, Memory>
+    requires few { length nodes.now < 2 ^ 32 }
+    requires fits { (k : ℕ) → k < length nodes.now → NodeFits bits (slice_index_or nodes.now k (0, 0)) }
+    requires name { length meta.now.name ≤ 64 }
+    ensures { IfOk result
+        (λ bytes. bytes.items ≡ file_of bits nodes.now section.now meta.now.epoch meta.now.name) }
+{
+    let mut bytes = tree_of_nodes(alloc, bits, nodes)?;
+    bytes.extend_from_slice(&[0; 16])?;
+    bytes.extend_from_slice(section)?;
+    bytes.extend_from_slice(&MARKER)?;
+    let metadata = metadata_of(alloc, meta, nodes.len() as u32, bits)?;
+    encode(alloc, &metadata, &mut bytes)?;
+    Ok(bytes)
+}
+
+fn tree_of_nodes(alloc: Global, bits: Bits, nodes: &[(u32, u32)]) -> Result<Vec<u8>, Memory>
+    requires few { length nodes.now < 2 ^ 32 }
+    requires fits { (k : ℕ) → k < length nodes.now → NodeFits bits (slice_index_or nodes.now k (0, 0)) }
+    ensures { IfOk result (λ tree. tree.items ≡ tree_bytes bits nodes.now) }
+{
+    let mut tree = vec![in alloc; 0; nodes.len() * bits.width()]?;
+    put_nodes(&mut tree, bits, nodes);
+    Ok(tree)
+}
