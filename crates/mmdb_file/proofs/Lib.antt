@@ -4,3 +4,4 @@ pub mod MetadataLemmas
 pub mod AdoptLemmas
 pub mod PlaceLemmas
 pub mod WritingLemmas
+pub mod ImageLemmas

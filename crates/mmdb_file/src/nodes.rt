@@ -2,7 +2,7 @@
 ghost use Rattle.std.specs.Prelude.{◌≡◌, ◌*◌, ◌<◌, ◌≤◌, ◌^◌, ℕ, length, slice_index_or, slice_index, ◌+◌, [], ◌∷◌, IfOk, map as map_list};
 ghost use Rattle.mmdb_tree.specs.Nodes.{tree_bytes, width};
 ghost use Rattle.mmdb_tree.specs.Laws.{NodeFits};
-ghost use Rattle.trie_core.specs.Store.{record_of, IsRootOf};
+ghost use Rattle.trie_core.specs.Store.{IsOf};
 ghost use Rattle.least_nodes.specs.Order.{AreOf};
 ghost use Rattle.mmdb_file.specs.Writing.{number_of, node_numbers, nodes_from};
 
@@ -10,7 +10,7 @@ use crate::numbers::Numbers;
 use geo_addr::Memory;
 use mmdb_tree::{Bits, put_node};
 use std::alloc::Global;
-use trie_core::{NodeId, Root, Store};
+use trie_core::{NodeId, Rec, Store};
 
 /// Writes the nodes, which fill the slice.
 pub(crate) fn put_nodes(tree: &mut [u8], bits: Bits, nodes: &[(u32, u32)])
@@ -30,37 +30,30 @@ pub(crate) fn put_nodes(tree: &mut [u8], bits: Bits, nodes: &[(u32, u32)])
 pub(crate) fn nodes_of(
     alloc: Global,
     store: &Store,
-    root: Root,
+    root: Rec,
     ids: &[NodeId],
     numbers: &Numbers,
 ) -> Result<Vec<(u32, u32)>, Memory>
-    requires root { IsRootOf store.now root }
+    requires root { IsOf store.now root }
     requires of { AreOf store.now ids.now }
     requires few { length numbers.now.nodes.keys < 2 ^ 32 }
     requires low { (k : ℕ) → numbers.now.count + 16 + slice_index numbers.now.starts.items k < 2 ^ 32 }
     ensures { IfOk result (λ nodes. nodes.items
-        ≡ nodes_from store.now (number_of numbers.now) (record_of root) ids.now) }
+        ≡ nodes_from store.now (number_of numbers.now) root ids.now) }
 {
     if ids.is_empty() {
-        root_node(alloc, store, root, numbers)
+        root_node(alloc, root, numbers)
     } else {
         inner_nodes(alloc, store, ids, numbers)
     }
 }
 
-fn root_node(
-    alloc: Global,
-    store: &Store,
-    root: Root,
-    numbers: &Numbers,
-) -> Result<Vec<(u32, u32)>, Memory>
-    requires root { IsRootOf store.now root }
+fn root_node(alloc: Global, root: Rec, numbers: &Numbers) -> Result<Vec<(u32, u32)>, Memory>
     requires few { length numbers.now.nodes.keys < 2 ^ 32 }
     requires low { (k : ℕ) → numbers.now.count + 16 + slice_index numbers.now.starts.items k < 2 ^ 32 }
-    ensures { IfOk result (λ nodes. nodes.items
-        ≡ (number_of numbers.now (record_of root), number_of numbers.now (record_of root)) ∷ []) }
+    ensures { IfOk result (λ nodes. nodes.items ≡ (number_of numbers.now root, number_of numbers.now root) ∷ []) }
 {
-    let record = numbers.record(store.rec_of(root));
+    let record = numbers.record(root);
     let mut nodes = Vec::new(alloc);
     nodes.push((record, record))?;
     Ok(nodes)

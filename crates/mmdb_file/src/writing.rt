@@ -1,6 +1,8 @@
 //! Writing a file.
 ghost use Rattle.std.specs.Prelude.{◌≡◌, ◌+◌, ◌*◌, ◌^◌, ◌<◌, ◌≤◌, ◌++◌, ℕ, length, max, IfOk, OnOk, IfSome, slice_index_or, slice_index, [], nat_eq, List, option_map, Some, None, Err};
-ghost use Rattle.trie_core.specs.Store.{IsRootOf, record_of, tree_of};
+ghost use Rattle.geo_terms.specs.Numbers.{place_at};
+ghost use Rattle.trie_core.specs.Tree.{AllLeaves};
+ghost use Rattle.trie_core.specs.Store.{IsOf, IsRootOf, tree_of};
 ghost use Rattle.least_nodes.specs.Layout.{each_once};
 ghost use Rattle.least_nodes.specs.Order.{AreOf};
 ghost use Rattle.mmdb_file.specs.Writing.{nodes_from, number_of, same_id, count_for, section_for, end_for};
@@ -8,7 +10,7 @@ ghost use Rattle.least_nodes.specs.Laws.{HasLookups};
 ghost use Rattle.least_nodes.specs.NodeList.{Member};
 ghost use Rattle.mmdb_tree.specs.Laws.{NodeFits};
 ghost use Rattle.mmdb_tree.specs.Nodes.{limit, smallest, record_size, tree_bytes};
-ghost use Rattle.mmdb_file.specs.FileImage.{file_of};
+ghost use Rattle.mmdb_file.specs.FileImage.{file_of, file_with};
 ghost use Rattle.mmdb_file.specs.declared.fault.FileFault.TheVariants as faults;
 
 use crate::data::data_of;
@@ -23,7 +25,7 @@ use least_nodes::order;
 use mmdb_data::encode;
 use mmdb_tree::{Bits, record_bits};
 use std::alloc::Global;
-use trie_core::{NodeId, Root, Store};
+use trie_core::{NodeId, Rec, Root, Store};
 
 /// A file that was written, and its counts.
 #[derive(Debug, Drop)]
@@ -49,7 +51,10 @@ pub fn write_file(
     meta: &Meta,
 ) -> Result<Emitted, FileFault>
     requires root { IsRootOf store.now root }
+    requires numbers { AllLeaves (λ k. k ≤ length places.now) (tree_of store.now root) }
     requires name { length meta.now.name ≤ 64 }
+    ensures bytes { IfOk result (λ file. file_with nat_eq (place_at places.now) (tree_of store.now root)
+        meta.now.epoch meta.now.name ≡ Some file.bytes.items) }
     ensures nodes { IfOk result (λ file. file.nodes ≡ count_for (tree_of store.now root)) }
 
     // No list of at least one node that answers as the tree does is shorter.
@@ -60,6 +65,7 @@ pub fn write_file(
     ensures bits { IfOk result (λ file. option_map record_size (smallest (end_for places.now (tree_of store.now root))) ≡ Some file.bits) }
     ensures too_large { result ≡ Err faults.TooLarge → smallest (end_for places.now (tree_of store.now root)) ≡ None }
 {
+    let tree = store.rec_of(root);
     let layout = order(alloc, store, root)?;
     let (ids, leaves) = (layout.nodes.as_slice(), layout.leaves.as_slice());
     let section = data_of(alloc, places, leaves)?;
@@ -72,11 +78,11 @@ pub fn write_file(
     let bytes = written(
         alloc,
         store,
-        root,
+        tree,
         ids,
         &numbers,
         bits,
-        &section.bytes,
+        section.bytes.as_slice(),
         meta,
     )?;
     Ok(Emitted {
@@ -112,21 +118,21 @@ fn numbers_of(
 fn written(
     alloc: Global,
     store: &Store,
-    root: Root,
+    root: Rec,
     ids: &[NodeId],
     numbers: &Numbers,
     bits: Bits,
     section: &[u8],
     meta: &Meta,
 ) -> Result<Vec<u8>, Memory>
-    requires root { IsRootOf store.now root }
+    requires root { IsOf store.now root }
     requires of { AreOf store.now ids.now }
     requires name { length meta.now.name ≤ 64 }
     requires ids { length ids.now ≤ numbers.now.count }
     requires keys { length numbers.now.nodes.keys ≤ numbers.now.count }
     requires low { (k : ℕ) → numbers.now.count + 16 + slice_index numbers.now.starts.items k < limit bits }
     ensures { IfOk result (λ bytes. bytes.items ≡ file_of bits
-        (nodes_from store.now (number_of numbers.now) (record_of root) ids.now) section.now meta.now.epoch meta.now.name) }
+        (nodes_from store.now (number_of numbers.now) root ids.now) section.now meta.now.epoch meta.now.name) }
 {
     let nodes = nodes_of(alloc, store, root, ids, numbers)?;
     file_bytes(alloc, bits, nodes.as_slice(), section, meta)

@@ -2,11 +2,14 @@ use Rattle.std.proofs.Common.{◌≡◌, ◌∙◌, ◌+◌, ap, sym, length, ar
 use Rattle.std.specs.Prelude.{slice_index, nat_eq, option_map, Some}
 use Rattle.trie_core.specs.declared.node.NodeId.{NodeId}
 use Rattle.trie_core.specs.declared.node.Rec.TheVariants.{Node}
-use Rattle.trie_core.specs.Store.{tree_of, meaning}
-use Rattle.least_nodes.specs.Layout.{inner}
+use Rattle.trie_core.specs.declared.node.Rec.{Rec}
+use Rattle.trie_core.specs.Tree.{Tree}
+use Rattle.trie_core.specs.Store.{tree_of, meaning, record_of}
+use Rattle.mmdb_file.proofs.ImageLemmas.{image_is, written_is, ids_set, places_set}
+use Rattle.least_nodes.specs.Layout.{inner, each_once, place_order}
 use Rattle.least_nodes.specs.Order.{trees_of}
 use Rattle.mmdb_tree.specs.Nodes.{smallest, record_size}
-use Rattle.mmdb_file.specs.Section.{spellings}
+use Rattle.mmdb_file.specs.Section.{spellings, starts_from}
 use Rattle.std.proofs.Common.{map as map_list}
 use Rattle.geo_terms.specs.Numbers.{place_at}
 use Rattle.mmdb_file.specs.FileImage.{answer_value}
@@ -51,3 +54,23 @@ pub returns-clause-bits : goal.returns-clause-bits
 returns-clause-bits c =
     let end : c.max-count.result + 16 + c.len-len.result ≡ end_for c.args.places.now (tree_of c.args.store.now c.args.root) = omega (arith, section_is c, count_is c) in
     ap (λ (n : ℕ). option_map record_size (smallest n)) (sym end) ∙ ap (option_map record_size) (sym c.in-Some.ensures.bits) ∙ ap Some (sym c.size.ensures)
+
+pub returns-clause-bytes : goal.returns-clause-bytes
+returns-clause-bytes c =
+    let root : Rec = record_of c.args.root in
+    let t : Tree ℕ = tree_of c.args.store.now c.args.root in
+    let leaves : c.as_slice-leaves.result.now ≡ place_order t = c.as_slice-leaves.ensures ∙ c.in_ok-layout.ensures.leaves in
+    let end : c.max-count.result + 16 + length (section_for c.args.places.now t) ≡ c.max-count.result + 16 + c.len-len.result = omega (arith, section_is c) in
+    let fits : smallest (c.max-count.result + 16 + length (section_for c.args.places.now t)) ≡ Some c.in-Some.bits = ap smallest end ∙ sym c.in-Some.ensures.bits in
+    image_is c.args.store.now c.rec_of-tree.ensures.sound c.args.places.now root c.requires.root c.requires.numbers c.in_ok-layout.layout.nodes c.in_ok-layout.ensures.of c.in_ok-layout.ensures.nodes
+    c.in-Some.bits c.args.meta.now.epoch c.args.meta.now.name c.max-count.result (count_is c) fits
+    ∙ written_is c.in-Some.bits c.args.store.now c.args.meta.now.epoch c.args.meta.now.name c.in_ok-bytes.bytes.items c.in_ok-numbers.numbers.count c.max-count.result
+    c.in_ok-numbers.numbers.nodes.keys c.as_slice-ids.result.now c.in_ok-layout.layout.nodes c.in_ok-numbers.numbers.places.keys (place_order t) c.in_ok-numbers.numbers.starts.items _ c.as_slice.result.now _ c.rec_of-tree.result root
+    c.in_ok-numbers.ensures.count
+    (c.in_ok-numbers.ensures.nodes ∙ ap (each_once same_id []) c.as_slice-ids.ensures ∙ ids_set c.args.store.now c.rec_of-tree.ensures.sound c.args.places.now root c.requires.root c.requires.numbers c.in_ok-layout.layout.nodes c.in_ok-layout.ensures.of c.in_ok-layout.ensures.nodes)
+    c.as_slice-ids.ensures
+    (c.in_ok-numbers.ensures.places ∙ ap (each_once nat_eq []) leaves ∙ places_set c.args.store.now c.rec_of-tree.ensures.sound c.args.places.now root c.requires.root c.requires.numbers c.in_ok-layout.layout.nodes c.in_ok-layout.ensures.of c.in_ok-layout.ensures.nodes)
+    (c.in_ok-numbers.ensures.starts ∙ c.in_ok-section.ensures.starts ∙ ap (λ (ks : List ℕ). starts_from 0 (map_list (λ k. answer_value (place_at c.args.places.now k)) ks)) leaves)
+    (c.as_slice.ensures.value ∙ c.in_ok-section.ensures.bytes ∙ ap (λ (ks : List ℕ). spellings (map_list (λ k. answer_value (place_at c.args.places.now k)) ks)) leaves)
+    c.rec_of-tree.ensures.same
+    c.in_ok-bytes.ensures

@@ -1,6 +1,5 @@
 use Rattle.std.proofs.Common.{◌∙◌, ◌<◌, ap, sym, subst, length, arith, List, ℕ, get_or}
 use Rattle.mmdb_tree.specs.Laws.{NodeFits}
-use Rattle.trie_core.specs.Store.{record_of}
 use Rattle.mmdb_tree.specs.Nodes.{limit}
 use Rattle.mmdb_file.specs.Writing.{number_of}
 use Rattle.mmdb_file.proofs.WritingLemmas.{limit-le, length-nodes_from, nodes_fit, record_number-lt}
@@ -17,7 +16,7 @@ file_bytes-requires-clause-few c =
     omega (
       arith,
       ap length (c.as_slice.ensures.value ∙ c.in_ok-nodes.ensures),
-      length-nodes_from c.args.store.now (number_of c.args.numbers.now) (record_of c.args.root) c.args.ids.now,
+      length-nodes_from c.args.store.now (number_of c.args.numbers.now) c.args.root c.args.ids.now,
       c.requires.ids,
       c.requires.low 0,
       limit-le c.args.bits,
@@ -26,6 +25,6 @@ file_bytes-requires-clause-few c =
 pub file_bytes-requires-clause-fits : goal.file_bytes-requires-clause-fits
 file_bytes-requires-clause-fits c =
     subst (λ (nodes : List (ℕ × ℕ)). (k : ℕ) → k < length nodes → NodeFits c.args.bits (get_or nodes k (0, 0))) (sym (c.as_slice.ensures.value ∙ c.in_ok-nodes.ensures))
-    (nodes_fit c.args.bits c.args.store.now (number_of c.args.numbers.now) (record_of c.args.root) c.args.ids.now
+    (nodes_fit c.args.bits c.args.store.now (number_of c.args.numbers.now) c.args.root c.args.ids.now
     (λ rec. record_number-lt c.args.numbers.now.count (limit c.args.bits) c.args.numbers.now.nodes.keys c.args.numbers.now.places.keys c.args.numbers.now.starts.items rec
     (omega (arith, c.requires.keys, c.requires.low 0)) (omega (arith, c.requires.low 0)) c.requires.low))
