@@ -94,7 +94,7 @@ Apart-from_map : {X Y : Type 0} (f : X → Y) (xs : List X) → Apart (map f xs)
 Apart-from_map f [] apart = tt
 Apart-from_map f (x ∷ xs) apart = (λ is. apart.0 (In-map f x xs is), Apart-from_map f xs apart.1)
 
-leaf_fits : (P : ℕ → Type 0) (t : Tree ℕ) → AllLeaves P t → (k : ℕ) → In k (leaves t) → P k
+pub leaf_fits : (P : ℕ → Type 0) (t : Tree ℕ) → AllLeaves P t → (k : ℕ) → In k (leaves t) → P k
 leaf_fits P (leaf a) all k (inl same) = subst P (sym same) all
 leaf_fits P (leaf a) all k (inr none) = absurd none
 leaf_fits P (node l r) all k is =
@@ -104,7 +104,7 @@ blank : PlaceParts
 blank = record { country = []; region = []; city = []; postal = [] }
 
 -- a number of the table is a place unless it is 0
-place_or_none : (places : List PlaceParts) (k : ℕ) → k ≤ length places → is_some (place_at places k) ≡ is_place k
+pub place_or_none : (places : List PlaceParts) (k : ℕ) → k ≤ length places → is_some (place_at places k) ≡ is_place k
 place_or_none places zero le = refl
 place_or_none places (suc i) le =
     let p : PlaceParts = get_or places i blank in
@@ -134,7 +134,7 @@ All-In P (y ∷ ys) all x (inl same) = subst P (sym same) (All-head P y ys all)
 All-In P (y ∷ ys) all x (inr rest) = All-In P ys (All-tail P y ys all) x rest
 
 -- how many nodes are written for a tree
-laid_len : (t : Tree ℕ) → length (laid nat_eq t) ≡ max (length (inner nat_eq t)) 1
+pub laid_len : (t : Tree ℕ) → length (laid nat_eq t) ≡ max (length (inner nat_eq t)) 1
 laid_len (leaf a) = refl
 laid_len (node l r) =
     let some : In (node l r) (inner nat_eq (node l r)) = In-each_once-new (tree_eq nat_eq) tree_equality (node l r) [] (preorder (node l r)) (inl refl) in
@@ -225,7 +225,7 @@ module _ (pairs : List Pair) (sound : IsSound pairs) (places : List PlaceParts) 
       ∙ sym (ap (λ (t : Tree ℕ). node_for nat_eq (place_at places) n (place_order (meaning pairs root)) starts (pair_of nat_eq (inner nat_eq (meaning pairs root)) t)) own)
 
   -- the numbers of all nodes
-  nodes_are : (n : ℕ) (starts : List ℕ) (u : Tree ℕ) → meaning pairs root ≡ u
+  pub nodes_are : (n : ℕ) (starts : List ℕ) (u : Tree ℕ) → meaning pairs root ≡ u
       → nodes_from pairs (record_number n ids (place_order (meaning pairs root)) starts) root ids ≡ map (node_for nat_eq (place_at places) n (place_order (meaning pairs root)) starts) (laid nat_eq u)
   nodes_are n starts (leaf a) is =
       let number : Rec → ℕ = record_number n ids (place_order (meaning pairs root)) starts in

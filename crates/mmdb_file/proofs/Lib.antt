@@ -5,3 +5,4 @@ pub mod AdoptLemmas
 pub mod PlaceLemmas
 pub mod WritingLemmas
 pub mod ImageLemmas
+pub mod WalkLemmas

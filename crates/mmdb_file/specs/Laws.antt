@@ -1,8 +1,18 @@
 -- The laws of a written file.
-use Rattle.std.specs.Prelude.{◌≡◌, ◌≤◌, ℕ, List, ◌++◌, length, Some}
+use Rattle.std.specs.Prelude.{◌≡◌, ◌≤◌, ◌<◌, ◌^◌, ℕ, Bool, List, ◌∷◌, ◌++◌, length, map, slice_index_or, nat_eq, Some, Ok, option_map, All}
 use Rattle.std.specs.Str.{IsUtf8}
 use Rattle.mmdb_tree.specs.declared.bits.Bits.{Bits}
+use Rattle.geo_terms.specs.PlaceForm.{PlaceParts}
+use Rattle.geo_terms.specs.Numbers.{place_at}
+use Rattle.trie_core.specs.Tree.{Tree, look, AllLeaves}
+use Rattle.least_nodes.specs.Layout.{laid, place_order}
+use Rattle.mmdb_tree.specs.Laws.{NodeFits}
 use Rattle.mmdb_tree.specs.Nodes.{record_size}
+use Rattle.mmdb_file.specs.PlaceValue.{place_value}
+use Rattle.mmdb_file.specs.Section.{spellings, starts_from}
+use Rattle.mmdb_file.specs.FileImage.{answer_value, node_for, file_of}
+use Rattle.mmdb_file.specs.Walk.{walk}
+use Rattle.mmdb_file.specs.Writing.{CanBeRead}
 use Rattle.mmdb_file.specs.Marker.{marker, last_marker}
 use Rattle.mmdb_file.specs.Metadata.{metadata}
 
@@ -11,3 +21,14 @@ abbrev pub LastMarkerIsTheWriters : Type 0
 LastMarkerIsTheWriters =
     (front : List ℕ) (epoch : ℕ) (name : List ℕ) (nodes : ℕ) (bits : Bits) → IsUtf8 name → length name ≤ 64
     → last_marker (front ++ (marker ++ metadata epoch name nodes (record_size bits))) ≡ Some (length front)
+
+-- the walk of a file of these nodes and the values of these places answers as the tree whose layout they are: every record fits, each value can be read, and the numbers of the nodes are those of the layout
+abbrev pub WrittenFileIsWalked : Type 0
+WrittenFileIsWalked =
+    (places : List PlaceParts) (t : Tree ℕ) → AllLeaves (λ k. k ≤ length places) t → (bits : Bits) (epoch : ℕ) (name : List ℕ) → epoch < 2 ^ 64 → IsUtf8 name → length name ≤ 64
+    → All (λ k. CanBeRead (answer_value (place_at places k))) (place_order t)
+    → (nodes : List (ℕ × ℕ)) → ((k : ℕ) → k < length nodes → NodeFits bits (slice_index_or nodes k (0, 0))) → length nodes < 2 ^ 32
+    → nodes ≡ map (node_for nat_eq (place_at places) (length nodes) (place_order t) (starts_from 0 (map (λ k. answer_value (place_at places k)) (place_order t)))) (laid nat_eq t)
+    → length nodes ≡ length (laid nat_eq t) → 0 < length nodes
+    → (b : Bool) (w : List Bool) (k : ℕ) → look t (b ∷ w) ≡ Some k
+    → walk (file_of bits nodes (spellings (map (λ k'. answer_value (place_at places k')) (place_order t))) epoch name) (b ∷ w) ≡ Ok (option_map place_value (place_at places k))

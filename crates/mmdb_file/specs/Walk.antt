@@ -121,14 +121,14 @@ pub data Barrier : Type 0 where
   not_walked : WalkFault → Barrier
   not_read : Fault → Barrier
 
+abbrev pub value_read : Result Tree Fault → Result (Option Tree) Barrier
+value_read (Ok value) = Ok (Some value)
+value_read (Err fault) = Err (not_read fault)
+
 abbrev pub value_at : Opened → Result (Option ℕ) WalkFault → Result (Option Tree) Barrier
 value_at file (Err fault) = Err (not_walked fault)
 value_at file (Ok None) = Ok None
-value_at file (Ok (Some place)) = found (reads file.section place)
-  where
-    found : Result Tree Fault → Result (Option Tree) Barrier
-    found (Ok value) = Ok (Some value)
-    found (Err fault) = Err (not_read fault)
+value_at file (Ok (Some place)) = value_read (reads file.section place)
 
 abbrev pub walk_opened : Result Opened OpenFault → List Bool → Result (Option Tree) Barrier
 walk_opened (Err fault) path = Err (not_opened fault)

@@ -1,8 +1,19 @@
 ghost use Rattle.std.specs.Prelude.{ℕ};
-ghost use Rattle.mmdb_file.specs.Laws.{LastMarkerIsTheWriters};
+ghost use Rattle.mmdb_file.specs.Laws.{LastMarkerIsTheWriters, WrittenFileIsWalked};
+
+use mmdb_tree::tree_reads_back;
 
 /// The law that the last marker of a written file is the one that the writer wrote: no metadata
 /// holds the marker, whatever the epoch, the node count and the name. Calling it does nothing.
 pub fn last_marker_is_the_writers()
     ensures { LastMarkerIsTheWriters }
 {}
+
+/// The law that the walk of a file image gives what the tree answers: whoever follows the public
+/// standard through the bytes comes, along every list of at least one bit on which the tree ends, to
+/// the value of the tree's place, or to none where the tree has none. Calling it does nothing.
+pub fn written_file_is_walked()
+    ensures { WrittenFileIsWalked }
+{
+    tree_reads_back();
+}
