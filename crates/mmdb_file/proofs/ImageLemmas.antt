@@ -271,3 +271,15 @@ written_is bits pairs epoch name items n n' keys ids ids' places places' starts 
     ∙ ap (λ x. Some (file_of bits (nodes_from pairs (record_number n' ids' places' x) root ids') section epoch name)) e
     ∙ ap (λ x. Some (file_of bits (nodes_from pairs (record_number n' ids' places' starts') root ids') x epoch name)) f
     ∙ ap (λ x. Some (file_of bits (nodes_from pairs (record_number n' ids' places' starts') x ids') section' epoch name)) g)
+
+-- equal parts make equal nodes
+pub nodes_equal : (pairs : List Pair) (n n' : ℕ) (keys ids ids' : List NodeId) (places places' starts starts' : List ℕ) (root root' : Rec)
+    → n ≡ n' → keys ≡ ids' → ids ≡ ids' → places ≡ places' → starts ≡ starts' → root ≡ root'
+    → nodes_from pairs (record_number n keys places starts) root ids ≡ nodes_from pairs (record_number n' ids' places' starts') root' ids'
+nodes_equal pairs n n' keys ids ids' places places' starts starts' root root' a b c d e g =
+    ap (λ x. nodes_from pairs (record_number x keys places starts) root ids) a
+    ∙ ap (λ x. nodes_from pairs (record_number n' x places starts) root ids) b
+    ∙ ap (λ x. nodes_from pairs (record_number n' ids' places starts) root x) c
+    ∙ ap (λ x. nodes_from pairs (record_number n' ids' x starts) root ids') d
+    ∙ ap (λ x. nodes_from pairs (record_number n' ids' places' x) root ids') e
+    ∙ ap (λ x. nodes_from pairs (record_number n' ids' places' starts') x ids') g

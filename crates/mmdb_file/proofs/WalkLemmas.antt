@@ -30,13 +30,14 @@ use Rattle.geo_terms.specs.PlaceForm.{PlaceParts}
 use Rattle.geo_terms.specs.Numbers.{place_at as place_at_number}
 use Rattle.trie_core.specs.Tree.{Tree as LeafTree, leaf, node, look, AllLeaves}
 use Rattle.trie_core.proofs.TreeLemmas.{nat_equality}
-use Rattle.least_nodes.specs.Layout.{leaves, leaf_order, laid, place_order, is_place}
+use Rattle.least_nodes.specs.Layout.{leaves, leaf_order, inner, laid, place_order, is_place}
 use Rattle.least_nodes.proofs.Elements.{In, In-left, In-right, In-filter, In-each_once-new}
 use Rattle.least_nodes.proofs.LaidLemmas.{position-within, get_or-position, LaidOut-holds}
 use Rattle.mmdb_file.specs.PlaceValue.{place_value}
 use Rattle.mmdb_file.specs.FileImage.{answer_value, record_for, node_for, file_of}
-use Rattle.mmdb_file.proofs.ImageLemmas.{place_or_none, leaf_fits}
+use Rattle.mmdb_file.proofs.ImageLemmas.{place_or_none, leaf_fits, laid_len}
 use Rattle.mmdb_file.specs.Writing.{CanBeRead}
+use Rattle.mmdb_file.specs.Laws.{WrittenFileIsWalked}
 use Rattle.mmdb_file.proofs.AdoptLemmas.{told_is, opened_is, seek_done}
 use Rattle.mmdb_file.proofs.MetadataLemmas.{last_is_the_writers}
 use Rattle.mmdb_file.proofs.WritingLemmas.{length-tree_bytes, told_spelled, length-mapped}
@@ -93,16 +94,34 @@ small B32 = omega arith
 
 told_typed : (epoch : ℕ) (name : List ℕ) (nodes : ℕ) (bits : Bits) → epoch < 2 ^ 64 → IsUtf8 name → nodes < 2 ^ 32 → IsTyped (map_value (told_members epoch name nodes (record_size bits)))
 unfolding told_members english
-told_typed epoch name nodes bits low utf8 few =
-    (text_of _ k1, omega arith, (text_of _ k2, omega arith, (text_of _ k3, low, (text_of _ k4, utf8, (text_of _ k5, (text_of _ ken, utf8, tt),
-      (text_of _ k6, omega arith, (text_of _ k7, (text_of _ ken, tt), (text_of _ k8, few, (text_of _ k9, small bits, tt)))))))))
+told_typed epoch name nodes bits low utf8 few = (
+  text_of _ k1,
+  omega arith,
+  (
+    text_of _ k2,
+    omega arith,
+    (
+      text_of _ k3,
+      low,
+      (
+        text_of _ k4,
+        utf8,
+        (
+          text_of _ k5,
+          (text_of _ ken, utf8, tt),
+          (text_of _ k6, omega arith, (text_of _ k7, (text_of _ ken, tt), (text_of _ k8, few, (text_of _ k9, small bits, tt)))),
+        ),
+      ),
+    ),
+  ),
+)
 
 told_few : (epoch : ℕ) (name : List ℕ) (nodes size : ℕ) → count (map_value (told_members epoch name nodes size)) ≤ 100000
 unfolding told_members english
 told_few epoch name nodes size = omega arith
 
 metadata_read : (epoch : ℕ) (name : List ℕ) (nodes : ℕ) (bits : Bits) → epoch < 2 ^ 64 → IsUtf8 name → length name ≤ 64 → nodes < 2 ^ 32
-  → reads (metadata epoch name nodes (record_size bits)) 0 ≡ Ok (map_value (told_members epoch name nodes (record_size bits)))
+    → reads (metadata epoch name nodes (record_size bits)) 0 ≡ Ok (map_value (told_members epoch name nodes (record_size bits)))
 unfolding metadata
 metadata_read epoch name nodes bits low utf8 short few =
     ap (λ s. reads s 0) (sym (append-nil (spelling (map_value (told_members epoch name nodes (record_size bits))))))
@@ -160,7 +179,7 @@ cut_again bits nodes section =
     rw (le-ltb (length (tree ++ rest)) (length nodes * width bits + 16) fits, front, back) refl
 
 pub opened_again : (bits : Bits) (nodes : List (ℕ × ℕ)) (section : List ℕ) (epoch : ℕ) (name : List ℕ) → 0 < length nodes → length nodes < 2 ^ 32 → epoch < 2 ^ 64 → IsUtf8 name → length name ≤ 64
-  → opened (file_of bits nodes section epoch name) ≡ Ok (record { bits = bits; nodes = length nodes; tree = tree_bytes bits nodes; section = section })
+    → opened (file_of bits nodes section epoch name) ≡ Ok (record { bits = bits; nodes = length nodes; tree = tree_bytes bits nodes; section = section })
 unfolding file_of
 opened_again bits nodes section epoch name some few low utf8 short =
     let front : List ℕ = tree_bytes bits nodes ++ (replicate 16 0 ++ section) in
@@ -201,8 +220,8 @@ sides false i = refl
 sides true i = refl
 
 module _ {A : Type 0} (n : ℕ) (number : Member A → ℕ) (read : ℕ → Bool → ℕ) (nodes : List (Member A × Member A))
-  (at_is : (i : ℕ) → number (at i) ≡ i) (says_past : (a : A) → n ≤ number (says a)) (reads_as : (i : ℕ) → i < n → (b : Bool) → read i b ≡ number (side b (records_at nodes i)))
-  (past_is : (i : ℕ) → n ≤ i → records_at nodes i ≡ (at i, at i)) where
+    (at_is : (i : ℕ) → number (at i) ≡ i) (says_past : (a : A) → n ≤ number (says a)) (reads_as : (i : ℕ) → i < n → (b : Bool) → read i b ≡ number (side b (records_at nodes i)))
+    (past_is : (i : ℕ) → n ≤ i → records_at nodes i ≡ (at i, at i)) where
   via : (a : A) (m : Member A) (w : List Bool) → ((j : ℕ) → go nodes (at j) w ≡ Some a → seek read n j w ≡ Some (number (says a))) → go nodes m w ≡ Some a → seek read n (number m) w ≡ Some (number (says a))
   via a (says x) w next found =
       let same : x ≡ a = cc in
@@ -218,9 +237,9 @@ module _ {A : Type 0} (n : ℕ) (number : Member A → ℕ) (read : ℕ → Bool
             ∙ ap (λ r. seek read n r w) (reads_as i inside b)
             ∙ via a (side b (records_at nodes i)) w (seek_goes a w) found
         | inr past ↦
-          let itself : side b (records_at nodes i) ≡ at i = ap (side b) (past_is i past) ∙ sides b i in
-          let later : seek read n i w ≡ Some (number (says a)) = seek_goes a w i (ap (λ m. go nodes m w) (sym itself) ∙ found) in
-          seek_done read n i (b ∷ w) past ∙ sym (seek_done read n i w past) ∙ later
+            let itself : side b (records_at nodes i) ≡ at i = ap (side b) (past_is i past) ∙ sides b i in
+            let later : seek read n i w ≡ Some (number (says a)) = seek_goes a w i (ap (λ m. go nodes m w) (sym itself) ∙ found) in
+            seek_done read n i (b ∷ w) past ∙ sym (seek_done read n i w past) ∙ later
       ]
 
 -- ---- the walk of the whole file
@@ -258,10 +277,10 @@ some_placed file start inside =
     elim (eqb_tells r file.nodes) [
       | inl same ↦ absurd (let e = same.1 in omega arith)
       | inr other ↦
-        let high : nat_lt r (file.nodes + 16) ≡ false = le-ltb r (file.nodes + 16) (omega arith) in
-        let back : r - (file.nodes + 16) ≡ start = omega arith in
-        let low : nat_le (length file.section) start ≡ false = lt-leb (length file.section) start inside in
-        rw (other.0, high, back, low) refl
+          let high : nat_lt r (file.nodes + 16) ≡ false = le-ltb r (file.nodes + 16) (omega arith) in
+          let back : r - (file.nodes + 16) ≡ start = omega arith in
+          let low : nat_le (length file.section) start ≡ false = lt-leb (length file.section) start inside in
+          rw (other.0, high, back, low) refl
     ]
 
 of_side : (b : Bool) (pair : ℕ × ℕ) (f : Member ℕ → ℕ) (members : Member ℕ × Member ℕ) → pair ≡ (f members.0, f members.1) → record_of b pair ≡ f (side b members)
@@ -269,8 +288,8 @@ of_side false pair f members is = ap (λ (p : ℕ × ℕ). p.0) is
 of_side true pair f members is = ap (λ (p : ℕ × ℕ). p.1) is
 
 module _ (law : TreeReadsBack) (places : List PlaceParts) (t : LeafTree ℕ) (all : AllLeaves (λ k. k ≤ length places) t) (bits : Bits) (epoch : ℕ) (name : List ℕ) (low : epoch < 2 ^ 64) (utf8 : IsUtf8 name) (short : length name ≤ 64)
-  (readable : All (λ k. CanBeRead (answer_value (place_at_number places k))) (place_order t)) (nodes : List (ℕ × ℕ)) (fits : (k : ℕ) → k < length nodes → NodeFits bits (get_or nodes k (0, 0))) (few : length nodes < 2 ^ 32)
-  (are : nodes ≡ map (node_for nat_eq (place_at_number places) (length nodes) (place_order t) (starts_from 0 (map (λ k. answer_value (place_at_number places k)) (place_order t)))) (laid nat_eq t)) (long : length nodes ≡ length (laid nat_eq t)) (some : 0 < length nodes) where
+    (readable : All (λ k. CanBeRead (answer_value (place_at_number places k))) (place_order t)) (nodes : List (ℕ × ℕ)) (fits : (k : ℕ) → k < length nodes → NodeFits bits (get_or nodes k (0, 0))) (few : length nodes < 2 ^ 32)
+    (are : nodes ≡ map (node_for nat_eq (place_at_number places) (length nodes) (place_order t) (starts_from 0 (map (λ k. answer_value (place_at_number places k)) (place_order t)))) (laid nat_eq t)) (long : length nodes ≡ length (laid nat_eq t)) (some : 0 < length nodes) where
   value_of : ℕ → Tree
   value_of k = answer_value (place_at_number places k)
 
@@ -325,9 +344,24 @@ module _ (law : TreeReadsBack) (places : List PlaceParts) (t : LeafTree ℕ) (al
       ∙ ap value_read read
 
   pub walked : (b : Bool) (w : List Bool) (k : ℕ) → look t (b ∷ w) ≡ Some k
-    → walk (file_of bits nodes (spellings (map (λ k'. answer_value (place_at_number places k')) (place_order t))) epoch name) (b ∷ w) ≡ Ok (option_map place_value (place_at_number places k))
+      → walk (file_of bits nodes (spellings (map (λ k'. answer_value (place_at_number places k')) (place_order t))) epoch name) (b ∷ w) ≡ Ok (option_map place_value (place_at_number places k))
   unfolding walk place_at file
   walked b w k is =
       ap (λ o. walk_opened o (b ∷ w)) (opened_again bits nodes (spellings (map (λ k'. answer_value (place_at_number places k')) (place_order t))) epoch name some few low utf8 short)
       ∙ ap (λ s. value_at file (place_of_record file s)) (sought b w k is)
       ∙ told_at k (look_in t (b ∷ w) k is) (place_at_number places k) refl
+
+-- the law along the bits of an address
+pub walked_address : WrittenFileIsWalked → (places : List PlaceParts) (t : LeafTree ℕ) → AllLeaves (λ k. k ≤ length places) t → (bits : Bits) (epoch : ℕ) (name : List ℕ) → epoch < 2 ^ 64 → IsUtf8 name → length name ≤ 64
+    → All (λ k. CanBeRead (answer_value (place_at_number places k))) (place_order t)
+    → (nodes : List (ℕ × ℕ)) → ((k : ℕ) → k < length nodes → NodeFits bits (get_or nodes k (0, 0))) → length nodes < 2 ^ 32
+    → (n : ℕ) → nodes ≡ map (node_for nat_eq (place_at_number places) n (place_order t) (starts_from 0 (map (λ k. answer_value (place_at_number places k)) (place_order t)))) (laid nat_eq t)
+    → n ≡ max (length (inner nat_eq t)) 1
+    → (w : List Bool) → 0 < length w → (k : ℕ) → look t w ≡ Some k
+    → walk (file_of bits nodes (spellings (map (λ k'. answer_value (place_at_number places k')) (place_order t))) epoch name) w ≡ Ok (option_map place_value (place_at_number places k))
+walked_address law places t all bits epoch name low utf8 short readable nodes fits few n are counted [] some k is = absurd (omega arith)
+walked_address law places t all bits epoch name low utf8 short readable nodes fits few n are counted (b ∷ w) some k is =
+    let f : ℕ → Member ℕ × Member ℕ → ℕ × ℕ = λ x. node_for nat_eq (place_at_number places) x (place_order t) (starts_from 0 (map (λ k'. answer_value (place_at_number places k')) (place_order t))) in
+    let long : length nodes ≡ length (laid nat_eq t) = ap length are ∙ length-mapped (f n) (laid nat_eq t) in
+    let same : n ≡ length nodes = counted ∙ sym (laid_len t) ∙ sym long in
+    law places t all bits epoch name low utf8 short readable nodes fits few (are ∙ ap (λ x. map (f x) (laid nat_eq t)) same) long (omega (arith, same, counted)) b w k is

@@ -1,5 +1,6 @@
 //! The metadata of a file that is written.
-ghost use Rattle.std.specs.Prelude.{◌≡◌, ◌++◌, IfOk, OnOk, map as map_list};
+ghost use Rattle.std.specs.Prelude.{◌≡◌, ◌++◌, ◌<◌, ◌^◌, IfOk, OnOk, map as map_list};
+ghost use Rattle.std.specs.Str.{IsUtf8};
 ghost use Rattle.mmdb_data.specs.Tree.{map as map_tree, u16 as u16_tree, u32 as u32_tree, u64 as u64_tree};
 ghost use Rattle.mmdb_data.specs.View.{tree as value_tree, pair_view};
 ghost use Rattle.mmdb_tree.specs.Nodes.{record_size};
@@ -28,8 +29,9 @@ pub(crate) fn metadata_of(
     nodes: u32,
     bits: Bits,
 ) -> Result<Value, Memory>
-    ensures { IfOk result (λ value. value_tree value
+    ensures value { IfOk result (λ value. value_tree value
         ≡ map_tree (told_members meta.now.epoch meta.now.name nodes (record_size bits))) }
+    ensures typed { IfOk result (λ _. (meta.now.epoch < 2 ^ 64) × IsUtf8 meta.now.name) }
 {
     let mut members = Vec::new(alloc);
     add_kind(alloc, &mut members, meta.epoch, meta.name.as_str())?;

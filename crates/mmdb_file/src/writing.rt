@@ -1,8 +1,12 @@
 //! Writing a file.
-ghost use Rattle.std.specs.Prelude.{◌≡◌, ◌+◌, ◌*◌, ◌^◌, ◌<◌, ◌≤◌, ◌++◌, ℕ, length, max, IfOk, OnOk, IfSome, slice_index_or, slice_index, [], nat_eq, List, option_map, Some, None, Err};
+ghost use Rattle.std.specs.Prelude.{◌≡◌, ◌+◌, ◌*◌, ◌^◌, ◌<◌, ◌≤◌, ◌++◌, ℕ, length, max, IfOk, OnOk, IfSome, slice_index_or, slice_index, [], nat_eq, List, option_map, Some, None, Ok, Err};
+ghost use Rattle.std.specs.Str.{IsUtf8};
+ghost use Rattle.geo_addr.specs.Bits.{bits_of};
+ghost use Rattle.mmdb_file.specs.PlaceValue.{place_value};
+ghost use Rattle.mmdb_file.specs.Walk.{walk};
 ghost use Rattle.geo_terms.specs.Numbers.{place_at};
 ghost use Rattle.trie_core.specs.Tree.{AllLeaves};
-ghost use Rattle.trie_core.specs.Store.{IsOf, IsRootOf, tree_of};
+ghost use Rattle.trie_core.specs.Store.{IsOf, IsRootOf, leaf_at, tree_of};
 ghost use Rattle.least_nodes.specs.Layout.{each_once};
 ghost use Rattle.least_nodes.specs.Order.{AreOf};
 ghost use Rattle.mmdb_file.specs.Writing.{nodes_from, number_of, same_id, count_for, section_for, end_for};
@@ -15,6 +19,7 @@ ghost use Rattle.mmdb_file.specs.declared.fault.FileFault.TheVariants as faults;
 
 use crate::data::data_of;
 use crate::fault::FileFault;
+use crate::laws::written_file_is_walked;
 use crate::marker::MARKER;
 use crate::metadata::{Meta, metadata_of};
 use crate::nodes::{nodes_of, put_nodes};
@@ -55,6 +60,10 @@ pub fn write_file(
     requires name { length meta.now.name ≤ 64 }
     ensures bytes { IfOk result (λ file. file_with nat_eq (place_at places.now) (tree_of store.now root)
         meta.now.epoch meta.now.name ≡ Some file.bytes.items) }
+
+    // Whoever follows the public standard through the bytes comes to the value of the address's place.
+    ensures walked { IfOk result (λ file. (address k : ℕ) → leaf_at store.now root address ≡ Some k
+        → walk file.bytes.items (bits_of 128 address) ≡ Ok (option_map place_value (place_at places.now k))) }
     ensures nodes { IfOk result (λ file. file.nodes ≡ count_for (tree_of store.now root)) }
 
     // No list of at least one node that answers as the tree does is shorter.
@@ -65,6 +74,7 @@ pub fn write_file(
     ensures bits { IfOk result (λ file. option_map record_size (smallest (end_for places.now (tree_of store.now root))) ≡ Some file.bits) }
     ensures too_large { result ≡ Err faults.TooLarge → smallest (end_for places.now (tree_of store.now root)) ≡ None }
 {
+    written_file_is_walked();
     let tree = store.rec_of(root);
     let layout = order(alloc, store, root)?;
     let (ids, leaves) = (layout.nodes.as_slice(), layout.leaves.as_slice());
@@ -131,8 +141,11 @@ fn written(
     requires ids { length ids.now ≤ numbers.now.count }
     requires keys { length numbers.now.nodes.keys ≤ numbers.now.count }
     requires low { (k : ℕ) → numbers.now.count + 16 + slice_index numbers.now.starts.items k < limit bits }
-    ensures { IfOk result (λ bytes. bytes.items ≡ file_of bits
+    ensures bytes { IfOk result (λ bytes. bytes.items ≡ file_of bits
         (nodes_from store.now (number_of numbers.now) root ids.now) section.now meta.now.epoch meta.now.name) }
+    ensures typed { IfOk result (λ _. (meta.now.epoch < 2 ^ 64) × IsUtf8 meta.now.name) }
+    ensures fits { (k : ℕ) → k < length (nodes_from store.now (number_of numbers.now) root ids.now)
+        → NodeFits bits (slice_index_or (nodes_from store.now (number_of numbers.now) root ids.now) k (0, 0)) }
 {
     let nodes = nodes_of(alloc, store, root, ids, numbers)?;
     file_bytes(alloc, bits, nodes.as_slice(), section, meta)
@@ -159,8 +172,9 @@ fn file_bytes(
     requires few { length nodes.now < 2 ^ 32 }
     requires fits { (k : ℕ) → k < length nodes.now → NodeFits bits (slice_index_or nodes.now k (0, 0)) }
     requires name { length meta.now.name ≤ 64 }
-    ensures { IfOk result
+    ensures bytes { IfOk result
         (λ bytes. bytes.items ≡ file_of bits nodes.now section.now meta.now.epoch meta.now.name) }
+    ensures typed { IfOk result (λ _. (meta.now.epoch < 2 ^ 64) × IsUtf8 meta.now.name) }
 {
     let mut bytes = tree_of_nodes(alloc, bits, nodes)?;
     bytes.extend_from_slice(&[0; 16])?;

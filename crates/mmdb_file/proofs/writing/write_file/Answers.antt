@@ -1,20 +1,24 @@
-use Rattle.std.proofs.Common.{◌≡◌, ◌∙◌, ◌+◌, ap, sym, length, arith, [], ℕ, List}
+use Rattle.std.proofs.Common.{◌≡◌, ◌∙◌, ◌+◌, ap, sym, length, arith, [], ℕ, List, refl, subst, All, ◌<◌, ◌^◌}
 use Rattle.std.specs.Prelude.{slice_index, nat_eq, option_map, Some}
 use Rattle.trie_core.specs.declared.node.NodeId.{NodeId}
 use Rattle.trie_core.specs.declared.node.Rec.TheVariants.{Node}
 use Rattle.trie_core.specs.declared.node.Rec.{Rec}
 use Rattle.trie_core.specs.Tree.{Tree}
 use Rattle.trie_core.specs.Store.{tree_of, meaning, record_of}
-use Rattle.mmdb_file.proofs.ImageLemmas.{image_is, written_is, ids_set, places_set}
+use Rattle.mmdb_file.proofs.ImageLemmas.{image_is, written_is, nodes_equal, nodes_are, ids_set, places_set}
+use Rattle.mmdb_file.proofs.WalkLemmas.{walked_address}
+use Rattle.geo_addr.specs.Bits.{bits_of}
+use Rattle.geo_addr.proofs.BitsLemmas.{length-bits_of}
+use Rattle.mmdb_file.specs.Walk.{walk}
 use Rattle.least_nodes.specs.Layout.{inner, each_once, place_order}
 use Rattle.least_nodes.specs.Order.{trees_of}
 use Rattle.mmdb_tree.specs.Nodes.{smallest, record_size}
 use Rattle.mmdb_file.specs.Section.{spellings, starts_from}
 use Rattle.std.proofs.Common.{map as map_list}
 use Rattle.geo_terms.specs.Numbers.{place_at}
-use Rattle.mmdb_file.specs.FileImage.{answer_value}
-use Rattle.mmdb_file.specs.Writing.{same_id, section_for, count_for, end_for}
-use Rattle.mmdb_file.proofs.WritingLemmas.{length-each_once, starts-le, length-mapped}
+use Rattle.mmdb_file.specs.FileImage.{answer_value, file_of}
+use Rattle.mmdb_file.specs.Writing.{same_id, section_for, count_for, end_for, nodes_from, number_of, record_number, CanBeRead}
+use Rattle.mmdb_file.proofs.WritingLemmas.{length-each_once, starts-le, length-mapped, length-nodes_from, limit-le}
 use Rattle.mmdb_file.proofs.writing.write_file.Goals as goal
 
 pub written-requires-clause-keys : goal.written-requires-clause-keys
@@ -73,4 +77,30 @@ returns-clause-bytes c =
     (c.in_ok-numbers.ensures.starts ∙ c.in_ok-section.ensures.starts ∙ ap (λ (ks : List ℕ). starts_from 0 (map_list (λ k. answer_value (place_at c.args.places.now k)) ks)) leaves)
     (c.as_slice.ensures.value ∙ c.in_ok-section.ensures.bytes ∙ ap (λ (ks : List ℕ). spellings (map_list (λ k. answer_value (place_at c.args.places.now k)) ks)) leaves)
     c.rec_of-tree.ensures.same
-    c.in_ok-bytes.ensures
+    c.in_ok-bytes.ensures.bytes
+
+pub returns-clause-walked : goal.returns-clause-walked
+returns-clause-walked c = λ address k is.
+    let root : Rec = record_of c.args.root in
+    let t : Tree ℕ = tree_of c.args.store.now c.args.root in
+    let nodes : List (ℕ × ℕ) = nodes_from c.args.store.now (number_of c.in_ok-numbers.numbers) c.rec_of-tree.result c.as_slice-ids.result.now in
+    let leaves : c.as_slice-leaves.result.now ≡ place_order t = c.as_slice-leaves.ensures ∙ c.in_ok-layout.ensures.leaves in
+    let starts : List ℕ = starts_from 0 (map_list (λ k'. answer_value (place_at c.args.places.now k')) (place_order t)) in
+    let equal : nodes ≡ nodes_from c.args.store.now (record_number c.max-count.result c.in_ok-layout.layout.nodes (place_order t) starts) root c.in_ok-layout.layout.nodes =
+    nodes_equal c.args.store.now c.in_ok-numbers.numbers.count c.max-count.result c.in_ok-numbers.numbers.nodes.keys c.as_slice-ids.result.now c.in_ok-layout.layout.nodes c.in_ok-numbers.numbers.places.keys (place_order t) c.in_ok-numbers.numbers.starts.items starts c.rec_of-tree.result root
+    c.in_ok-numbers.ensures.count
+    (c.in_ok-numbers.ensures.nodes ∙ ap (each_once same_id []) c.as_slice-ids.ensures ∙ ids_set c.args.store.now c.rec_of-tree.ensures.sound c.args.places.now root c.requires.root c.requires.numbers c.in_ok-layout.layout.nodes c.in_ok-layout.ensures.of c.in_ok-layout.ensures.nodes)
+    c.as_slice-ids.ensures
+    (c.in_ok-numbers.ensures.places ∙ ap (each_once nat_eq []) leaves ∙ places_set c.args.store.now c.rec_of-tree.ensures.sound c.args.places.now root c.requires.root c.requires.numbers c.in_ok-layout.layout.nodes c.in_ok-layout.ensures.of c.in_ok-layout.ensures.nodes)
+    (c.in_ok-numbers.ensures.starts ∙ c.in_ok-section.ensures.starts ∙ ap (λ (ks : List ℕ). starts_from 0 (map_list (λ k'. answer_value (place_at c.args.places.now k')) ks)) leaves)
+    c.rec_of-tree.ensures.same in
+    let are = equal ∙ nodes_are c.args.store.now c.rec_of-tree.ensures.sound c.args.places.now root c.requires.root c.requires.numbers c.in_ok-layout.layout.nodes c.in_ok-layout.ensures.of c.in_ok-layout.ensures.nodes c.max-count.result starts t refl in
+    let section : c.as_slice.result.now ≡ spellings (map_list (λ k'. answer_value (place_at c.args.places.now k')) (place_order t)) =
+    c.as_slice.ensures.value ∙ c.in_ok-section.ensures.bytes ∙ ap (λ (ks : List ℕ). spellings (map_list (λ k'. answer_value (place_at c.args.places.now k')) ks)) leaves in
+    let bytes : c.in_ok-bytes.bytes.items ≡ file_of c.in-Some.bits nodes (spellings (map_list (λ k'. answer_value (place_at c.args.places.now k')) (place_order t))) c.args.meta.now.epoch c.args.meta.now.name =
+    c.in_ok-bytes.ensures.bytes ∙ ap (λ s. file_of c.in-Some.bits nodes s c.args.meta.now.epoch c.args.meta.now.name) section in
+    let few : length nodes < 2 ^ 32 = omega (arith, length-nodes_from c.args.store.now (number_of c.in_ok-numbers.numbers) c.rec_of-tree.result c.as_slice-ids.result.now, c.max-count.ensures, c.in-Some.ensures.low, limit-le c.in-Some.bits) in
+    let readable = subst (All (λ k'. CanBeRead (answer_value (place_at c.args.places.now k')))) leaves c.in_ok-section.ensures.readable in
+    ap (λ b. walk b (bits_of 128 address)) bytes
+    ∙ walked_address c.written_file_is_walked.ensures c.args.places.now t c.requires.numbers c.in-Some.bits c.args.meta.now.epoch c.args.meta.now.name c.in_ok-bytes.ensures.typed.0 c.in_ok-bytes.ensures.typed.1 c.requires.name readable nodes c.in_ok-bytes.ensures.fits few
+    c.max-count.result are (count_is c) (bits_of 128 address) (omega (arith, length-bits_of 128 address)) k is
