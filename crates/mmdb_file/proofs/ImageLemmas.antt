@@ -1,30 +1,33 @@
 -- What is written for a root is the file image of the tree that the root means.
-use Rattle.std.proofs.Common.{◌≡◌, ℕ, zero, suc, ◌+◌, ◌-◌, ◌<◌, ◌≤◌, inl, inr, Bool, true, false, true≢false, not, List, [], ◌∷◌, ◌++◌, length, map, filter, get_or, Option, Some, None, refl, sym, ◌∙◌, ap, ap₂, subst, arith, append_assoc, append-nil, cond, All}
-use Rattle.std.specs.Prelude.{nat_eq, slice_get, slice_index, is_some, option_map, max, if◌then◌else◌, ◌==◌}
+use Rattle.std.proofs.Common.{◌≡◌, ℕ, zero, suc, ◌+◌, ◌<◌, ◌≤◌, inl, inr, Bool, true, false, true≢false, not, List, [], ◌∷◌, ◌++◌, length, map, filter, get_or, Some, refl, sym, ◌∙◌, ap, ap₂, subst, arith, append_assoc, append-nil, cond, All, ◌^◌, replicate}
+use Rattle.std.specs.Prelude.{nat_eq, slice_get, slice_index, is_some, max, if◌then◌else◌}
 use Rattle.std.specs.List.{list_any, position_or_len, IsDistinct, AllByRecursion}
 use Rattle.std.proofs.Math.Dec.{eqb-suc-zero}
 use Rattle.std.proofs.lemmas.List.Elements.{All-head, All-tail}
 use Rattle.mmdb_tree.specs.declared.bits.Bits.{Bits}
 use Rattle.mmdb_tree.specs.Nodes.{smallest}
 use Rattle.std.proofs.lemmas.Option.{slice_get-get_or, get_or_from_slice_get}
+use Rattle.std.proofs.lemmas.List.{length-replicate}
+use Rattle.geo_addr.specs.Bits.{bits_of, number_of}
+use Rattle.geo_addr.proofs.BitsLemmas.{OneListOfBits-each}
 use Rattle.geo_terms.specs.PlaceForm.{PlaceParts}
 use Rattle.geo_terms.specs.Numbers.{place_at}
 use Rattle.trie_core.specs.declared.node.NodeId.{NodeId}
 use Rattle.trie_core.specs.declared.node.Rec.{Rec}
 use Rattle.trie_core.specs.declared.node.Rec.TheVariants.{Leaf, Node}
 use Rattle.trie_core.specs.declared.node.Pair.{Pair}
-use Rattle.trie_core.specs.Tree.{Tree, leaf, node, tree_eq, AllLeaves}
+use Rattle.trie_core.specs.Tree.{Tree, leaf, node, height, look, tree_eq, AllLeaves}
 use Rattle.trie_core.specs.Laws.{IsEquality}
 use Rattle.trie_core.specs.Store.{meaning, IsOf, IsSound}
 use Rattle.trie_core.proofs.TreeLemmas.{nat_equality}
-use Rattle.trie_core.proofs.StoreLemmas.{meaning-leaf, meaning_node, children_of, pair_at, leaf_from_meaning, same_from_meaning}
-use Rattle.least_nodes.specs.NodeList.{Member, at, says}
+use Rattle.trie_core.proofs.StoreLemmas.{meaning-leaf, meaning_node, children_of, pair_at, same_from_meaning}
+use Rattle.least_nodes.specs.NodeList.{Member, says}
 use Rattle.least_nodes.specs.Layout.{each_once, preorder, leaves, inner, leaf_order, member, pair_of, laid, place_order, is_place}
 use Rattle.least_nodes.specs.Order.{trees_of, AreOf}
-use Rattle.least_nodes.proofs.Elements.{In, In-append, In-left, In-right, In-map, In-each_once, In-each_once-new, In-filter, In-from_filter, In_last, any-from_In, none-from_not_In, each_once-new, IsDistinct-from_none}
-use Rattle.least_nodes.proofs.TreeParts.{IsEquality-tree_eq, leaves-inside}
+use Rattle.least_nodes.proofs.Elements.{In, In-append, In-left, In-right, In-map, In-each_once, In-each_once-new, In-filter, In-from_filter, any-from_In, none-from_not_In, each_once-new, IsDistinct-from_none}
+use Rattle.least_nodes.proofs.TreeParts.{leaves-inside}
 use Rattle.least_nodes.proofs.WalkLemmas.{id_equality, tree_equality}
-use Rattle.mmdb_file.specs.FileImage.{answer_value, values, spots, section, record_for, node_for, node_records, records_end, file_with, file_of}
+use Rattle.mmdb_file.specs.FileImage.{answer_value, spots, section, record_for, node_for, node_records, records_end, file_with, file_of}
 use Rattle.mmdb_file.specs.Section.{section_of, spellings, starts_from}
 use Rattle.mmdb_file.specs.Writing.{same_id, record_number, node_numbers, nodes_from}
 
@@ -283,3 +286,19 @@ nodes_equal pairs n n' keys ids ids' places places' starts starts' root root' a 
     ∙ ap (λ x. nodes_from pairs (record_number n' ids' x starts) root ids') d
     ∙ ap (λ x. nodes_from pairs (record_number n' ids' places' x) root ids') e
     ∙ ap (λ x. nodes_from pairs (record_number n' ids' places' starts') x ids') g
+
+-- what holds of each answer of a tree holds of its leaves
+AllLeaves-from_looks : (P : ℕ → Type 0) (n : ℕ) (t : Tree ℕ) → height t ≤ n → ((w : List Bool) → length w ≡ n → (k : ℕ) → look t w ≡ Some k → P k) → AllLeaves P t
+AllLeaves-from_looks P n (leaf a) low all = all (replicate n false) (length-replicate n false) a refl
+AllLeaves-from_looks P zero (node l r) low all = absurd (omega arith)
+AllLeaves-from_looks P (suc n) (node l r) low all = (
+  AllLeaves-from_looks P n l (omega arith) (λ w long k is. all (false ∷ w) (ap suc long) k is),
+  AllLeaves-from_looks P n r (omega arith) (λ w long k is. all (true ∷ w) (ap suc long) k is),
+)
+
+pub numbers_known : (pairs : List Pair) (sound : IsSound pairs) (places : List PlaceParts) (root : Rec) → IsOf pairs root → ((a k : ℕ) → a < 2 ^ 128 → look (meaning pairs root) (bits_of 128 a) ≡ Some k → k ≤ length places) → AllLeaves (λ k. k ≤ length places) (meaning pairs root)
+numbers_known pairs sound places root of known =
+    AllLeaves-from_looks (λ k. k ≤ length places) 128 (meaning pairs root) (sound.low root of)
+    (λ w long k is.
+    let one = OneListOfBits-each 128 in
+    known (number_of w) k (one.below w long) (ap (look (meaning pairs root)) (one.again w long) ∙ is))

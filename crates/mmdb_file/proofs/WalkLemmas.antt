@@ -1,19 +1,19 @@
 -- The walk of a written file gives what the tree that it was written for answers.
-use Rattle.std.proofs.Common.{◌≡◌, ◌≢◌, ℕ, zero, suc, ◌+◌, ◌-◌, ◌*◌, ◌^◌, ◌<◌, ◌≤◌, ◌==◌, ◌&&◌, ◌||◌, inl, inr, Bool, true, false, true≢false, cond, List, [], ◌∷◌, ◌++◌, length, map, take, drop, get_or, replicate, Option, Some, None, Result, Ok, Err, refl, sym, ◌∙◌, ap, ap₂, subst, arith, append_assoc, append-nil, length-append, All}
+use Rattle.std.proofs.Common.{◌≡◌, ℕ, zero, suc, ◌+◌, ◌-◌, ◌*◌, ◌^◌, ◌<◌, ◌≤◌, inl, inr, Bool, true, false, List, [], ◌∷◌, ◌++◌, length, map, take, drop, get_or, replicate, Option, Some, None, Ok, Err, refl, sym, ◌∙◌, ap, ap₂, subst, arith, append_assoc, append-nil, length-append, All}
 use Rattle.std.specs.Prelude.{codes, nat_eq, nat_lt, nat_le, slice_index, is_some, option_map, max, if◌then◌else◌}
-use Rattle.std.specs.List.{list_any, position_or_len}
+use Rattle.std.specs.List.{position_or_len}
 use Rattle.std.specs.Str.{IsUtf8, is_utf8, chars}
 use lib.Utf8.{encode}
 use Rattle.std.proofs.Math.Dec.{eqb}
 use Rattle.std.proofs.Math.Seq.{drop-append-add}
 use Rattle.std.proofs.lemmas.Bool.{cases_lt, lt-ltb, le-ltb, lt-leb}
 use Rattle.std.proofs.lemmas.Bool.Decides.{eqb_tells}
-use Rattle.std.proofs.lemmas.List.{take_at, drop_at, get_or-map, get_or_past, get_or_default}
+use Rattle.std.proofs.lemmas.List.{take_at, get_or-map, get_or_past}
 use Rattle.std.proofs.lemmas.List.Elements.{All-head, All-tail, All-nil, All-cons}
 use Rattle.std.proofs.lemmas.Str.{IsUtf8-from_is_utf8}
-use Rattle.mmdb_data.specs.Tree.{Tree, Members, map as map_value, bool, CanBeSpelled, IsTyped, count, most}
+use Rattle.mmdb_data.specs.Tree.{Tree, map as map_value, bool, IsTyped, count}
 use Rattle.mmdb_data.specs.Spelling.{spelling}
-use Rattle.mmdb_data.specs.Reading.{Fault, reads}
+use Rattle.mmdb_data.specs.Reading.{reads}
 use Rattle.mmdb_data.proofs.ReadsBack.{is_read_again}
 use Rattle.mmdb_tree.specs.declared.bits.Bits.{Bits}
 use Rattle.mmdb_tree.specs.declared.bits.Bits.TheVariants.{B24, B28, B32}
@@ -24,7 +24,7 @@ use Rattle.mmdb_data.specs.declared.fault.DataCause.TheVariants.{OutOfSection}
 use Rattle.mmdb_file.specs.declared.fault.OpenFault.TheVariants.{Version}
 use Rattle.mmdb_file.specs.Marker.{marker, last_marker}
 use Rattle.mmdb_file.specs.Metadata.{told_members, english, metadata}
-use Rattle.mmdb_file.specs.Walk.{Opened, Told, told_of, told_of_value, number_field, count_of, bits_of_size, is_known, cut, opened, opened_with, seek, place_of_record, place_at, value_at, value_read, walk_opened, walk}
+use Rattle.mmdb_file.specs.Walk.{Opened, Told, told_of, told_of_value, number_field, count_of, bits_of_size, is_known, cut, opened, seek, place_of_record, place_at, value_at, value_read, walk_opened, walk}
 use Rattle.mmdb_file.specs.Section.{spellings, starts_from}
 use Rattle.geo_terms.specs.PlaceForm.{PlaceParts}
 use Rattle.geo_terms.specs.Numbers.{place_at as place_at_number}

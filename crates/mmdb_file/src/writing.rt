@@ -5,7 +5,6 @@ ghost use Rattle.geo_addr.specs.Bits.{bits_of};
 ghost use Rattle.mmdb_file.specs.PlaceValue.{place_value};
 ghost use Rattle.mmdb_file.specs.Walk.{walk};
 ghost use Rattle.geo_terms.specs.Numbers.{place_at};
-ghost use Rattle.trie_core.specs.Tree.{AllLeaves};
 ghost use Rattle.trie_core.specs.Store.{IsOf, IsRootOf, leaf_at, tree_of};
 ghost use Rattle.least_nodes.specs.Layout.{each_once};
 ghost use Rattle.least_nodes.specs.Order.{AreOf};
@@ -56,7 +55,7 @@ pub fn write_file(
     meta: &Meta,
 ) -> Result<Emitted, FileFault>
     requires root { IsRootOf store.now root }
-    requires numbers { AllLeaves (λ k. k ≤ length places.now) (tree_of store.now root) }
+    requires numbers { (address k : ℕ) → address < 2 ^ 128 → leaf_at store.now root address ≡ Some k → k ≤ length places.now }
     requires name { length meta.now.name ≤ 64 }
     ensures bytes { IfOk result (λ file. file_with nat_eq (place_at places.now) (tree_of store.now root)
         meta.now.epoch meta.now.name ≡ Some file.bytes.items) }

@@ -5,7 +5,7 @@ use Rattle.trie_core.specs.declared.node.Rec.TheVariants.{Node}
 use Rattle.trie_core.specs.declared.node.Rec.{Rec}
 use Rattle.trie_core.specs.Tree.{Tree}
 use Rattle.trie_core.specs.Store.{tree_of, meaning, record_of}
-use Rattle.mmdb_file.proofs.ImageLemmas.{image_is, written_is, nodes_equal, nodes_are, ids_set, places_set}
+use Rattle.mmdb_file.proofs.ImageLemmas.{numbers_known, image_is, written_is, nodes_equal, nodes_are, ids_set, places_set}
 use Rattle.mmdb_file.proofs.WalkLemmas.{walked_address}
 use Rattle.geo_addr.specs.Bits.{bits_of}
 use Rattle.geo_addr.proofs.BitsLemmas.{length-bits_of}
@@ -66,14 +66,14 @@ returns-clause-bytes c =
     let leaves : c.as_slice-leaves.result.now ≡ place_order t = c.as_slice-leaves.ensures ∙ c.in_ok-layout.ensures.leaves in
     let end : c.max-count.result + 16 + length (section_for c.args.places.now t) ≡ c.max-count.result + 16 + c.len-len.result = omega (arith, section_is c) in
     let fits : smallest (c.max-count.result + 16 + length (section_for c.args.places.now t)) ≡ Some c.in-Some.bits = ap smallest end ∙ sym c.in-Some.ensures.bits in
-    image_is c.args.store.now c.rec_of-tree.ensures.sound c.args.places.now root c.requires.root c.requires.numbers c.in_ok-layout.layout.nodes c.in_ok-layout.ensures.of c.in_ok-layout.ensures.nodes
+    image_is c.args.store.now c.rec_of-tree.ensures.sound c.args.places.now root c.requires.root (numbers_known c.args.store.now c.rec_of-tree.ensures.sound c.args.places.now (record_of c.args.root) c.requires.root c.requires.numbers) c.in_ok-layout.layout.nodes c.in_ok-layout.ensures.of c.in_ok-layout.ensures.nodes
     c.in-Some.bits c.args.meta.now.epoch c.args.meta.now.name c.max-count.result (count_is c) fits
     ∙ written_is c.in-Some.bits c.args.store.now c.args.meta.now.epoch c.args.meta.now.name c.in_ok-bytes.bytes.items c.in_ok-numbers.numbers.count c.max-count.result
     c.in_ok-numbers.numbers.nodes.keys c.as_slice-ids.result.now c.in_ok-layout.layout.nodes c.in_ok-numbers.numbers.places.keys (place_order t) c.in_ok-numbers.numbers.starts.items _ c.as_slice.result.now _ c.rec_of-tree.result root
     c.in_ok-numbers.ensures.count
-    (c.in_ok-numbers.ensures.nodes ∙ ap (each_once same_id []) c.as_slice-ids.ensures ∙ ids_set c.args.store.now c.rec_of-tree.ensures.sound c.args.places.now root c.requires.root c.requires.numbers c.in_ok-layout.layout.nodes c.in_ok-layout.ensures.of c.in_ok-layout.ensures.nodes)
+    (c.in_ok-numbers.ensures.nodes ∙ ap (each_once same_id []) c.as_slice-ids.ensures ∙ ids_set c.args.store.now c.rec_of-tree.ensures.sound c.args.places.now root c.requires.root (numbers_known c.args.store.now c.rec_of-tree.ensures.sound c.args.places.now (record_of c.args.root) c.requires.root c.requires.numbers) c.in_ok-layout.layout.nodes c.in_ok-layout.ensures.of c.in_ok-layout.ensures.nodes)
     c.as_slice-ids.ensures
-    (c.in_ok-numbers.ensures.places ∙ ap (each_once nat_eq []) leaves ∙ places_set c.args.store.now c.rec_of-tree.ensures.sound c.args.places.now root c.requires.root c.requires.numbers c.in_ok-layout.layout.nodes c.in_ok-layout.ensures.of c.in_ok-layout.ensures.nodes)
+    (c.in_ok-numbers.ensures.places ∙ ap (each_once nat_eq []) leaves ∙ places_set c.args.store.now c.rec_of-tree.ensures.sound c.args.places.now root c.requires.root (numbers_known c.args.store.now c.rec_of-tree.ensures.sound c.args.places.now (record_of c.args.root) c.requires.root c.requires.numbers) c.in_ok-layout.layout.nodes c.in_ok-layout.ensures.of c.in_ok-layout.ensures.nodes)
     (c.in_ok-numbers.ensures.starts ∙ c.in_ok-section.ensures.starts ∙ ap (λ (ks : List ℕ). starts_from 0 (map_list (λ k. answer_value (place_at c.args.places.now k)) ks)) leaves)
     (c.as_slice.ensures.value ∙ c.in_ok-section.ensures.bytes ∙ ap (λ (ks : List ℕ). spellings (map_list (λ k. answer_value (place_at c.args.places.now k)) ks)) leaves)
     c.rec_of-tree.ensures.same
@@ -89,12 +89,12 @@ returns-clause-walked c = λ address k is.
     let equal : nodes ≡ nodes_from c.args.store.now (record_number c.max-count.result c.in_ok-layout.layout.nodes (place_order t) starts) root c.in_ok-layout.layout.nodes =
     nodes_equal c.args.store.now c.in_ok-numbers.numbers.count c.max-count.result c.in_ok-numbers.numbers.nodes.keys c.as_slice-ids.result.now c.in_ok-layout.layout.nodes c.in_ok-numbers.numbers.places.keys (place_order t) c.in_ok-numbers.numbers.starts.items starts c.rec_of-tree.result root
     c.in_ok-numbers.ensures.count
-    (c.in_ok-numbers.ensures.nodes ∙ ap (each_once same_id []) c.as_slice-ids.ensures ∙ ids_set c.args.store.now c.rec_of-tree.ensures.sound c.args.places.now root c.requires.root c.requires.numbers c.in_ok-layout.layout.nodes c.in_ok-layout.ensures.of c.in_ok-layout.ensures.nodes)
+    (c.in_ok-numbers.ensures.nodes ∙ ap (each_once same_id []) c.as_slice-ids.ensures ∙ ids_set c.args.store.now c.rec_of-tree.ensures.sound c.args.places.now root c.requires.root (numbers_known c.args.store.now c.rec_of-tree.ensures.sound c.args.places.now (record_of c.args.root) c.requires.root c.requires.numbers) c.in_ok-layout.layout.nodes c.in_ok-layout.ensures.of c.in_ok-layout.ensures.nodes)
     c.as_slice-ids.ensures
-    (c.in_ok-numbers.ensures.places ∙ ap (each_once nat_eq []) leaves ∙ places_set c.args.store.now c.rec_of-tree.ensures.sound c.args.places.now root c.requires.root c.requires.numbers c.in_ok-layout.layout.nodes c.in_ok-layout.ensures.of c.in_ok-layout.ensures.nodes)
+    (c.in_ok-numbers.ensures.places ∙ ap (each_once nat_eq []) leaves ∙ places_set c.args.store.now c.rec_of-tree.ensures.sound c.args.places.now root c.requires.root (numbers_known c.args.store.now c.rec_of-tree.ensures.sound c.args.places.now (record_of c.args.root) c.requires.root c.requires.numbers) c.in_ok-layout.layout.nodes c.in_ok-layout.ensures.of c.in_ok-layout.ensures.nodes)
     (c.in_ok-numbers.ensures.starts ∙ c.in_ok-section.ensures.starts ∙ ap (λ (ks : List ℕ). starts_from 0 (map_list (λ k'. answer_value (place_at c.args.places.now k')) ks)) leaves)
     c.rec_of-tree.ensures.same in
-    let are = equal ∙ nodes_are c.args.store.now c.rec_of-tree.ensures.sound c.args.places.now root c.requires.root c.requires.numbers c.in_ok-layout.layout.nodes c.in_ok-layout.ensures.of c.in_ok-layout.ensures.nodes c.max-count.result starts t refl in
+    let are = equal ∙ nodes_are c.args.store.now c.rec_of-tree.ensures.sound c.args.places.now root c.requires.root (numbers_known c.args.store.now c.rec_of-tree.ensures.sound c.args.places.now (record_of c.args.root) c.requires.root c.requires.numbers) c.in_ok-layout.layout.nodes c.in_ok-layout.ensures.of c.in_ok-layout.ensures.nodes c.max-count.result starts t refl in
     let section : c.as_slice.result.now ≡ spellings (map_list (λ k'. answer_value (place_at c.args.places.now k')) (place_order t)) =
     c.as_slice.ensures.value ∙ c.in_ok-section.ensures.bytes ∙ ap (λ (ks : List ℕ). spellings (map_list (λ k'. answer_value (place_at c.args.places.now k')) ks)) leaves in
     let bytes : c.in_ok-bytes.bytes.items ≡ file_of c.in-Some.bits nodes (spellings (map_list (λ k'. answer_value (place_at c.args.places.now k')) (place_order t))) c.args.meta.now.epoch c.args.meta.now.name =
@@ -102,5 +102,5 @@ returns-clause-walked c = λ address k is.
     let few : length nodes < 2 ^ 32 = omega (arith, length-nodes_from c.args.store.now (number_of c.in_ok-numbers.numbers) c.rec_of-tree.result c.as_slice-ids.result.now, c.max-count.ensures, c.in-Some.ensures.low, limit-le c.in-Some.bits) in
     let readable = subst (All (λ k'. CanBeRead (answer_value (place_at c.args.places.now k')))) leaves c.in_ok-section.ensures.readable in
     ap (λ b. walk b (bits_of 128 address)) bytes
-    ∙ walked_address c.written_file_is_walked.ensures c.args.places.now t c.requires.numbers c.in-Some.bits c.args.meta.now.epoch c.args.meta.now.name c.in_ok-bytes.ensures.typed.0 c.in_ok-bytes.ensures.typed.1 c.requires.name readable nodes c.in_ok-bytes.ensures.fits few
+    ∙ walked_address c.written_file_is_walked.ensures c.args.places.now t (numbers_known c.args.store.now c.rec_of-tree.ensures.sound c.args.places.now (record_of c.args.root) c.requires.root c.requires.numbers) c.in-Some.bits c.args.meta.now.epoch c.args.meta.now.name c.in_ok-bytes.ensures.typed.0 c.in_ok-bytes.ensures.typed.1 c.requires.name readable nodes c.in_ok-bytes.ensures.fits few
     c.max-count.result are (count_is c) (bits_of 128 address) (omega (arith, length-bits_of 128 address)) k is
