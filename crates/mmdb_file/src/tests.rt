@@ -24,7 +24,8 @@ fn the_file_of_no_data(rt: HostRuntime) -> Result<(), Fail> {
 
 #[test]
 fn faults_of_a_file(rt: HostRuntime) -> Result<(), Fail> {
-    let opened = Mmdb::adopt(rt.alloc(), NO_DATA)?;
+    let whole: &[u8] = NO_DATA;
+    let opened = Mmdb::adopt(rt.alloc(), whole)?;
     assert_eq!(rt; opened.find(Addr(0)), Ok(None));
     assert_eq!(rt; opened.section().len(), 0);
     let mut bytes = *NO_DATA;
@@ -44,11 +45,11 @@ fn faults_of_a_file(rt: HostRuntime) -> Result<(), Fail> {
         Some(OpenFault::NoMarker)
     );
     assert_eq!(rt;
-        Mmdb::adopt(rt.alloc(), &NO_DATA[..60]).err(),
+        Mmdb::adopt(rt.alloc(), &whole[..60]).err(),
         Some(OpenFault::Metadata)
     );
     assert_eq!(rt;
-        Mmdb::adopt(rt.alloc(), &NO_DATA[1..]).err(),
+        Mmdb::adopt(rt.alloc(), &whole[1..]).err(),
         Some(OpenFault::TreeCut)
     );
     Ok(())
