@@ -1,0 +1,6 @@
+//! What the program does: its job, its commands, and `run`.
+#![tactic(auto)]
+
+mod status;
+
+pub use status::Status;

@@ -1,0 +1,2 @@
+//! A session: sources in force, and the file that is emitted for them.
+#![tactic(auto)]
