@@ -1,0 +1,4 @@
+pub mod Drafts
+pub mod Forms
+pub mod Job
+pub mod Names

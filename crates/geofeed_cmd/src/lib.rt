@@ -1,6 +1,11 @@
 //! What the program does: its job, its commands, and `run`.
 #![tactic(auto)]
 
+mod form;
+mod job;
+mod names;
 mod status;
 
+pub use job::{Act, Job, JobFault, Step, read_job};
+pub use names::is_name;
 pub use status::Status;
