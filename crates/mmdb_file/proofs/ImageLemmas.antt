@@ -147,6 +147,13 @@ laid_len (node l r) =
     In-length x [] is = absurd is
     In-length x (y ∷ ys) is = omega arith
 
+-- the leaves that are places, where each leaf is a number of the table
+pub spots_are : (places : List PlaceParts) (t : Tree ℕ) → AllLeaves (λ k. k ≤ length places) t → spots nat_eq (place_at places) t ≡ place_order t
+unfolding spots
+spots_are places t all =
+    filter-same (λ a. is_some (place_at places a)) is_place (leaf_order nat_eq t)
+    (λ k is. elim (In-each_once nat_eq nat_equality k [] (leaves t) is) [ inl none ↦ absurd none | inr found ↦ place_or_none places k (leaf_fits (λ n. n ≤ length places) t all k found) ])
+
 nodes_from_some : (pairs : List Pair) (number : Rec → ℕ) (root : Rec) (ids : List NodeId) → (ids ≡ [] → ⊥) → nodes_from pairs number root ids ≡ map (node_numbers pairs number) ids
 nodes_from_some pairs number root [] some = absurd (some refl)
 nodes_from_some pairs number root (id ∷ ids) some = refl
@@ -162,15 +169,6 @@ module _ (pairs : List Pair) (sound : IsSound pairs) (places : List PlaceParts) 
   places_set =
       set_is_list nat_eq nat_equality (place_order (meaning pairs root))
       (Apart-filter nat_eq nat_equality is_place (leaf_order nat_eq (meaning pairs root)) (Apart-each_once nat_eq nat_equality (leaves (meaning pairs root))))
-
-  leaf_in : (k : ℕ) → In k (leaf_order nat_eq (meaning pairs root)) → In k (leaves (meaning pairs root))
-  leaf_in k is = elim (In-each_once nat_eq nat_equality k [] (leaves (meaning pairs root)) is) [ inl none ↦ absurd none | inr found ↦ found ]
-
-  spots_is : spots nat_eq (place_at places) (meaning pairs root) ≡ place_order (meaning pairs root)
-  unfolding spots
-  spots_is =
-      filter-same (λ a. is_some (place_at places a)) is_place (leaf_order nat_eq (meaning pairs root))
-      (λ k is. place_or_none places k (leaf_fits (λ n. n ≤ length places) (meaning pairs root) all k (leaf_in k is)))
 
   eq_same : (id j : NodeId) → IsOf pairs (Node id) → IsOf pairs (Node j) → tree_eq nat_eq (meaning pairs (Node id)) (meaning pairs (Node j)) ≡ same_id id j
   eq_same id j of of' =
@@ -258,7 +256,7 @@ module _ (pairs : List Pair) (sound : IsSound pairs) (places : List PlaceParts) 
   image_is bits epoch name n count fits =
       let t : Tree ℕ = meaning pairs root in
       let len : length (laid nat_eq t) ≡ n = laid_len t ∙ sym count in
-      rw (spots_is, len, fits) (ap (λ nodes. Some (file_of bits nodes (spellings (map (λ k. answer_value (place_at places k)) (place_order t))) epoch name)) (sym (nodes_are n (starts_from 0 (map (λ k. answer_value (place_at places k)) (place_order t))) t refl)))
+      rw (spots_are places t all, len, fits) (ap (λ nodes. Some (file_of bits nodes (spellings (map (λ k. answer_value (place_at places k)) (place_order t))) epoch name)) (sym (nodes_are n (starts_from 0 (map (λ k. answer_value (place_at places k)) (place_order t))) t refl)))
 
 -- equal parts make equal files
 pub written_is : (bits : Bits) (pairs : List Pair) (epoch : ℕ) (name items : List ℕ) (n n' : ℕ) (keys ids ids' : List NodeId) (places places' starts starts' section section' : List ℕ) (root root' : Rec)

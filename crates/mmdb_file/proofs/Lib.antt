@@ -6,3 +6,4 @@ pub mod PlaceLemmas
 pub mod WritingLemmas
 pub mod ImageLemmas
 pub mod WalkLemmas
+pub mod PlaceTreeLemmas

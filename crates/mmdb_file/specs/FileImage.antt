@@ -71,6 +71,18 @@ same_answer (Some p) (Some q) = same_place p q
 unfoldable pub file : Tree (Option PlaceParts) → (epoch : ℕ) (name : List ℕ) → Option (List ℕ)
 file t epoch name = file_with same_answer (λ answer. answer) t epoch name
 
+-- how many nodes that file has
+unfoldable pub file_nodes : Tree (Option PlaceParts) → ℕ
+file_nodes t = length (laid same_answer t)
+
+-- its data section
+unfoldable pub file_section : Tree (Option PlaceParts) → List ℕ
+file_section t = (section same_answer (λ answer. answer) t).bytes
+
+-- no record of it is above this number
+unfoldable pub file_end : Tree (Option PlaceParts) → ℕ
+file_end t = records_end same_answer (λ answer. answer) t
+
 -- the tree of the record of the sources
 unfoldable pub record_tree : InForce → Tree (Option PlaceParts)
 record_tree s = tree same_answer (record_at s) 128 0

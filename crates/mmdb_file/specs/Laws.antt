@@ -3,14 +3,15 @@ use Rattle.std.specs.Prelude.{◌≡◌, ◌≤◌, ◌<◌, ◌^◌, ℕ, Bool,
 use Rattle.std.specs.Str.{IsUtf8}
 use Rattle.mmdb_tree.specs.declared.bits.Bits.{Bits}
 use Rattle.geo_terms.specs.PlaceForm.{PlaceParts}
-use Rattle.geo_terms.specs.Numbers.{place_at}
-use Rattle.trie_core.specs.Tree.{Tree, look, AllLeaves}
+use Rattle.std.specs.List.{IsDistinct}
+use Rattle.geo_terms.specs.Numbers.{place_at, same_place}
+use Rattle.trie_core.specs.Tree.{Tree, look, AllLeaves, map_tree}
 use Rattle.least_nodes.specs.Layout.{laid, place_order}
 use Rattle.mmdb_tree.specs.Laws.{NodeFits}
 use Rattle.mmdb_tree.specs.Nodes.{record_size}
 use Rattle.mmdb_file.specs.PlaceValue.{place_value}
 use Rattle.mmdb_file.specs.Section.{spellings, starts_from}
-use Rattle.mmdb_file.specs.FileImage.{answer_value, node_for, file_of}
+use Rattle.mmdb_file.specs.FileImage.{answer_value, node_for, file_of, file_with, file}
 use Rattle.mmdb_file.specs.Walk.{walk}
 use Rattle.mmdb_file.specs.Writing.{CanBeRead}
 use Rattle.mmdb_file.specs.Marker.{marker, last_marker}
@@ -21,6 +22,12 @@ abbrev pub LastMarkerIsTheWriters : Type 0
 LastMarkerIsTheWriters =
     (front : List ℕ) (epoch : ℕ) (name : List ℕ) (nodes : ℕ) (bits : Bits) → IsUtf8 name → length name ≤ 64
     → last_marker (front ++ (marker ++ metadata epoch name nodes (record_size bits))) ≡ Some (length front)
+
+-- where the leaves of a tree are numbers of a table of distinct places, the file by these numbers is the file of the places
+abbrev pub NumbersStandForPlaces : Type 0
+NumbersStandForPlaces =
+    (places : List PlaceParts) → IsDistinct same_place places → (t : Tree ℕ) → AllLeaves (λ k. k ≤ length places) t
+    → (epoch : ℕ) (name : List ℕ) → file_with nat_eq (place_at places) t epoch name ≡ file (map_tree (place_at places) t) epoch name
 
 -- the walk of a file of these nodes and the values of these places answers as the tree whose layout they are: every record fits, each value can be read, and the numbers of the nodes are those of the layout
 abbrev pub WrittenFileIsWalked : Type 0

@@ -1,5 +1,5 @@
 -- What the writer's steps give.
-use Rattle.std.specs.Prelude.{◌≤◌, ℕ, ◌+◌, ◌==◌, Bool, List, [], ◌∷◌, map, length, max, slice_index, slice_index_or, nat_eq, if◌then◌else◌}
+use Rattle.std.specs.Prelude.{◌≡◌, ◌≤◌, ◌<◌, ◌^◌, ℕ, ◌+◌, ◌==◌, Bool, List, [], ◌∷◌, map, length, max, slice_index, slice_index_or, nat_eq, Option, Some, if◌then◌else◌}
 use Rattle.std.specs.List.{position_or_len, list_any}
 use Rattle.trie_core.specs.declared.node.NodeId.{NodeId}
 use Rattle.trie_core.specs.declared.node.Rec.{Rec}
@@ -8,7 +8,11 @@ use Rattle.trie_core.specs.declared.node.Pair.{Pair}
 use Rattle.mmdb_file.specs.declared.numbers.Numbers.{Numbers}
 use Rattle.geo_terms.specs.Numbers.{place_at}
 use Rattle.geo_terms.specs.PlaceForm.{PlaceParts}
-use Rattle.trie_core.specs.Tree.{Tree}
+use Rattle.geo_addr.specs.Bits.{bits_of}
+use Rattle.trie_core.specs.declared.node.Root.{Root}
+use Rattle.trie_core.specs.Tree.{Tree, map_tree}
+use Rattle.trie_core.specs.Store.{leaf_at, tree_of}
+use Rattle.least_nodes.specs.NodeList.{Member, at, go}
 use Rattle.least_nodes.specs.Layout.{inner, place_order}
 use Rattle.mmdb_file.specs.FileImage.{answer_value}
 use Rattle.mmdb_file.specs.Section.{spellings}
@@ -41,6 +45,19 @@ node_numbers pairs number id =
 abbrev pub nodes_from : List Pair → (Rec → ℕ) → (root : Rec) → List NodeId → List (ℕ × ℕ)
 nodes_from pairs number root [] = (number root, number root) ∷ []
 nodes_from pairs number root (id ∷ ids) = map (node_numbers pairs number) (id ∷ ids)
+
+-- the tree that a root means, with the places that its leaves are the numbers of
+abbrev pub place_tree : List PlaceParts → List Pair → Root → Tree (Option PlaceParts)
+place_tree places pairs root = map_tree (place_at places) (tree_of pairs root)
+
+-- a function answers at each address the place of the root's leaf
+abbrev pub AnswersPlaces : List PlaceParts → List Pair → Root → (ℕ → Option PlaceParts) → Type 0
+AnswersPlaces places pairs root answer = (address k : ℕ) → address < 2 ^ 128 → leaf_at pairs root address ≡ Some k → place_at places k ≡ answer address
+
+-- the walk from the first node comes at each address to the place of the root's leaf
+abbrev pub FindsPlaces : List PlaceParts → List Pair → Root → List (Member (Option PlaceParts) × Member (Option PlaceParts)) → Type 0
+FindsPlaces places pairs root nodes =
+    (address k : ℕ) → address < 2 ^ 128 → leaf_at pairs root address ≡ Some k → go nodes (at 0) (bits_of 128 address) ≡ Some (place_at places k)
 
 -- how many nodes are written for a tree: its different nodes, and one where it is a leaf
 abbrev pub count_for : Tree ℕ → ℕ

@@ -1,5 +1,5 @@
 ghost use Rattle.std.specs.Prelude.{ℕ};
-ghost use Rattle.mmdb_file.specs.Laws.{LastMarkerIsTheWriters, WrittenFileIsWalked};
+ghost use Rattle.mmdb_file.specs.Laws.{LastMarkerIsTheWriters, NumbersStandForPlaces, WrittenFileIsWalked};
 
 use mmdb_tree::tree_reads_back;
 
@@ -17,3 +17,9 @@ pub fn written_file_is_walked()
 {
     tree_reads_back();
 }
+
+/// The law that numbers stand for places: the file of a tree whose leaves are numbers of a table of
+/// distinct places is the file of the tree of those places. Calling it does nothing.
+pub fn numbers_stand_for_places()
+    ensures { NumbersStandForPlaces }
+{}

@@ -1,19 +1,20 @@
 //! Writing a file.
-ghost use Rattle.std.specs.Prelude.{◌≡◌, ◌+◌, ◌*◌, ◌^◌, ◌<◌, ◌≤◌, ◌++◌, ℕ, length, max, IfOk, OnOk, IfSome, slice_index_or, slice_index, [], nat_eq, List, option_map, Some, None, Ok, Err};
+ghost use Rattle.std.specs.Prelude.{◌≡◌, ◌+◌, ◌*◌, ◌^◌, ◌<◌, ◌≤◌, ◌++◌, ℕ, length, max, IfOk, OnOk, IfSome, slice_index_or, slice_index, [], nat_eq, List, option_map, Option, Some, None, Ok, Err};
 ghost use Rattle.std.specs.Str.{IsUtf8};
 ghost use Rattle.geo_addr.specs.Bits.{bits_of};
 ghost use Rattle.mmdb_file.specs.PlaceValue.{place_value};
 ghost use Rattle.mmdb_file.specs.Walk.{walk};
 ghost use Rattle.geo_terms.specs.Numbers.{place_at};
+ghost use Rattle.trie_core.specs.Tree.{tree};
 ghost use Rattle.trie_core.specs.Store.{IsOf, IsRootOf, leaf_at, tree_of};
+ghost use Rattle.geo_terms.specs.PlaceForm.{PlaceParts};
 ghost use Rattle.least_nodes.specs.Layout.{each_once};
 ghost use Rattle.least_nodes.specs.Order.{AreOf};
-ghost use Rattle.mmdb_file.specs.Writing.{nodes_from, number_of, same_id, count_for, section_for, end_for};
-ghost use Rattle.least_nodes.specs.Laws.{HasLookups};
+ghost use Rattle.mmdb_file.specs.Writing.{nodes_from, number_of, same_id, place_tree, count_for, section_for, end_for, AnswersPlaces, FindsPlaces};
 ghost use Rattle.least_nodes.specs.NodeList.{Member};
 ghost use Rattle.mmdb_tree.specs.Laws.{NodeFits};
 ghost use Rattle.mmdb_tree.specs.Nodes.{limit, smallest, record_size, tree_bytes};
-ghost use Rattle.mmdb_file.specs.FileImage.{file_of, file_with};
+ghost use Rattle.mmdb_file.specs.FileImage.{file, file_of, file_with, file_nodes, file_section, file_end, same_answer};
 ghost use Rattle.mmdb_file.specs.declared.fault.FileFault.TheVariants as faults;
 
 use crate::data::data_of;
@@ -57,23 +58,31 @@ pub fn write_file(
     requires root { IsRootOf store.now root }
     requires numbers { (address k : ℕ) → address < 2 ^ 128 → leaf_at store.now root address ≡ Some k → k ≤ length places.now }
     requires name { length meta.now.name ≤ 64 }
-    ensures bytes { IfOk result (λ file. file_with nat_eq (place_at places.now) (tree_of store.now root)
-        meta.now.epoch meta.now.name ≡ Some file.bytes.items) }
+
+    // What is written is decided by the places of the addresses, whatever their numbers are.
+    ensures places { (answer : ℕ → Option PlaceParts) → AnswersPlaces places.now store.now root answer
+        → place_tree places.now store.now root ≡ tree same_answer answer 128 0 }
+    ensures bytes { IfOk result (λ written. file (place_tree places.now store.now root)
+        meta.now.epoch meta.now.name ≡ Some written.bytes.items) }
 
     // Whoever follows the public standard through the bytes comes to the value of the address's place.
-    ensures walked { IfOk result (λ file. (address k : ℕ) → leaf_at store.now root address ≡ Some k
-        → walk file.bytes.items (bits_of 128 address) ≡ Ok (option_map place_value (place_at places.now k))) }
-    ensures nodes { IfOk result (λ file. file.nodes ≡ count_for (tree_of store.now root)) }
+    ensures walked { IfOk result (λ written. (address k : ℕ) → leaf_at store.now root address ≡ Some k
+        → walk written.bytes.items (bits_of 128 address) ≡ Ok (option_map place_value (place_at places.now k))) }
+    ensures nodes { IfOk result (λ written. written.nodes ≡ file_nodes (place_tree places.now store.now root)) }
 
-    // No list of at least one node that answers as the tree does is shorter.
-    ensures fewest { IfOk result (λ file. (nodes : List (Member ℕ × Member ℕ)) → 0 < length nodes
-        → HasLookups 128 nodes (tree_of store.now root) → file.nodes ≤ length nodes) }
+    // No list of nodes that answers each address with the same place is shorter.
+    ensures fewest { IfOk result
+        (λ written. (nodes : List (Member (Option PlaceParts) × Member (Option PlaceParts)))
+        → FindsPlaces places.now store.now root nodes → written.nodes ≤ length nodes) }
     ensures section { IfOk result
-        (λ file. file.section ≡ length (section_for places.now (tree_of store.now root))) }
-    ensures bits { IfOk result (λ file. option_map record_size (smallest (end_for places.now (tree_of store.now root))) ≡ Some file.bits) }
-    ensures too_large { result ≡ Err faults.TooLarge → smallest (end_for places.now (tree_of store.now root)) ≡ None }
+        (λ written. written.section ≡ length (file_section (place_tree places.now store.now root))) }
+    ensures bits { IfOk result (λ written. option_map record_size
+        (smallest (file_end (place_tree places.now store.now root))) ≡ Some written.bits) }
+    ensures too_large { result ≡ Err faults.TooLarge
+        → smallest (file_end (place_tree places.now store.now root)) ≡ None }
 {
     written_file_is_walked();
+    numbers_to_places(store, root, places);
     let tree = store.rec_of(root);
     let layout = order(alloc, store, root)?;
     let (ids, leaves) = (layout.nodes.as_slice(), layout.leaves.as_slice());
@@ -100,6 +109,24 @@ pub fn write_file(
         section: len as u64,
         bits: bits.size(),
     })
+}
+
+// What the file of the numbers and its counts are as those of the places. Calling it does nothing.
+fn numbers_to_places(store: &Store, root: Root, places: &Places)
+    requires root { IsRootOf store.now root }
+    requires numbers { (address k : ℕ) → address < 2 ^ 128 → leaf_at store.now root address ≡ Some k → k ≤ length places.now }
+    ensures places { (answer : ℕ → Option PlaceParts) → AnswersPlaces places.now store.now root answer
+        → place_tree places.now store.now root ≡ tree same_answer answer 128 0 }
+    ensures bytes { (epoch : ℕ) (name : List ℕ)
+        → file_with nat_eq (place_at places.now) (tree_of store.now root) epoch name ≡ file (place_tree places.now store.now root) epoch name }
+    ensures nodes { file_nodes (place_tree places.now store.now root) ≡ count_for (tree_of store.now root) }
+    ensures fewest { (nodes : List (Member (Option PlaceParts) × Member (Option PlaceParts)))
+        → FindsPlaces places.now store.now root nodes → count_for (tree_of store.now root) ≤ length nodes }
+    ensures section { file_section (place_tree places.now store.now root) ≡ section_for places.now (tree_of store.now root) }
+    ensures end { file_end (place_tree places.now store.now root) ≡ end_for places.now (tree_of store.now root) }
+{
+    let _ = store.rec_of(root);
+    let _ = places.len();
 }
 
 fn numbers_of(

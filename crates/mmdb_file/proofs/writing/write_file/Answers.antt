@@ -3,6 +3,8 @@ use Rattle.std.specs.Prelude.{slice_index, nat_eq, option_map, Some}
 use Rattle.trie_core.specs.declared.node.NodeId.{NodeId}
 use Rattle.trie_core.specs.declared.node.Rec.TheVariants.{Node}
 use Rattle.trie_core.specs.declared.node.Rec.{Rec}
+use Rattle.trie_core.specs.declared.node.Pair.{Pair}
+use Rattle.geo_terms.specs.PlaceForm.{PlaceParts}
 use Rattle.trie_core.specs.Tree.{Tree}
 use Rattle.trie_core.specs.Store.{tree_of, meaning, record_of}
 use Rattle.mmdb_file.proofs.ImageLemmas.{numbers_known, image_is, written_is, nodes_equal, nodes_are, ids_set, places_set}
@@ -38,26 +40,35 @@ written-requires-clause-low c = λ k.
       c.in-Some.ensures.low,
     )
 
+-- the section's bytes and the nodes are as many as the definitions say
+section_len : (places : List PlaceParts) (t : Tree ℕ) (ks items : List ℕ) → ks ≡ place_order t → items ≡ spellings (map_list (λ k. answer_value (place_at places k)) ks) → length items ≡ length (section_for places t)
+section_len places t ks items leaves bytes =
+    ap length bytes ∙ ap (λ (ks' : List ℕ). length (spellings (map_list (λ k. answer_value (place_at places k)) ks'))) leaves
+
+count_len : (pairs : List Pair) (t : Tree ℕ) (ids ids' : List NodeId) → ids ≡ ids' → trees_of pairs ids' ≡ inner nat_eq t → length ids ≡ length (inner nat_eq t)
+count_len pairs t ids ids' same trees = ap length same ∙ sym (length-mapped (λ (id : NodeId). meaning pairs (Node id)) ids') ∙ ap length trees
+
 section_is : (c : goal.After-drop-layout-3) → c.len-len.result ≡ length (section_for c.args.places.now (tree_of c.args.store.now c.args.root))
 section_is c =
-    let spelled : length c.in_ok-section.section.bytes.items ≡ length (spellings (map_list (λ k. answer_value (place_at c.args.places.now k)) c.as_slice-leaves.result.now)) = ap length c.in_ok-section.ensures.bytes in
-    let places : length (spellings (map_list (λ k. answer_value (place_at c.args.places.now k)) c.as_slice-leaves.result.now)) ≡ length (section_for c.args.places.now (tree_of c.args.store.now c.args.root)) =
-    ap (λ (ks : List ℕ). length (spellings (map_list (λ k. answer_value (place_at c.args.places.now k)) ks))) (c.as_slice-leaves.ensures ∙ c.in_ok-layout.ensures.leaves) in
-    omega (arith, c.len-len.ensures, c.in_ok-section.section.bytes.ok.0, spelled, places)
+    omega (arith, c.len-len.ensures, c.in_ok-section.section.bytes.ok.0, section_len c.args.places.now (tree_of c.args.store.now c.args.root) c.as_slice-leaves.result.now c.in_ok-section.section.bytes.items (c.as_slice-leaves.ensures ∙ c.in_ok-layout.ensures.leaves) c.in_ok-section.ensures.bytes)
 
 count_is : (c : goal.After-drop-layout-3) → c.max-count.result ≡ count_for (tree_of c.args.store.now c.args.root)
 count_is c =
-    let ids : length c.as_slice-ids.result.now ≡ length c.in_ok-layout.layout.nodes = ap length c.as_slice-ids.ensures in
-    let trees : length (trees_of c.args.store.now c.in_ok-layout.layout.nodes) ≡ length (inner nat_eq (tree_of c.args.store.now c.args.root)) = ap length c.in_ok-layout.ensures.nodes in
-    omega (arith, c.max-count.ensures, ids, trees, length-mapped (λ (id : NodeId). meaning c.args.store.now (Node id)) c.in_ok-layout.layout.nodes)
+    omega (arith, c.max-count.ensures, count_len c.args.store.now (tree_of c.args.store.now c.args.root) c.as_slice-ids.result.now c.in_ok-layout.layout.nodes c.as_slice-ids.ensures c.in_ok-layout.ensures.nodes)
 
 pub returns-clause-section : goal.returns-clause-section
-returns-clause-section c = section_is c
+returns-clause-section c = section_is c ∙ ap length (sym c.numbers_to_places.ensures.section)
+
+pub returns-clause-nodes : goal.returns-clause-nodes
+returns-clause-nodes c = count_is c ∙ sym c.numbers_to_places.ensures.nodes
+
+pub returns-clause-fewest : goal.returns-clause-fewest
+returns-clause-fewest c = λ nodes finds. omega (arith, count_is c, c.numbers_to_places.ensures.fewest nodes finds)
 
 pub returns-clause-bits : goal.returns-clause-bits
 returns-clause-bits c =
     let end : c.max-count.result + 16 + c.len-len.result ≡ end_for c.args.places.now (tree_of c.args.store.now c.args.root) = omega (arith, section_is c, count_is c) in
-    ap (λ (n : ℕ). option_map record_size (smallest n)) (sym end) ∙ ap (option_map record_size) (sym c.in-Some.ensures.bits) ∙ ap Some (sym c.size.ensures)
+    ap (λ (n : ℕ). option_map record_size (smallest n)) (c.numbers_to_places.ensures.end ∙ sym end) ∙ ap (option_map record_size) (sym c.in-Some.ensures.bits) ∙ ap Some (sym c.size.ensures)
 
 pub returns-clause-bytes : goal.returns-clause-bytes
 returns-clause-bytes c =
@@ -66,7 +77,8 @@ returns-clause-bytes c =
     let leaves : c.as_slice-leaves.result.now ≡ place_order t = c.as_slice-leaves.ensures ∙ c.in_ok-layout.ensures.leaves in
     let end : c.max-count.result + 16 + length (section_for c.args.places.now t) ≡ c.max-count.result + 16 + c.len-len.result = omega (arith, section_is c) in
     let fits : smallest (c.max-count.result + 16 + length (section_for c.args.places.now t)) ≡ Some c.in-Some.bits = ap smallest end ∙ sym c.in-Some.ensures.bits in
-    image_is c.args.store.now c.rec_of-tree.ensures.sound c.args.places.now root c.requires.root (numbers_known c.args.store.now c.rec_of-tree.ensures.sound c.args.places.now (record_of c.args.root) c.requires.root c.requires.numbers) c.in_ok-layout.layout.nodes c.in_ok-layout.ensures.of c.in_ok-layout.ensures.nodes
+    sym (c.numbers_to_places.ensures.bytes c.args.meta.now.epoch c.args.meta.now.name)
+    ∙ image_is c.args.store.now c.rec_of-tree.ensures.sound c.args.places.now root c.requires.root (numbers_known c.args.store.now c.rec_of-tree.ensures.sound c.args.places.now (record_of c.args.root) c.requires.root c.requires.numbers) c.in_ok-layout.layout.nodes c.in_ok-layout.ensures.of c.in_ok-layout.ensures.nodes
     c.in-Some.bits c.args.meta.now.epoch c.args.meta.now.name c.max-count.result (count_is c) fits
     ∙ written_is c.in-Some.bits c.args.store.now c.args.meta.now.epoch c.args.meta.now.name c.in_ok-bytes.bytes.items c.in_ok-numbers.numbers.count c.max-count.result
     c.in_ok-numbers.numbers.nodes.keys c.as_slice-ids.result.now c.in_ok-layout.layout.nodes c.in_ok-numbers.numbers.places.keys (place_order t) c.in_ok-numbers.numbers.starts.items _ c.as_slice.result.now _ c.rec_of-tree.result root
@@ -104,3 +116,12 @@ returns-clause-walked c = λ address k is.
     ap (λ b. walk b (bits_of 128 address)) bytes
     ∙ walked_address c.written_file_is_walked.ensures c.args.places.now t (numbers_known c.args.store.now c.rec_of-tree.ensures.sound c.args.places.now (record_of c.args.root) c.requires.root c.requires.numbers) c.in-Some.bits c.args.meta.now.epoch c.args.meta.now.name c.in_ok-bytes.ensures.typed.0 c.in_ok-bytes.ensures.typed.1 c.requires.name readable nodes c.in_ok-bytes.ensures.fits few
     c.max-count.result are (count_is c) (bits_of 128 address) (omega (arith, length-bits_of 128 address)) k is
+
+pub returns-in_default-clause-too_large : goal.returns-in_default-clause-too_large
+returns-in_default-clause-too_large c = λ _.
+    let t : Tree ℕ = tree_of c.args.store.now c.args.root in
+    let section : length c.in_ok-section.section.bytes.items ≡ length (section_for c.args.places.now t) =
+    section_len c.args.places.now t c.as_slice-leaves.result.now c.in_ok-section.section.bytes.items (c.as_slice-leaves.ensures ∙ c.in_ok-layout.ensures.leaves) c.in_ok-section.ensures.bytes in
+    let count = count_len c.args.store.now t c.as_slice-ids.result.now c.in_ok-layout.layout.nodes c.as_slice-ids.ensures c.in_ok-layout.ensures.nodes in
+    let end : c.max-count.result + 16 + c.len-len.result ≡ end_for c.args.places.now t = omega (arith, c.len-len.ensures, c.in_ok-section.section.bytes.ok.0, section, c.max-count.ensures, count) in
+    ap smallest (c.numbers_to_places.ensures.end ∙ sym end) ∙ sym c.in_default.ensures.bits
