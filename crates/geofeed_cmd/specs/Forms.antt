@@ -17,6 +17,11 @@ is_some_text text = not (is_empty text)
 abbrev pub words : List ℕ → List (List ℕ)
 words line = filter is_some_text (slice_split is_blank line)
 
+-- the pieces between blanks of what follows a blank, if one was found
+abbrev pub pieces_after_blank : Option (List ℕ) → List (List ℕ)
+pieces_after_blank None = []
+pieces_after_blank (Some text) = slice_split is_blank text
+
 -- a line without words is passed over, and so is one whose first word begins with `#`
 abbrev pub is_passed_over : List (List ℕ) → Bool
 is_passed_over [] = true

@@ -2,6 +2,8 @@
 ghost use Rattle.std.specs.Prelude.{◌≡◌, ◌⊎◌, IfErr, IfOk, Ok};
 ghost use Rattle.geofeed_cmd.specs.Job.{job};
 
+use crate::draft::Draft;
+use crate::names::is_text;
 use geo_addr::{List, Memory, Text};
 use mmdb_file::Meta;
 use std::alloc::Global;
@@ -60,15 +62,26 @@ impl From<Memory> for JobFault {
     }
 }
 
+/// The most bytes of a job.
+const LONGEST: usize = 1_048_576;
+
 /// Reads a job, whole.
 ///
 /// A job is UTF-8 text of at most 1,048,576 bytes. A byte order mark at its start and a carriage return at the end of
 /// a line are dropped. Blank lines, and lines whose first byte after blanks is `#`, are passed over. Every other line
 /// is words between blanks: `epoch N` first, then at most one `type NAME`, and then at most one `stats SLOT FILE`,
 /// behind it at most one `emit FILE`, and any number of `report`.
+#[tactic(auto, unfolding(crate::specs::Job::job))]
 pub fn read_job(alloc: Global, bytes: &[u8]) -> Result<Job, JobFault>
     ensures ok { IfOk result (λ j. job bytes.now ≡ Ok j) }
     ensures err { IfErr result (λ why. (why ≡ JobFault.Memory) ⊎ (job bytes.now ≡ Err why)) }
 {
-    Err(JobFault::Memory)
+    if bytes.len() > LONGEST {
+        return Err(JobFault::TooLong);
+    }
+    if !is_text(bytes) {
+        return Err(JobFault::Utf8);
+    }
+    let draft = Draft::of(alloc, bytes)?;
+    draft.finish(alloc)
 }

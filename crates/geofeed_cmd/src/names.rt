@@ -26,7 +26,8 @@ pub fn is_name(word: &[u8]) -> bool
 }
 
 #[tactic(auto, using(crate::proofs::TextLemmas::text_tests))]
-fn is_text(word: &[u8]) -> bool
+/// Whether bytes are UTF-8.
+pub(crate) fn is_text(word: &[u8]) -> bool
     ensures { result ≡ is_utf8 word.now }
 {
     match str::from_utf8(word) {
