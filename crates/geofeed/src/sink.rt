@@ -1,0 +1,35 @@
+//! Standard output as a sink.
+ghost use Rattle.std.specs.Prelude.{◌≡◌, None};
+
+use crate::whole::write_whole;
+use geo_outside::{OutErr, Sink};
+use std::io::Write;
+
+/// A sink over a writer, which `main` gives as standard output. It tells nothing of what was written.
+#[derive(Drop)]
+pub(crate) struct StdSink<W: Write> {
+    out: W,
+    faults: u64,
+}
+
+impl<W: Write> StdSink<W> {
+    pub(crate) fn new(out: W) -> StdSink<W> {
+        StdSink { out, faults: 0 }
+    }
+}
+
+impl<W: Write> Sink for StdSink<W> {
+    ghost written = { λ _. None };
+
+    ghost faults = { λ sink. sink.faults };
+
+    fn write_all(&mut self, piece: &[u8]) -> Result<(), OutErr> {
+        match write_whole(&mut self.out, piece) {
+            Ok(()) => Ok(()),
+            Err(_) => {
+                self.faults = self.faults.saturating_add(1);
+                Err(OutErr::Failed)
+            }
+        }
+    }
+}
