@@ -11,3 +11,6 @@ mod words;
 pub use job::{Act, Job, JobFault, Step, read_job};
 pub use names::is_name;
 pub use status::Status;
+
+#[cfg(test)]
+mod job_tests;
