@@ -1,2 +1,4 @@
+pub mod EmptyJobs
+pub mod LawLemmas
 pub mod TextLemmas
 pub mod WordLemmas

@@ -1,12 +1,12 @@
 -- The job that a text is.
-use Rattle.std.specs.Prelude.{ℕ, ◌≤◌, nat_lt, List, [], ◌∷◌, length, codes, count_by, Option, None, Some, Result, Ok, Err, unwrap_or, if◌then◌else◌}
+use Rattle.std.specs.Prelude.{ℕ, nat_lt, List, [], ◌∷◌, length, codes, Option, None, Some, Result, Ok, Err, unwrap_or, if◌then◌else◌}
 use Rattle.std.specs.Str.{is_utf8}
 use Rattle.geo_addr.specs.Lines.{numbered_lines}
 use Rattle.geofeed_cmd.specs.declared.form.Form.{Form}
 use Rattle.geofeed_cmd.specs.declared.job.Job.{Job}
 use Rattle.geofeed_cmd.specs.declared.job.JobFault.{JobFault}
 use Rattle.geofeed_cmd.specs.declared.job.JobFault.TheVariants.{TooLong, Utf8, Line, Epoch}
-use Rattle.geofeed_cmd.specs.Drafts.{DraftParts, emits, no_lines, sets_stats, with_form}
+use Rattle.geofeed_cmd.specs.Drafts.{DraftParts, no_lines, with_form}
 use Rattle.geofeed_cmd.specs.Forms.{form_of, is_passed_over, words}
 
 -- the most bytes of a job
@@ -51,8 +51,3 @@ unfoldable pub job : List ℕ → Result Job JobFault
 job bytes =
     if nat_lt longest (length bytes) then Err TooLong
     else (if is_utf8 bytes then job_of (draft_from (numbered_lines bytes) no_lines) else Err Utf8)
-
--- a job sets one statistics file at most, and emits one file at most
-pub record SetsAndEmitsOnce (j : Job) : Type 0 where
-  pub sets : count_by sets_stats j.steps ≤ 1
-  pub emitted : count_by emits j.steps ≤ 1
