@@ -5,6 +5,7 @@
 mod order;
 mod paint;
 mod ranges;
+mod write;
 
 use anyhow::{Context, bail};
 use std::env;
@@ -22,6 +23,8 @@ fn main(rt: HostRuntime) -> anyhow::Result<()> {
         "paint" => paint::run(rt.alloc(), &rt, size),
         "fill" => order::run(rt.alloc(), &rt, size, 0),
         "order" => order::run(rt.alloc(), &rt, size, ORDERED),
+        "prepare" => write::run(rt.alloc(), &rt, size, false),
+        "write" => write::run(rt.alloc(), &rt, size, true),
         _ => bail!("no case is called {case}"),
     }
 }

@@ -1,5 +1,5 @@
 //! Disjoint ranges that a case paints.
-ghost use Rattle.std.specs.Prelude.{◌≤◌, ◌<◌, ◌^◌, IfOk};
+ghost use Rattle.std.specs.Prelude.{◌≤◌, ◌<◌, ◌^◌, All, IfOk};
 ghost use Rattle.geo_bench.specs.Slots.{IsSlot};
 ghost use Rattle.trie_core.specs.Paint.{IsAscending};
 
@@ -18,7 +18,8 @@ const BASE: u128 = 0x1000_0000;
 pub(crate) fn scattered(alloc: Global, size: u32, leaves: u32) -> Result<Vec<Part>, AllocError>
     requires size { size ≤ 2 ^ 26 }
     requires leaves { 0 < leaves }
-    ensures { IfOk result (λ parts. IsAscending parts.items) }
+    ensures ascending { IfOk result (λ parts. IsAscending parts.items) }
+    ensures leaves { IfOk result (λ parts. All (λ p. p.leaf ≤ leaves) parts.items) }
 {
     let mut parts = Vec::with_capacity(alloc, size as usize)?;
     for index in 0..size {
@@ -38,7 +39,8 @@ fn mixed(index: u32) -> u32 {
 fn part_at(index: u32, leaves: u32) -> Part
     requires index { index < 2 ^ 26 }
     requires leaves { 0 < leaves }
-    ensures { IsSlot index result }
+    ensures slot { IsSlot index result }
+    ensures leaf { result.leaf ≤ leaves }
 {
     let mixed = mixed(index);
     let half = u128::from(mixed & 1) * 16;

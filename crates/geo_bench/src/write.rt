@@ -1,0 +1,83 @@
+//! The cases `prepare` and `write`: a store painted with ranges of many countries, and its file.
+ghost use Rattle.std.specs.Prelude.{◌≡◌, ◌<◌, ◌≤◌, All, length};
+ghost use Rattle.trie_core.specs.Paint.{IsAscending};
+
+use crate::ranges::{MOST, scattered};
+use anyhow::ensure;
+use geo_addr::Text;
+use geo_outside::Steps;
+use geo_terms::{Places, country_place};
+use mmdb_file::{Emitted, Meta, write_file};
+use std::alloc::Global;
+use std::io::Print;
+use std::marker::Brand;
+use std::sync::ledger::{Blank, Ledger};
+use trie_core::{Part, Store};
+
+/// Paints so many ranges with the places of 260 countries, writes the file of the store where that is
+/// wanted, and prints its sizes.
+pub fn run(alloc: Global, rt: &impl Print, size: u32, is_written: bool) -> anyhow::Result<()> {
+    ensure!(size <= MOST, "the case takes at most {MOST} ranges");
+    let places = countries(alloc)?;
+    let leaves = places.len();
+    ensure!(leaves > 0, "there are no countries");
+    let parts = scattered(alloc, size, leaves)?;
+    match written::<Brand>(alloc, &parts, &places, is_written, Blank::new(1))? {
+        Some(file) => {
+            println!(rt;
+                "nodes {} data {} bits {}",
+                file.nodes, file.section, file.bits
+            )?;
+            println!(rt; "bytes {}", file.bytes.len())?;
+        }
+        None => println!(rt; "nothing written")?,
+    }
+    Ok(())
+}
+
+// The places of the countries AA to JZ.
+fn countries(alloc: Global) -> anyhow::Result<Places> {
+    let mut places = Places::new(alloc);
+    for first in b'A'..=b'J' {
+        add_countries(alloc, &mut places, first)?;
+    }
+    Ok(places)
+}
+
+// Adds the places of the countries that begin with a letter.
+fn add_countries(alloc: Global, places: &mut Places, first: u8) -> anyhow::Result<()> {
+    for second in b'A'..=b'Z' {
+        if let Some(place) = country_place(alloc, &[first, second])? {
+            places.intern(&place)?;
+        }
+    }
+    Ok(())
+}
+
+// The file of a store that has these parts, if it is wanted.
+fn written<L: Ledger>(
+    alloc: Global,
+    parts: &[Part],
+    places: &Places,
+    is_wanted: bool,
+    blank: Blank,
+) -> anyhow::Result<Option<Emitted>>
+    requires ascending { IsAscending parts.now }
+    requires numbers { All (λ p. p.leaf ≤ length places.now) parts.now }
+    requires name { blank.name ≡ L.name }
+    requires parts { blank.parts ≡ L.parts }
+    requires some { 0 < blank.parts }
+{
+    let mut steps: Steps<L> = Steps::new(blank);
+    let mut store = Store::new(alloc);
+    let root = store.empty();
+    let root = store.paint_all(root, parts, &mut steps)?;
+    if !is_wanted {
+        return Ok(None);
+    }
+    let meta = Meta {
+        epoch: 1_700_000_000,
+        name: Text::of(alloc, "Geofeed-City")?,
+    };
+    Ok(Some(write_file(alloc, &store, root, places, &meta)?))
+}
