@@ -1,6 +1,13 @@
+pub mod Answers
+pub mod Commands
+pub mod Course
 pub mod Drafts
+pub mod Ending
 pub mod Forms
 pub mod Job
 pub mod Laws
 pub mod Names
 pub mod Said
+pub mod Refusals
+pub mod Stops
+pub mod World

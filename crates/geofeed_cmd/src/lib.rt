@@ -1,12 +1,17 @@
 //! What the program does: its job, its commands, and `run`.
 #![tactic(auto)]
 
+mod acts;
+mod course;
 mod draft;
 mod form;
 mod job;
 mod job_laws;
 mod names;
+mod refusal;
+mod spoken;
 mod status;
+mod stop;
 mod words;
 
 pub use job::{Act, Job, JobFault, Step, read_job};

@@ -1,0 +1,7 @@
+-- What the sink says of one write, of a line that ends a command.
+use Rattle.geofeed_cmd.proofs.AnswerLemmas.{closes-written}
+use Rattle.geofeed_cmd.proofs.stop.print_text.Goals as goal
+
+pub returns-clause-closed : goal.returns-clause-closed
+returns-clause-closed g c =
+    closes-written c.write_all.result _ _ _ _ _ c.args.text.now c.as_bytes.ensures.value c.write_all.ensures.ok c.write_all.ensures.part c.write_all.ensures.failed c.write_all.ensures.memory

@@ -1,0 +1,33 @@
+-- The run of a list of moves, one after another, up to the first that cannot be made.
+use Rattle.std.specs.Prelude.{◌≡◌, ℕ, List, [], ◌∷◌, take, map, slice_get, Option, Some, None}
+use Rattle.geofeed_cmd.specs.declared.job.Step.{Step}
+use Rattle.geofeed_cmd.specs.declared.stop.Halt.{Halt}
+use Rattle.geofeed_cmd.specs.World.{World, Move, does, blocked, after}
+
+-- how a list of moves comes out: all were made, or one was blocked
+pub data Outcome : Type 0 where
+  ended : World → Outcome
+  stopped : Move → Halt → World → Outcome
+
+abbrev pub unless : Option Halt → Move → World → Outcome → Outcome
+unless None move world next = next
+unless (Some why) move world next = stopped move why world
+
+-- the moves are made in order; the first one that is blocked stops them
+abbrev pub course : List Move → World → Outcome
+course [] world = ended world
+course (move ∷ moves) world = unless (blocked move world) move world (course moves (after move world))
+
+-- the run of a list goes on with more moves
+abbrev pub go_on : Outcome → List Move → Outcome
+go_on (ended world) more = course more world
+go_on (stopped move why world) more = stopped move why world
+
+-- the moves before this place were all made, they led to this world, and this is the next move
+pub record IsAt (moves : List Move) (start : World) (count : ℕ) (move : Move) (world : World) : Type 0 where
+  pub done : course (take count moves) start ≡ ended world
+  pub next : slice_get moves count ≡ Some move
+
+-- the steps of a job as moves
+abbrev pub moves_of : List Step → List Move
+moves_of steps = map does steps
