@@ -1,10 +1,9 @@
 -- What a session stands for, and the file that it emits.
-use Rattle.std.specs.Prelude.{◌≡◌, ◌+◌, ℕ, ◌^◌, nat_le, Bool, List, length, Option, Some, option_map, option_and_then}
+use Rattle.std.specs.Prelude.{◌≡◌, ◌+◌, ℕ, ◌^◌, nat_le, Bool, List, [], length, Option, None, option_map, option_and_then}
 use Rattle.geo_terms.specs.SourceForm.{StatsParts}
 use Rattle.geo_terms.specs.Sources.{InForce, no_sources}
-use Rattle.least_nodes.specs.Layout.{laid}
 use Rattle.mmdb_tree.specs.Nodes.{smallest, record_size}
-use Rattle.mmdb_file.specs.FileImage.{section, same_answer, record_tree, fresh}
+use Rattle.mmdb_file.specs.FileImage.{file_nodes, file_section, record_tree, fresh}
 use Rattle.mmdb_file.specs.declared.writing.Emitted.{Emitted}
 use Rattle.precedence.specs.SlotOrder.{placed}
 
@@ -13,6 +12,10 @@ pub record State : Type 0 where
   pub sources : InForce
   pub epoch : ℕ
   pub name : List ℕ
+
+-- statistics are the only sources
+abbrev pub StatsAlone : InForce → Type 0
+StatsAlone s = s ≡ record { dumps = []; feeds = []; stats = s.stats; overrides = None }
 
 -- a session that was just begun
 abbrev pub begun : (epoch : ℕ) (name : List ℕ) → State
@@ -31,11 +34,11 @@ pub record FileValue : Type 0 where
 
 -- the nodes of a fresh build
 unfoldable pub node_count : State → ℕ
-node_count s = length (laid same_answer (record_tree s.sources))
+node_count s = file_nodes (record_tree s.sources)
 
 -- the bytes of the data section of a fresh build
 unfoldable pub section_length : State → ℕ
-section_length s = length (section same_answer (λ answer. answer) (record_tree s.sources)).bytes
+section_length s = length (file_section (record_tree s.sources))
 
 -- whether records of 32 bits do not hold the numbers of a fresh build
 unfoldable pub is_too_large : State → Bool

@@ -1,4 +1,5 @@
 use geo_addr::Memory;
+use std::alloc::{AllocError, AllocFailed};
 use thiserror::Error;
 
 /// Why no file was emitted.
@@ -19,6 +20,28 @@ impl From<Memory> for EmitFault {
     ghost from_gives = { λ _ fault. fault ≡ EmitFault.Memory };
 
     fn from(_refused: Memory) -> EmitFault {
+        EmitFault::Memory
+    }
+}
+
+impl From<AllocError> for EmitFault {
+    ghost use Rattle.std.specs.Prelude.{◌≡◌};
+    ghost use Rattle.update_session.specs.declared.fault.EmitFault.{EmitFault};
+
+    ghost from_gives = { λ _ fault. fault ≡ EmitFault.Memory };
+
+    fn from(_refused: AllocError) -> EmitFault {
+        EmitFault::Memory
+    }
+}
+
+impl<T: Drop> From<AllocFailed<T>> for EmitFault {
+    ghost use Rattle.std.specs.Prelude.{◌≡◌};
+    ghost use Rattle.update_session.specs.declared.fault.EmitFault.{EmitFault};
+
+    ghost from_gives = { λ _ fault. fault ≡ EmitFault.Memory };
+
+    fn from(_refused: AllocFailed<T>) -> EmitFault {
         EmitFault::Memory
     }
 }

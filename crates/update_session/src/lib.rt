@@ -1,8 +1,10 @@
 //! A session: sources in force, and the file that is emitted for them.
 #![tactic(auto)]
 
+mod build;
 mod fault;
 mod session;
+mod write;
 
 pub use fault::EmitFault;
 pub use session::Session;

@@ -1,6 +1,8 @@
 //! A session over sources.
 
+use crate::build::build_tree;
 use crate::fault::EmitFault;
+use crate::write::write;
 use geo_addr::Memory;
 use geo_outside::Steps;
 use geo_terms::{Note, Stats};
@@ -22,13 +24,13 @@ pub struct Session {
 
 impl Model for Session {
     ghost use Rattle.std.specs.Prelude.{◌≤◌, length};
-    ghost use Rattle.update_session.specs.State.{State};
+    ghost use Rattle.update_session.specs.State.{State, StatsAlone};
 
     ghost Value = { State };
 
     ghost view = { λ s. record { sources = s.sources; epoch = s.meta.epoch; name = s.meta.name } };
 
-    ghost invariant = { λ s. length s.meta.name ≤ 64 };
+    ghost invariant = { λ s. (length s.meta.name ≤ 64) × StatsAlone s.sources };
 }
 
 impl Session {
@@ -73,6 +75,7 @@ impl Session {
     }
 
     /// The file of a fresh build of the sources in force.
+    #[tactic(auto, unfolding(crate::specs::Touch::bound))]
     pub fn emit<L: Ledger>(&mut self, steps: &mut Steps<L>) -> Result<Emitted, EmitFault>
         ensures file { IfOk result (λ file. file_of self.old ≡ Some (value_of file)) }
 
@@ -89,8 +92,13 @@ impl Session {
         ensures few_ticks { steps.new ≤ steps.old + bound self.old }
         ensures same { self.new ≡ self.old }
     {
-        let _alloc = self.alloc;
-        let _ = &steps;
-        Err(EmitFault::Memory)
+        let built = build_tree(self.alloc, &self.sources, steps)?;
+        write(
+            self.alloc,
+            &built.store,
+            &built.places,
+            built.root,
+            &self.meta,
+        )
     }
 }

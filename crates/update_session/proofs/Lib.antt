@@ -1,0 +1,4 @@
+pub mod BuildLemmas
+pub mod SourceLemmas
+pub mod TouchLemmas
+pub mod WriteLemmas
