@@ -4,3 +4,6 @@ pub mod TextLemmas
 pub mod WordLemmas
 pub mod CourseLemmas
 pub mod AnswerLemmas
+pub mod JsonTexts
+pub mod JsonViews
+pub mod LookupLemmas

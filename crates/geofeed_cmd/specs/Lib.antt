@@ -11,3 +11,6 @@ pub mod Said
 pub mod Refusals
 pub mod Stops
 pub mod World
+pub mod Json
+pub mod JsonData
+pub mod Lookup
