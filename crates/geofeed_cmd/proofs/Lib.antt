@@ -7,3 +7,4 @@ pub mod AnswerLemmas
 pub mod JsonTexts
 pub mod JsonViews
 pub mod LookupLemmas
+pub mod NameLimit

@@ -2,6 +2,8 @@
 #![tactic(auto)]
 
 mod acts;
+mod build;
+mod command;
 mod course;
 mod draft;
 mod form;
@@ -16,6 +18,7 @@ mod stop;
 mod value_json;
 mod words;
 
+pub use command::run;
 pub use job::{Act, Job, JobFault, Step, read_job};
 pub use job_laws::{
     accepted_job_says_its_lines, accepted_job_sets_once_emits_once, only_passed_lines_have_no_epoch,

@@ -1,0 +1,99 @@
+-- The database type of an accepted job is short.
+use Rattle.std.proofs.Common.{◌≡◌, ℕ, ◌^◌, ◌≤◌, ◌&&◌, Bool, true, false, List, [], ◌∷◌, length, refl, sym, ◌∙◌, ap, subst, arith, rules, lit≤}
+use Rattle.std.specs.Prelude.{Option, Some, None, Ok, nat_le, nat_lt, if◌then◌else◌, codes}
+use Rattle.std.specs.List.{filter_map, list_all, cons_option}
+use Rattle.geo_addr.specs.Decimals.{decimal}
+use Rattle.geo_addr.specs.Lines.{numbered_lines}
+use Rattle.geo_terms.specs.PlaceForm.{same_text}
+use Rattle.geofeed_cmd.specs.declared.form.Form.{Form}
+use Rattle.geofeed_cmd.specs.declared.form.Form.TheVariants.{Epoch, TypeName, Do}
+use Rattle.geofeed_cmd.specs.declared.job.Act.TheVariants.{Stats, Emit, Report}
+use Rattle.geofeed_cmd.specs.declared.job.Job.{Job}
+use Rattle.geofeed_cmd.specs.Forms.{form_of, form_of_one, form_of_two, form_of_three, type_form, epoch_form, epoch_of, emit_form, stats_form, is_passed_over, words}
+use Rattle.geofeed_cmd.specs.Job.{default_name}
+use Rattle.geofeed_cmd.specs.Names.{is_type_name, is_name, is_slot, is_visible}
+use Rattle.geofeed_cmd.specs.Said.{SaysItsLines, form_said, is_only, name_in, name_said}
+
+-- the name that a form gives, if it gives one, is short
+abbrev IsShort : Option Form → Type 0
+IsShort None = Unit {0}
+IsShort (Some (Epoch n)) = Unit {0}
+IsShort (Some (TypeName name)) = length name ≤ 64
+IsShort (Some (Do act)) = Unit {0}
+
+either : (b : Bool) (x y : Option Form) → IsShort x → IsShort y → IsShort (if b then x else y)
+either true x y short short' = short
+either false x y short short' = short'
+
+both : (a b : Bool) → a && b ≡ true → (a ≡ true) × (b ≡ true)
+both true b h = (refl, h)
+both false b h = absurd (cc)
+
+type-limit : (name : List ℕ) → is_type_name name ≡ true → length name ≤ 64
+unfolding is_type_name
+type-limit name h =
+    let front : nat_le 1 (length name) && nat_le (length name) 64 ≡ true = (both (nat_le 1 (length name) && nat_le (length name) 64) (list_all is_visible name) h).0 in
+    let last : nat_le (length name) 64 ≡ true = (both (nat_le 1 (length name)) (nat_le (length name) 64) front).1 in
+    search (rules, last)
+
+type-short : (name : List ℕ) (b : Bool) → is_type_name name ≡ b → IsShort (if b then Some (TypeName name) else None)
+type-short name true h = type-limit name h
+type-short name false h = tt
+
+epoch-short : (n : Option ℕ) → IsShort (epoch_of n)
+epoch-short None = tt
+epoch-short (Some n) = either (nat_lt n (2 ^ 64)) (Some (Epoch n)) None tt tt
+
+two-short : (word rest : List ℕ) → IsShort (form_of_two word rest)
+unfolding form_of_two
+two-short word rest =
+    either (same_text word (codes "epoch")) (epoch_form rest) _ (epoch-short (decimal 1 20 rest))
+    (either (same_text word (codes "type")) (type_form rest) _ (type-short rest (is_type_name rest) refl)
+    (either (same_text word (codes "emit")) (emit_form rest) None (either (is_name rest) (Some (Do (Emit rest))) None tt tt) tt))
+
+three-short : (word first second : List ℕ) → IsShort (form_of_three word first second)
+unfolding form_of_three
+three-short word first second =
+    either (same_text word (codes "stats")) (stats_form first second) None (either (is_slot first && is_name second) (Some (Do (Stats first second))) None tt tt) tt
+
+one-short : (word : List ℕ) → IsShort (form_of_one word)
+unfolding form_of_one
+one-short word = either (same_text word (codes "report")) (Some (Do Report)) None tt tt
+
+form-short : (said : List (List ℕ)) → IsShort (form_of said)
+form-short [] = tt
+form-short (word ∷ []) = one-short word
+form-short (word ∷ a ∷ []) = two-short word a
+form-short (word ∷ a ∷ b ∷ []) = three-short word a b
+form-short (word ∷ a ∷ b ∷ c ∷ more) = tt
+
+name-short : (form : Option Form) (name : List ℕ) → IsShort form → name_in form ≡ Some name → length name ≤ 64
+name-short None name short h = absurd (cc)
+name-short (Some (Epoch n)) name short h = absurd (cc)
+name-short (Some (TypeName other)) name short h = let same : other ≡ name = cc in subst (λ n. length n ≤ 64) same short
+name-short (Some (Do act)) name short h = absurd (cc)
+
+said-short : (line : ℕ × List ℕ) (name : List ℕ) → name_said line ≡ Some name → length name ≤ 64
+said-short line name h =
+    name-short (form_said line.1) name (either (is_passed_over (words line.1)) None (form_of (words line.1)) tt (form-short (words line.1))) h
+
+abbrev AllShort : List (List ℕ) → Type 0
+AllShort [] = Unit {0}
+AllShort (name ∷ names) = (length name ≤ 64) × AllShort names
+
+cons-short : (found : Option (List ℕ)) (names : List (List ℕ)) → ((name : List ℕ) → found ≡ Some name → length name ≤ 64) → AllShort names → AllShort (cons_option found names)
+cons-short None names short all = all
+cons-short (Some name) names short all = (short name refl, all)
+
+names-short : (lines : List (ℕ × List ℕ)) → AllShort (filter_map name_said lines)
+names-short [] = tt
+names-short (line ∷ lines) = cons-short (name_said line) (filter_map name_said lines) (said-short line) (names-short lines)
+
+only-short : (name : List ℕ) (names : List (List ℕ)) → is_only name names → AllShort names → length name ≤ 64
+only-short name [] only all = rw only (lit≤ tt)
+only-short name (one ∷ []) only all = rw only (all.0)
+only-short name (one ∷ two ∷ more) only all = absurd only
+
+-- the database type of a job has at most 64 bytes
+pub type_is_short : (bytes : List ℕ) (j : Job) → SaysItsLines bytes j → length j.meta.name ≤ 64
+type_is_short bytes j says = only-short j.meta.name (filter_map name_said (numbered_lines bytes)) says.name (names-short (numbered_lines bytes))
