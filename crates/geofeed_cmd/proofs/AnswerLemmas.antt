@@ -192,13 +192,13 @@ comes_stop command first list start old new plan unspent why at step mid faults 
     (leaves why stop.move stop.world old new mid faults stop.printed said rises) steps puts puts_now put sink
 
 -- a command that is refused before its first move
-comes-refused : (command : Option Command) (first : Told) (status : Status) (line : List ℕ) (old new : Seen) → plan_of first command ≡ refused status line → new.told ≡ Some first
+pub comes-refused : (command : Option Command) (first : Told) (status : Status) (line : List ℕ) (old new : Seen) → plan_of first command ≡ refused status line → new.told ≡ Some first
     → EndsWith old new [] line → new.steps ≤ old.steps → ComesTo (ending first command) status old new
 comes-refused command first status line old new plan files closed steps =
     subst (λ end. ComesTo end status old new) (sym (ap (ending_by first) plan))
     (record { same = refl; files = files; printed = closed; steps = let e : new.steps ≤ old.steps + 0 = omega arith in e })
 
-prints-nothing : (old new : Option (List ℕ)) (faults faults_now : ℕ) → Closes old new faults faults_now [] [] → Prints old new []
+pub prints-nothing : (old new : Option (List ℕ)) (faults faults_now : ℕ) → Closes old new faults faults_now [] [] → Prints old new []
 prints-nothing old new faults faults_now closed before was =
     elim (closed before was) [
       | inl whole ↦ whole

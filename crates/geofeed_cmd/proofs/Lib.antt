@@ -8,3 +8,4 @@ pub mod JsonTexts
 pub mod JsonViews
 pub mod LookupLemmas
 pub mod NameLimit
+pub mod LookupAnswers

@@ -1,17 +1,20 @@
 -- How a command comes out where nothing outside of it fails.
-use Rattle.std.specs.Prelude.{◌≡◌, ℕ, ◌+◌, List, [], ◌∷◌, ◌++◌, codes, decimal, Option, Some, None, Result, Ok, Err}
+use Rattle.std.specs.Prelude.{◌≡◌, ℕ, ◌+◌, nat_lt, if◌then◌else◌, List, [], ◌∷◌, ◌++◌, length, codes, decimal, Option, Some, None, Result, Ok, Err}
 use Rattle.std.specs.FinMap as map
 use Rattle.geo_outside.specs.Files.{Told}
 use Rattle.update_session.specs.State.{begun}
 use Rattle.geofeed_cmd.specs.declared.job.Job.{Job}
 use Rattle.geofeed_cmd.specs.declared.job.JobFault.{JobFault}
 use Rattle.geofeed_cmd.specs.declared.job.JobFault.TheVariants as job_faults
+use Rattle.geofeed_cmd.specs.declared.lookup.LookupFault.{LookupFault}
+use Rattle.geofeed_cmd.specs.declared.lookup.LookupFault.TheVariants as lookup_faults
 use Rattle.geofeed_cmd.specs.declared.status.Status.{Status}
 use Rattle.geofeed_cmd.specs.declared.status.Status.TheVariants as statuses
 use Rattle.geofeed_cmd.specs.declared.stop.Halt.{Halt}
 use Rattle.geofeed_cmd.specs.declared.stop.Halt.TheVariants.{Missing, TooLong, TooMany, TooLarge, ReadFailed, PutFailed, SinkFailed, Memory}
-use Rattle.geofeed_cmd.specs.Commands.{Command, build}
+use Rattle.geofeed_cmd.specs.Commands.{Command, build, lookup}
 use Rattle.geofeed_cmd.specs.Job.{job}
+use Rattle.geofeed_cmd.specs.Lookup.{answer, file_line}
 use Rattle.geofeed_cmd.specs.World.{World, Move, does, shows, cost, file_of_move}
 use Rattle.geofeed_cmd.specs.Course.{Outcome, ended, stopped, course, moves_of, IsAt}
 
@@ -95,10 +98,38 @@ abbrev pub build_plan : Told → (name : List ℕ) → Option (List ℕ) → Pla
 build_plan first name None = refused statuses.Missing (missing_line name)
 build_plan first name (Some bytes) = job_plan first (job bytes)
 
+-- a lookup has no session: there are the files alone
+abbrev pub alone : Told → World
+alone first = record { told = first; state = begun 0 []; text = []; spent = 0 }
+
+-- the most bytes of a file that is looked up in
+abbrev pub longest_file : ℕ
+longest_file = 1073741824
+
+abbrev pub lookup_status : LookupFault → Status
+lookup_status lookup_faults.NoMarker = statuses.File
+lookup_status lookup_faults.Metadata = statuses.File
+lookup_status lookup_faults.Version = statuses.File
+lookup_status lookup_faults.TreeCut = statuses.File
+lookup_status lookup_faults.NotEnded = statuses.File
+lookup_status lookup_faults.OutOfSection = statuses.File
+lookup_status (lookup_faults.Value place cause) = statuses.File
+lookup_status lookup_faults.Memory = statuses.Memory
+
+-- a lookup makes one move: it shows its answer
+abbrev pub answer_plan : Told → Result (List ℕ) LookupFault → Plan
+answer_plan first (Err fault) = refused (lookup_status fault) (file_line fault)
+answer_plan first (Ok text) = planned (shows text ∷ []) (alone first)
+
+abbrev pub lookup_plan : Told → (name : List ℕ) → (address : ℕ) → Option (List ℕ) → Plan
+lookup_plan first name address None = refused statuses.Missing (missing_line name)
+lookup_plan first name address (Some bytes) = if nat_lt longest_file (length bytes) then refused statuses.Source (bytes_line 0) else answer_plan first (answer bytes address)
+
 -- what a command is to do where the folder first tells this
 abbrev pub plan_of : Told → Option Command → Plan
 plan_of first None = refused statuses.Words words_line
 plan_of first (Some (build name)) = build_plan first name (map.get first.held name)
+plan_of first (Some (lookup name address)) = lookup_plan first name address (map.get first.held name)
 
 -- how a command comes out: its status, what the folder tells then, the text that is printed, the stop line behind it, and how many steps may be taken
 pub record Ending : Type 0 where

@@ -14,3 +14,4 @@ pub mod World
 pub mod Json
 pub mod JsonData
 pub mod Lookup
+pub mod Unanswered

@@ -10,6 +10,7 @@ mod form;
 mod job;
 mod job_laws;
 mod lookup;
+mod lookup_command;
 mod names;
 mod refusal;
 mod spoken;

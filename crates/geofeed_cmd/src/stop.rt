@@ -102,7 +102,7 @@ fn write_line(alloc: Global, name: &str) -> Result<Text, Memory>
 }
 
 #[tactic(auto, unfolding(crate::specs::Ending::bytes_line))]
-fn bytes_line(alloc: Global, line: u64) -> Result<Text, Memory>
+pub(crate) fn bytes_line(alloc: Global, line: u64) -> Result<Text, Memory>
     ensures { IfOk result (λ text. text ≡ bytes_line line) }
 {
     let text = format!(in alloc; "stop source {line} bytes\n")?;
