@@ -6,6 +6,7 @@ ghost use Rattle.geofeed_cmd.specs.Answers.{Comes, seen};
 ghost use Rattle.geofeed_cmd.specs.Commands.{command_of};
 
 use crate::build::build;
+use crate::lookup_command::lookup;
 use crate::spoken::{Spoken, command_in};
 use crate::status::Status;
 use crate::stop::{print_line, words_line};
@@ -14,7 +15,8 @@ use std::alloc::Global;
 use std::sync::ledger::Ledger;
 use std::thread::Threads;
 
-/// Does the command that the words are: `build JOB` does the job in the file JOB.
+/// Does the command that the words are: `build JOB` does the job in the file JOB, and `lookup FILE ADDR`
+/// prints what FILE says of the address ADDR.
 ///
 /// Files are read and put by `folder`, and what is printed goes to `out`.
 pub fn run<R: Threads, F: Folder, O: Sink, G: Gate, L: Ledger>(
@@ -38,6 +40,7 @@ pub fn run<R: Threads, F: Folder, O: Sink, G: Gate, L: Ledger>(
 {
     match command_in(words) {
         Some(Spoken::Build(name)) => build(alloc, name, folder, out, steps),
+        Some(Spoken::Lookup(name, at)) => lookup(alloc, name, at, folder, out),
         None => {
             print_line(out, words_line(alloc));
             Status::Words
