@@ -2,9 +2,11 @@
 //! What a case prints is counts and no times, so that its output is the same wherever it runs.
 #![tactic(auto)]
 
+mod emit;
 mod order;
 mod paint;
 mod ranges;
+mod registries;
 mod write;
 
 use anyhow::{Context, bail};
@@ -23,6 +25,8 @@ fn main(rt: HostRuntime) -> anyhow::Result<()> {
         "paint" => paint::run(rt.alloc(), &rt, size),
         "fill" => order::run(rt.alloc(), &rt, size, 0),
         "order" => order::run(rt.alloc(), &rt, size, ORDERED),
+        "read" => emit::run(rt.alloc(), &rt, size, false),
+        "emit" => emit::run(rt.alloc(), &rt, size, true),
         "prepare" => write::run(rt.alloc(), &rt, size, false),
         "write" => write::run(rt.alloc(), &rt, size, true),
         _ => bail!("no case is called {case}"),

@@ -29,7 +29,7 @@ pub(crate) fn scattered(alloc: Global, size: u32, leaves: u32) -> Result<Vec<Par
 }
 
 // A number that looks as if it did not come from the index, so that neighbours seldom share a node.
-fn mixed(index: u32) -> u32 {
+pub(crate) fn mixed(index: u32) -> u32 {
     let once = (index ^ index >> 16).wrapping_mul(0x7feb_352d);
     let twice = (once ^ once >> 15).wrapping_mul(0x846c_a68b);
     twice ^ twice >> 16
