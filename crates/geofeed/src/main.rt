@@ -5,16 +5,14 @@ ghost use Rattle.std.specs.Prelude.{◌≡◌, ◌<◌};
 
 mod folder;
 mod sink;
-mod stand_in;
 #[cfg(test)]
 mod tests;
 mod whole;
 
 use crate::folder::DirFolder;
 use crate::sink::StdSink;
-use crate::stand_in::run;
 use geo_outside::{OpenGate, Sink, Steps};
-use geofeed_cmd::Status;
+use geofeed_cmd::{Status, run};
 use std::env::Env;
 use std::fs::Files;
 use std::io::{Eprint, ErrorKind, Print};
