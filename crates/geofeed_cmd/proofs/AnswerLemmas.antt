@@ -17,7 +17,7 @@ use Rattle.geofeed_cmd.specs.declared.status.Status.{Status}
 use Rattle.geofeed_cmd.specs.declared.status.Status.TheVariants as statuses
 use Rattle.geofeed_cmd.specs.declared.stop.Halt.{Halt}
 use Rattle.geofeed_cmd.specs.declared.stop.Halt.TheVariants as halts
-use Rattle.geofeed_cmd.specs.Answers.{Seen, Closes, EndsWith, Announces, ComesTo, IsDone, Leaves, StopsIn, IsUnput, IsUnprintedAt, IsUnread, IsUnchanged, IsSpentAt, Comes, IsFault, read, write, memory, Spends, IsAnswer}
+use Rattle.geofeed_cmd.specs.Answers.{Seen, Closes, EndsWith, Announces, ComesTo, IsDone, Leaves, StopsIn, IsUnput, IsUnprintedAt, IsUnread, IsUnchanged, Comes, IsFault, read, write, memory, IsAnswer}
 use Rattle.geofeed_cmd.specs.Commands.{Command, build}
 use Rattle.geofeed_cmd.specs.Course.{Outcome, ended, stopped, course, moves_of, IsAt}
 use Rattle.geofeed_cmd.specs.Drafts.{no_lines}
@@ -27,6 +27,7 @@ use Rattle.geofeed_cmd.specs.Refusals.{IsRefusal, refusal_line, refusal_status}
 use Rattle.geofeed_cmd.specs.Stops.{Prints, PrintsPart, Tail, Halts, IsBlocked, IsSpent, DoesAll, StopsAt, Publishes}
 use Rattle.geofeed_cmd.specs.World.{World, Move, does, blocked, prints, cost}
 use Rattle.geofeed_cmd.proofs.CourseLemmas.{course_blocked}
+use Rattle.geofeed_cmd.proofs.LimitLemmas.{reached_cheap}
 
 pub append-nil : (xs : List ℕ) → xs ++ [] ≡ xs
 append-nil [] = refl
@@ -104,8 +105,8 @@ module _ (command : Option Command) (first : Told) (moves : List Move) (start : 
   by_cause halts.TooMany at move world there files left steps puts puts_now put sink = comes-blocked halts.TooMany at move world there files left steps
   by_cause halts.TooLarge at move world there files left steps puts puts_now put sink =
       elim files [
-        | inl stop ↦ inl (comes-blocked halts.TooLarge at move world there stop left steps)
-        | inr spent ↦ inr (record { move = move; world = world; there = reached at move world there; files = spent; printed = left; steps = steps })
+        | inl stop ↦ comes-blocked halts.TooLarge at move world there stop left steps
+        | inr spent ↦ let cheap = reached_cheap command first moves start plan at move world there in absurd (omega (arith, cheap, spent.spent))
       ]
   by_cause halts.ReadFailed at move world there files left steps puts puts_now put sink =
       inr (record { move = move; world = world; there = reached at move world there; files = files; printed = left; steps = steps })
@@ -116,21 +117,19 @@ module _ (command : Option Command) (first : Told) (moves : List Move) (start : 
   by_cause halts.Memory at move world there files left steps puts puts_now put sink =
       inr (record { move = move; world = world; there = reached at move world there; files = files; printed = left; steps = steps })
 
--- the answer of a command is that of its ending, or it yields
-pub answered : (status : Status) (command : Option Command) (first : Told) (old new : Seen) (puts puts_now : ℕ) → Comes status command first old new puts puts_now → IsAnswer (ending first command).status status command first
-answered statuses.Done command first old new puts puts_now done = inl (ap (λ e. e.status) (ap (ending_by first) done.plan ∙ ap ending_of done.all))
-answered statuses.Memory command first old new puts puts_now comes = inr (inl memory)
+-- the answer of a command is that of its ending, or every answer yields to it
+pub answered : (status : Status) (command : Option Command) (first : Told) (old new : Seen) (puts puts_now : ℕ) → Comes status command first old new puts puts_now
+    → IsAnswer (ending first command).status status
+answered statuses.Done command first old new puts puts_now done =
+    inl (ap (λ e. e.status) (ap (ending_by first) done.plan ∙ ap ending_of done.all))
+answered statuses.Memory command first old new puts puts_now comes = inr memory
 answered statuses.Words command first old new puts puts_now comes = inl comes.same
-answered statuses.ReadFault command first old new puts puts_now comes = inr (inl read)
+answered statuses.ReadFault command first old new puts puts_now comes = inr read
 answered statuses.Missing command first old new puts puts_now comes = inl comes.same
-answered statuses.WriteFault command first old new puts puts_now comes = inr (inl write)
+answered statuses.WriteFault command first old new puts puts_now comes = inr write
 answered statuses.Job command first old new puts puts_now comes = inl comes.same
 answered statuses.Source command first old new puts puts_now comes = inl comes.same
-answered statuses.TooLarge command first old new puts puts_now comes =
-    elim comes [
-      | inl ending_comes ↦ inl ending_comes.same
-      | inr spent ↦ inr (inr (refl, record { move = spent.move; world = spent.world; there = spent.there; spent = spent.files.spent }))
-    ]
+answered statuses.TooLarge command first old new puts puts_now comes = inl comes.same
 answered statuses.File command first old new puts puts_now comes = inl comes.same
 answered statuses.Drop command first old new puts puts_now comes = inl comes.same
 

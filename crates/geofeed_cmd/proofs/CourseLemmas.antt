@@ -48,3 +48,14 @@ course_next moves start count move world there free =
     ∙ course-append (take count moves) (move ∷ []) start
     ∙ ap (λ outcome. go_on outcome (move ∷ [])) there.done
     ∙ ap (λ b. unless b move world (ended (after move world))) free
+
+-- a run that ends is blocked nowhere
+pub course_free : (moves : List Move) (start last : World) (count : ℕ) (move : Move) (world : World) → course moves start ≡ ended last → IsAt moves start count move world → blocked move world ≡ None
+course_free moves start last count move world all there =
+    let led : unless (blocked move world) move world (course (drop (suc count) moves) (after move world)) ≡ ended last = sym (course_from moves start count move world there) ∙ all in
+    let go : (b : Option Halt) → blocked move world ≡ b → unless b move world (course (drop (suc count) moves) (after move world)) ≡ ended last → blocked move world ≡ None =
+    λ b. elim b as (λ (b : Option Halt). blocked move world ≡ b → unless b move world (course (drop (suc count) moves) (after move world)) ≡ ended last → blocked move world ≡ None) [
+      | None ↦ λ free ends. free
+      | Some why ↦ λ blocks ends. absurd (cc)
+    ] in
+    go (blocked move world) refl led

@@ -9,3 +9,6 @@ pub mod JsonViews
 pub mod LookupLemmas
 pub mod NameLimit
 pub mod LookupAnswers
+pub mod LimitLemmas
+pub mod CauseLemmas
+pub mod HeadlineLemmas

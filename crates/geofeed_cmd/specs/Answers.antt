@@ -8,7 +8,7 @@ use Rattle.geofeed_cmd.specs.declared.stop.Halt.{Halt}
 use Rattle.geofeed_cmd.specs.declared.stop.Halt.TheVariants as halts
 use Rattle.geofeed_cmd.specs.World.{World, Move, prints, cost}
 use Rattle.geofeed_cmd.specs.Course.{course, ended}
-use Rattle.geofeed_cmd.specs.Stops.{Prints, PrintsPart, Halts, IsSpent, Publishes}
+use Rattle.geofeed_cmd.specs.Stops.{Prints, PrintsPart, Halts, Publishes}
 use Rattle.geofeed_cmd.specs.Commands.{Command, file_first}
 use Rattle.geofeed_cmd.specs.Ending.{Ending, Reaches, ending, plan_of, planned, read_line, stop_line}
 
@@ -108,15 +108,6 @@ pub record IsUnchanged (first : Told) (old new : Seen) : Type 0 where
   pub printed : Prints old.written new.written []
   pub steps : new.steps ≤ old.steps
 
--- an emit that was reached may take too many steps
-pub record IsSpentAt (command : Option Command) (first : Told) (old new : Seen) : Type 0 where
-  pub move : Move
-  pub world : World
-  pub there : Reaches command first move world
-  pub files : IsSpent move world new.told
-  pub printed : EndsWith old new world.text (stop_line halts.TooLarge move)
-  pub steps : new.steps ≤ old.steps + (world.spent + cost move world.state)
-
 -- what there is at each status
 abbrev pub Comes : Status → (command : Option Command) → (first : Told) → (old new : Seen) → (put_faults put_faults_now : ℕ) → Type 0
 Comes statuses.Done command first old new puts puts_now = IsDone command first old new
@@ -127,23 +118,16 @@ Comes statuses.Missing command first old new puts puts_now = ComesTo (ending fir
 Comes statuses.WriteFault command first old new puts puts_now = IsUnput command first old new puts puts_now ⊎ IsUnprintedAt command first old new
 Comes statuses.Job command first old new puts puts_now = ComesTo (ending first command) statuses.Job old new
 Comes statuses.Source command first old new puts puts_now = ComesTo (ending first command) statuses.Source old new
-Comes statuses.TooLarge command first old new puts puts_now = ComesTo (ending first command) statuses.TooLarge old new ⊎ IsSpentAt command first old new
+Comes statuses.TooLarge command first old new puts puts_now = ComesTo (ending first command) statuses.TooLarge old new
 Comes statuses.File command first old new puts puts_now = ComesTo (ending first command) statuses.File old new
 Comes statuses.Drop command first old new puts puts_now = ComesTo (ending first command) statuses.Drop old new
 
--- the answers that yield to what fails outside, or to want of memory
+-- the answers that every other one yields to: what failed outside, and want of memory
 pub data IsFault : Status → Type 0 where
   read : IsFault statuses.ReadFault
   write : IsFault statuses.WriteFault
   memory : IsFault statuses.Memory
 
--- some emit that is reached may take too many steps
-pub record Spends (command : Option Command) (first : Told) : Type 0 where
-  pub move : Move
-  pub world : World
-  pub there : Reaches command first move world
-  pub spent : 2 ^ 32 - 1 ≤ world.spent + cost move world.state
-
--- the answer is that of the ending, or it yields
-abbrev pub IsAnswer : Status → Status → (command : Option Command) → (first : Told) → Type 0
-IsAnswer ending_status answer command first = (ending_status ≡ answer) ⊎ (IsFault answer ⊎ ((answer ≡ statuses.TooLarge) × Spends command first))
+-- the answer is that of the ending, or every answer yields to it
+abbrev pub IsAnswer : (wanted answer : Status) → Type 0
+IsAnswer wanted answer = (wanted ≡ answer) ⊎ IsFault answer

@@ -1,4 +1,5 @@
 pub mod Answers
+pub mod Causes
 pub mod Commands
 pub mod Course
 pub mod Drafts
@@ -10,6 +11,7 @@ pub mod Names
 pub mod Said
 pub mod Refusals
 pub mod Stops
+pub mod Values
 pub mod World
 pub mod Json
 pub mod JsonData

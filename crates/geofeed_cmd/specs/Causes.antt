@@ -1,0 +1,59 @@
+-- The causes of the answers, in the words of the job alone.
+use Rattle.std.specs.Prelude.{◌≡◌, ◌≢◌, ℕ, ◌⊎◌, List, Option, Some, None, Err}
+use Rattle.std.specs.FinMap as map
+use Rattle.geo_outside.specs.Files.{Told}
+use Rattle.geofeed_cmd.specs.declared.job.JobFault.{JobFault}
+use Rattle.geofeed_cmd.specs.declared.job.JobFault.TheVariants as job_faults
+use Rattle.geofeed_cmd.specs.declared.status.Status.{Status}
+use Rattle.geofeed_cmd.specs.declared.status.Status.TheVariants as statuses
+use Rattle.geofeed_cmd.specs.declared.stop.Halt.{Halt}
+use Rattle.geofeed_cmd.specs.declared.stop.Halt.TheVariants as halts
+use Rattle.geofeed_cmd.specs.Commands.{Command, build, file_first}
+use Rattle.geofeed_cmd.specs.Course.{IsAt}
+use Rattle.geofeed_cmd.specs.Ending.{plan_of, planned, Reaches}
+use Rattle.geofeed_cmd.specs.Job.{job}
+use Rattle.geofeed_cmd.specs.World.{World, Move, blocked}
+
+-- the command has a plan, and no move that it reaches is blocked: the job is held and accepted, the files that it sets are there and within their limits, and the file that it emits is not too large
+pub record IsFree (command : Option Command) (first : Told) : Type 0 where
+  pub moves : List Move
+  pub start : World
+  pub plan : plan_of first command ≡ planned moves start
+  pub free : (count : ℕ) (move : Move) (world : World) → IsAt moves start count move world → blocked move world ≡ None
+
+-- the file that the command reads first is not there
+pub record IsAbsent (command : Option Command) (first : Told) : Type 0 where
+  pub known : Command
+  pub commanded : command ≡ Some known
+  pub absent : map.get first.held (file_first known) ≡ None
+
+-- the job is refused
+pub record IsNoJob (command : Option Command) (first : Told) : Type 0 where
+  pub name : List ℕ
+  pub bytes : List ℕ
+  pub fault : JobFault
+  pub commanded : command ≡ Some (build name)
+  pub held : map.get first.held name ≡ Some bytes
+  pub refusal : job bytes ≡ Err fault
+  pub found : fault ≢ job_faults.Memory
+
+-- the first move that is blocked is so for this
+pub record IsBlockedFor (why : Halt) (command : Option Command) (first : Told) : Type 0 where
+  pub move : Move
+  pub world : World
+  pub there : Reaches command first move world
+  pub cause : blocked move world ≡ Some why
+
+-- the cause of each answer that is decided by the words and by what the folder first tells
+abbrev pub Causes : Status → Option Command → (first : Told) → Type 0
+Causes statuses.Done command first = IsFree command first
+Causes statuses.Memory command first = ⊥
+Causes statuses.Words command first = command ≡ None
+Causes statuses.ReadFault command first = ⊥
+Causes statuses.Missing command first = IsAbsent command first ⊎ IsBlockedFor halts.Missing command first
+Causes statuses.WriteFault command first = ⊥
+Causes statuses.Job command first = IsNoJob command first
+Causes statuses.Source command first = IsBlockedFor halts.TooLong command first ⊎ IsBlockedFor halts.TooMany command first
+Causes statuses.TooLarge command first = IsBlockedFor halts.TooLarge command first
+Causes statuses.File command first = ⊥
+Causes statuses.Drop command first = ⊥
