@@ -1,22 +1,25 @@
 -- Each answer that is no fault has its cause, and a cause has no other answer.
-use Rattle.std.proofs.Common.{◌≡◌, ◌≢◌, ℕ, zero, suc, ◌⊎◌, inl, inr, List, [], ◌∷◌, take, refl, sym, ◌∙◌, ap, subst}
-use Rattle.std.specs.Prelude.{Option, Some, None, Result, Ok, Err, slice_get}
+use Rattle.std.proofs.Common.{◌≡◌, ◌≢◌, ◌≤◌, ◌<◌, ℕ, zero, suc, ◌⊎◌, inl, inr, Bool, true, false, nat_lt, List, [], ◌∷◌, length, take, refl, sym, ◌∙◌, ap, subst, rules}
+use Rattle.std.specs.Prelude.{Option, Some, None, Result, Ok, Err, slice_get, if◌then◌else◌}
 use Rattle.std.specs.FinMap as map
 use Rattle.geo_outside.specs.Files.{Told}
 use Rattle.geofeed_cmd.specs.declared.job.Job.{Job}
 use Rattle.geofeed_cmd.specs.declared.job.JobFault.{JobFault}
 use Rattle.geofeed_cmd.specs.declared.job.JobFault.TheVariants as job_faults
+use Rattle.geofeed_cmd.specs.declared.lookup.LookupFault.{LookupFault}
+use Rattle.geofeed_cmd.specs.declared.lookup.LookupFault.TheVariants as lookup_faults
 use Rattle.geofeed_cmd.specs.declared.status.Status.{Status}
 use Rattle.geofeed_cmd.specs.declared.status.Status.TheVariants as statuses
 use Rattle.geofeed_cmd.specs.declared.stop.Halt.{Halt}
 use Rattle.geofeed_cmd.specs.declared.stop.Halt.TheVariants as halts
 use Rattle.geofeed_cmd.specs.Answers.{IsFault, read, write, memory, IsAnswer}
-use Rattle.geofeed_cmd.specs.Causes.{IsFree, IsAbsent, IsNoJob, IsBlockedFor, Causes}
-use Rattle.geofeed_cmd.specs.Commands.{Command, build, file_first}
+use Rattle.geofeed_cmd.specs.Causes.{IsFree, IsAbsent, IsNoJob, IsBlockedFor, IsOverLimit, IsDamaged, Causes}
+use Rattle.geofeed_cmd.specs.Commands.{Command, build, lookup, file_first}
 use Rattle.geofeed_cmd.specs.Course.{Outcome, ended, stopped, unless, course, moves_of, IsAt}
-use Rattle.geofeed_cmd.specs.Ending.{Plan, refused, planned, plan_of, build_plan, job_plan, job_status, start_of, ending, ending_by, ending_of, status_of, Reaches}
+use Rattle.geofeed_cmd.specs.Ending.{Plan, refused, planned, plan_of, build_plan, job_plan, job_status, start_of, lookup_plan, answer_plan, lookup_status, alone, longest_file, bytes_line, ending, ending_by, ending_of, status_of, Reaches}
 use Rattle.geofeed_cmd.specs.Job.{job}
-use Rattle.geofeed_cmd.specs.World.{World, Move, blocked, after}
+use Rattle.geofeed_cmd.specs.Lookup.{answer}
+use Rattle.geofeed_cmd.specs.World.{World, Move, shows, blocked, after}
 use Rattle.geofeed_cmd.proofs.CourseLemmas.{course_blocked, course_free}
 
 -- where a run stopped
@@ -60,8 +63,8 @@ free-plan command first moves start last plan all =
 
 of-stop : (why : Halt) (command : Option Command) (first : Told) → IsBlockedFor why command first → IsFault (status_of why) ⊎ Causes (status_of why) command first
 of-stop halts.Missing command first found = inr (inr found)
-of-stop halts.TooLong command first found = inr (inl found)
-of-stop halts.TooMany command first found = inr (inr found)
+of-stop halts.TooLong command first found = inr (inr (inl found))
+of-stop halts.TooMany command first found = inr (inr (inr found))
 of-stop halts.TooLarge command first found = inr found
 of-stop halts.ReadFailed command first found = inl read
 of-stop halts.PutFailed command first found = inl write
@@ -97,10 +100,48 @@ of-file : (first : Told) (name : List ℕ) (file : Option (List ℕ)) → map.ge
 of-file first name None held = inr (inl (record { known = build name; commanded = refl; absent = held }))
 of-file first name (Some bytes) held = of-job first name bytes held (job bytes) refl (ap (build_plan first name) held)
 
+of-damage : (fault : LookupFault) (first : Told) (name : List ℕ) (address : ℕ) (bytes : List ℕ) → map.get first.held name ≡ Some bytes → length bytes ≤ longest_file → answer bytes address ≡ Err fault
+    → IsFault (lookup_status fault) ⊎ Causes (lookup_status fault) (Some (lookup name address)) first
+of-damage lookup_faults.NoMarker first name address bytes held within damage = inr (record { name = name; address = address; bytes = bytes; fault = lookup_faults.NoMarker; commanded = refl; held = held; within = within; damage = damage; found = λ e. cc })
+of-damage lookup_faults.Metadata first name address bytes held within damage = inr (record { name = name; address = address; bytes = bytes; fault = lookup_faults.Metadata; commanded = refl; held = held; within = within; damage = damage; found = λ e. cc })
+of-damage lookup_faults.Version first name address bytes held within damage = inr (record { name = name; address = address; bytes = bytes; fault = lookup_faults.Version; commanded = refl; held = held; within = within; damage = damage; found = λ e. cc })
+of-damage lookup_faults.TreeCut first name address bytes held within damage = inr (record { name = name; address = address; bytes = bytes; fault = lookup_faults.TreeCut; commanded = refl; held = held; within = within; damage = damage; found = λ e. cc })
+of-damage lookup_faults.NotEnded first name address bytes held within damage = inr (record { name = name; address = address; bytes = bytes; fault = lookup_faults.NotEnded; commanded = refl; held = held; within = within; damage = damage; found = λ e. cc })
+of-damage lookup_faults.OutOfSection first name address bytes held within damage = inr (record { name = name; address = address; bytes = bytes; fault = lookup_faults.OutOfSection; commanded = refl; held = held; within = within; damage = damage; found = λ e. cc })
+of-damage (lookup_faults.Value place cause) first name address bytes held within damage = inr (record { name = name; address = address; bytes = bytes; fault = lookup_faults.Value place cause; commanded = refl; held = held; within = within; damage = damage; found = λ e. cc })
+of-damage lookup_faults.Memory first name address bytes held within damage = inl memory
+
+of-answer : (first : Told) (name : List ℕ) (address : ℕ) (bytes : List ℕ) → map.get first.held name ≡ Some bytes → length bytes ≤ longest_file
+    → (found : Result (List ℕ) LookupFault) → answer bytes address ≡ found → plan_of first (Some (lookup name address)) ≡ answer_plan first found
+    → IsFault (ending_by first (answer_plan first found)).status ⊎ Causes (ending_by first (answer_plan first found)).status (Some (lookup name address)) first
+of-answer first name address bytes held within (Ok text) answers plan = of-plan (Some (lookup name address)) first (shows text ∷ []) (alone first) plan
+of-answer first name address bytes held within (Err fault) answers plan = of-damage fault first name address bytes held within answers
+
+of-bytes : (first : Told) (name : List ℕ) (address : ℕ) (bytes : List ℕ) → map.get first.held name ≡ Some bytes
+    → IsFault (ending_by first (lookup_plan first name address (Some bytes))).status ⊎ Causes (ending_by first (lookup_plan first name address (Some bytes))).status (Some (lookup name address)) first
+of-bytes first name address bytes held =
+    let plan : plan_of first (Some (lookup name address)) ≡ lookup_plan first name address (Some bytes) = ap (lookup_plan first name address) held in
+    let go : (b : Bool) → nat_lt longest_file (length bytes) ≡ b → plan_of first (Some (lookup name address)) ≡ (if b then refused statuses.Source (bytes_line 0) else answer_plan first (answer bytes address))
+    → IsFault (ending_by first (if b then refused statuses.Source (bytes_line 0) else answer_plan first (answer bytes address))).status
+    ⊎ Causes (ending_by first (if b then refused statuses.Source (bytes_line 0) else answer_plan first (answer bytes address))).status (Some (lookup name address)) first =
+    λ b. elim b as (λ (b : Bool). nat_lt longest_file (length bytes) ≡ b → plan_of first (Some (lookup name address)) ≡ (if b then refused statuses.Source (bytes_line 0) else answer_plan first (answer bytes address))
+    → IsFault (ending_by first (if b then refused statuses.Source (bytes_line 0) else answer_plan first (answer bytes address))).status
+    ⊎ Causes (ending_by first (if b then refused statuses.Source (bytes_line 0) else answer_plan first (answer bytes address))).status (Some (lookup name address)) first) [
+      | true ↦ λ long same. inr (inl (record { name = name; address = address; bytes = bytes; commanded = refl; held = held; long = search (rules, long) }))
+      | false ↦ λ short same. of-answer first name address bytes held (search (rules, short)) (answer bytes address) refl same
+    ] in
+    go (nat_lt longest_file (length bytes)) refl plan
+
+of-looked : (first : Told) (name : List ℕ) (address : ℕ) (file : Option (List ℕ)) → map.get first.held name ≡ file
+    → IsFault (ending_by first (lookup_plan first name address file)).status ⊎ Causes (ending_by first (lookup_plan first name address file)).status (Some (lookup name address)) first
+of-looked first name address None held = inr (inl (record { known = lookup name address; commanded = refl; absent = held }))
+of-looked first name address (Some bytes) held = of-bytes first name address bytes held
+
 -- the status of an ending is a fault, or it has its cause
 ending_caused : (command : Option Command) (first : Told) → IsFault (ending first command).status ⊎ Causes (ending first command).status command first
 ending_caused None first = inr refl
 ending_caused (Some (build name)) first = of-file first name (map.get first.held name) refl
+ending_caused (Some (lookup name address)) first = of-looked first name address (map.get first.held name) refl
 
 -- an answer is a fault, or it has its cause
 pub caused : (command : Option Command) (first : Told) (status : Status) → IsAnswer (ending first command).status status → IsFault status ⊎ Causes status command first
@@ -128,6 +169,8 @@ free-status command first free =
 absent-known : (known : Command) (command : Option Command) (first : Told) → command ≡ Some known → map.get first.held (file_first known) ≡ None → (ending first command).status ≡ statuses.Missing
 absent-known (build name) command first commanded absent =
     ap (λ c. (ending first c).status) commanded ∙ ap (λ f. (ending_by first (build_plan first name f)).status) absent
+absent-known (lookup name address) command first commanded absent =
+    ap (λ c. (ending first c).status) commanded ∙ ap (λ f. (ending_by first (lookup_plan first name address f)).status) absent
 
 absent-status : (command : Option Command) (first : Told) → IsAbsent command first → (ending first command).status ≡ statuses.Missing
 absent-status command first absent = absent-known absent.known command first absent.commanded absent.absent
@@ -146,6 +189,40 @@ refused-status command first none =
     ∙ ap (λ r. (ending_by first (job_plan first r)).status) none.refusal
     ∙ job-status none.fault none.found
 
+if-true : {A : Type 0} (b : Bool) (x y : A) → b ≡ true → (if b then x else y) ≡ x
+if-true true x y h = refl
+if-true false x y h = cc
+
+if-false : {A : Type 0} (b : Bool) (x y : A) → b ≡ false → (if b then x else y) ≡ y
+if-false true x y h = cc
+if-false false x y h = refl
+
+over-status : (command : Option Command) (first : Told) → IsOverLimit command first → (ending first command).status ≡ statuses.Source
+over-status command first over =
+    let long : longest_file < length over.bytes = over.long in
+    ap (λ c. (ending first c).status) over.commanded
+    ∙ ap (λ f. (ending_by first (lookup_plan first over.name over.address f)).status) over.held
+    ∙ ap (λ p. (ending_by first p).status) (if-true (nat_lt longest_file (length over.bytes)) (refused statuses.Source (bytes_line 0)) (answer_plan first (answer over.bytes over.address)) (search rules))
+
+lookup-status : (fault : LookupFault) → fault ≢ lookup_faults.Memory → lookup_status fault ≡ statuses.File
+lookup-status lookup_faults.NoMarker found = refl
+lookup-status lookup_faults.Metadata found = refl
+lookup-status lookup_faults.Version found = refl
+lookup-status lookup_faults.TreeCut found = refl
+lookup-status lookup_faults.NotEnded found = refl
+lookup-status lookup_faults.OutOfSection found = refl
+lookup-status (lookup_faults.Value place cause) found = refl
+lookup-status lookup_faults.Memory found = absurd (found refl)
+
+damaged-status : (command : Option Command) (first : Told) → IsDamaged command first → (ending first command).status ≡ statuses.File
+damaged-status command first damaged =
+    let within : length damaged.bytes ≤ longest_file = damaged.within in
+    ap (λ c. (ending first c).status) damaged.commanded
+    ∙ ap (λ f. (ending_by first (lookup_plan first damaged.name damaged.address f)).status) damaged.held
+    ∙ ap (λ p. (ending_by first p).status) (if-false (nat_lt longest_file (length damaged.bytes)) (refused statuses.Source (bytes_line 0)) (answer_plan first (answer damaged.bytes damaged.address)) (search rules))
+    ∙ ap (λ r. (ending_by first (answer_plan first r)).status) damaged.damage
+    ∙ lookup-status damaged.fault damaged.found
+
 cause-status : (status : Status) (command : Option Command) (first : Told) → Causes status command first → (ending first command).status ≡ status
 cause-status statuses.Done command first cause = free-status command first cause
 cause-status statuses.Memory command first cause = absurd cause
@@ -156,9 +233,12 @@ cause-status statuses.Missing command first cause =
 cause-status statuses.WriteFault command first cause = absurd cause
 cause-status statuses.Job command first cause = refused-status command first cause
 cause-status statuses.Source command first cause =
-    elim cause [ inl long ↦ blocked-status halts.TooLong command first long | inr many ↦ blocked-status halts.TooMany command first many ]
+    elim cause [
+      | inl over ↦ over-status command first over
+      | inr blocks ↦ elim blocks [ inl long ↦ blocked-status halts.TooLong command first long | inr many ↦ blocked-status halts.TooMany command first many ]
+    ]
 cause-status statuses.TooLarge command first cause = blocked-status halts.TooLarge command first cause
-cause-status statuses.File command first cause = absurd cause
+cause-status statuses.File command first cause = damaged-status command first cause
 cause-status statuses.Drop command first cause = absurd cause
 
 -- where the cause of a status stands, the answer is that status or a fault

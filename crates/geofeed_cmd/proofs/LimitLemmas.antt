@@ -28,15 +28,18 @@ use Rattle.geofeed_cmd.specs.declared.job.Act.TheVariants.{Stats, Emit, Report}
 use Rattle.geofeed_cmd.specs.declared.job.Job.{Job}
 use Rattle.geofeed_cmd.specs.declared.job.JobFault.{JobFault}
 use Rattle.geofeed_cmd.specs.declared.job.Step.{Step}
+use Rattle.geofeed_cmd.specs.declared.lookup.LookupFault.{LookupFault}
+use Rattle.geofeed_cmd.specs.declared.status.Status.TheVariants as statuses
 use Rattle.geofeed_cmd.specs.declared.stop.Halt.{Halt}
 use Rattle.geofeed_cmd.specs.declared.stop.Halt.TheVariants.{TooLong, TooMany}
-use Rattle.geofeed_cmd.specs.Commands.{Command, build}
+use Rattle.geofeed_cmd.specs.Commands.{Command, build, lookup}
 use Rattle.geofeed_cmd.specs.Course.{ended, unless, course, moves_of, IsAt}
 use Rattle.geofeed_cmd.specs.Drafts.{is_emit, is_stats, emits, sets_stats}
-use Rattle.geofeed_cmd.specs.Ending.{Plan, planned, refused, plan_of, build_plan, job_plan, start_of, Reaches}
+use Rattle.geofeed_cmd.specs.Ending.{Plan, planned, refused, plan_of, build_plan, job_plan, start_of, lookup_plan, answer_plan, alone, longest_file, bytes_line}
 use Rattle.geofeed_cmd.specs.Job.{job}
 use Rattle.geofeed_cmd.specs.Laws.{SetsAndEmitsOnce}
-use Rattle.geofeed_cmd.specs.World.{World, Move, does, blocked, act_blocked, act_state, act_cost, after, cost, file_in, set_from, unusable}
+use Rattle.geofeed_cmd.specs.Lookup.{answer}
+use Rattle.geofeed_cmd.specs.World.{World, Move, does, shows, blocked, act_blocked, act_state, act_cost, after, cost, file_in, set_from, unusable}
 use Rattle.geofeed_cmd.proofs.LawLemmas.{sets_and_emits_once}
 
 -- how many statements are in force
@@ -182,8 +185,35 @@ plan-cheap first name (Some bytes) moves start plan at move world there =
     ] in
     go (job bytes) refl plan
 
+one-cheap : (text : List ℕ) (start : World) → start.spent ≡ 0 → (at : ℕ) (move : Move) (world : World) → IsAt (shows text ∷ []) start at move world → world.spent + cost move world.state < 2 ^ 32 - 1
+one-cheap text start unspent zero move world there =
+    let this : shows text ≡ move = let next = there.next in cc in
+    let here : start ≡ world = let done = there.done in cc in
+    subst (λ w. w.spent + cost move w.state < 2 ^ 32 - 1) here (subst (λ m. start.spent + cost m start.state < 2 ^ 32 - 1) this (omega (arith, unspent)))
+one-cheap text start unspent (suc at) move world there = absurd (let next = there.next in cc)
+
+answer-cheap : (first : Told) (found : Result (List ℕ) LookupFault) (moves : List Move) (start : World) → answer_plan first found ≡ planned moves start
+    → (at : ℕ) (move : Move) (world : World) → IsAt moves start at move world → world.spent + cost move world.state < 2 ^ 32 - 1
+answer-cheap first (Err fault) moves start plan at move world there = absurd (cc)
+answer-cheap first (Ok text) moves start plan at move world there =
+    let done = there.done in
+    let next = there.next in
+    one-cheap text (alone first) refl at move world (record { done = cc; next = cc })
+
+lookup-cheap : (first : Told) (name : List ℕ) (address : ℕ) (file : Option (List ℕ)) (moves : List Move) (start : World) → lookup_plan first name address file ≡ planned moves start
+    → (at : ℕ) (move : Move) (world : World) → IsAt moves start at move world → world.spent + cost move world.state < 2 ^ 32 - 1
+lookup-cheap first name address None moves start plan at move world there = absurd (cc)
+lookup-cheap first name address (Some bytes) moves start plan at move world there =
+    let go : (b : Bool) → (if b then refused statuses.Source (bytes_line 0) else answer_plan first (answer bytes address)) ≡ planned moves start → world.spent + cost move world.state < 2 ^ 32 - 1 =
+    λ b. elim b as (λ (b : Bool). (if b then refused statuses.Source (bytes_line 0) else answer_plan first (answer bytes address)) ≡ planned moves start → world.spent + cost move world.state < 2 ^ 32 - 1) [
+      | true ↦ λ same. absurd (cc)
+      | false ↦ λ same. answer-cheap first (answer bytes address) moves start same at move world there
+    ] in
+    go (nat_lt longest_file (length bytes)) plan
+
 -- an emit that a command reaches never takes too many steps
 pub reached_cheap : (command : Option Command) (first : Told) (moves : List Move) (start : World) → plan_of first command ≡ planned moves start
     → (at : ℕ) (move : Move) (world : World) → IsAt moves start at move world → world.spent + cost move world.state < 2 ^ 32 - 1
 reached_cheap None first moves start plan at move world there = absurd (cc)
 reached_cheap (Some (build name)) first moves start plan at move world there = plan-cheap first name (fin_map.get first.held name) moves start plan at move world there
+reached_cheap (Some (lookup name address)) first moves start plan at move world there = lookup-cheap first name address (fin_map.get first.held name) moves start plan at move world there

@@ -1,20 +1,23 @@
 -- The causes of the answers, in the words of the job alone.
-use Rattle.std.specs.Prelude.{◌≡◌, ◌≢◌, ℕ, ◌⊎◌, List, Option, Some, None, Err}
+use Rattle.std.specs.Prelude.{◌≡◌, ◌≢◌, ◌≤◌, ◌<◌, ℕ, ◌⊎◌, List, length, Option, Some, None, Err}
 use Rattle.std.specs.FinMap as map
 use Rattle.geo_outside.specs.Files.{Told}
 use Rattle.geofeed_cmd.specs.declared.job.JobFault.{JobFault}
 use Rattle.geofeed_cmd.specs.declared.job.JobFault.TheVariants as job_faults
+use Rattle.geofeed_cmd.specs.declared.lookup.LookupFault.{LookupFault}
+use Rattle.geofeed_cmd.specs.declared.lookup.LookupFault.TheVariants as lookup_faults
 use Rattle.geofeed_cmd.specs.declared.status.Status.{Status}
 use Rattle.geofeed_cmd.specs.declared.status.Status.TheVariants as statuses
 use Rattle.geofeed_cmd.specs.declared.stop.Halt.{Halt}
 use Rattle.geofeed_cmd.specs.declared.stop.Halt.TheVariants as halts
-use Rattle.geofeed_cmd.specs.Commands.{Command, build, file_first}
+use Rattle.geofeed_cmd.specs.Commands.{Command, build, lookup, file_first}
 use Rattle.geofeed_cmd.specs.Course.{IsAt}
-use Rattle.geofeed_cmd.specs.Ending.{plan_of, planned, Reaches}
+use Rattle.geofeed_cmd.specs.Ending.{longest_file, plan_of, planned, Reaches}
 use Rattle.geofeed_cmd.specs.Job.{job}
+use Rattle.geofeed_cmd.specs.Lookup.{answer}
 use Rattle.geofeed_cmd.specs.World.{World, Move, blocked}
 
--- the command has a plan, and no move that it reaches is blocked: the job is held and accepted, the files that it sets are there and within their limits, and the file that it emits is not too large
+-- the command has a plan, and no move that it reaches is blocked. Of a job: it is held and accepted, the files that it sets are there and within their limits, and the file that it emits is not too large. Of a lookup: the file is held and within its limit, and no fault stands in the way
 pub record IsFree (command : Option Command) (first : Told) : Type 0 where
   pub moves : List Move
   pub start : World
@@ -37,6 +40,27 @@ pub record IsNoJob (command : Option Command) (first : Told) : Type 0 where
   pub refusal : job bytes ≡ Err fault
   pub found : fault ≢ job_faults.Memory
 
+-- the file to be looked up in has too many bytes
+pub record IsOverLimit (command : Option Command) (first : Told) : Type 0 where
+  pub name : List ℕ
+  pub address : ℕ
+  pub bytes : List ℕ
+  pub commanded : command ≡ Some (lookup name address)
+  pub held : map.get first.held name ≡ Some bytes
+  pub long : longest_file < length bytes
+
+-- the file to be looked up in is within its limit, and a fault stands in the way of the address
+pub record IsDamaged (command : Option Command) (first : Told) : Type 0 where
+  pub name : List ℕ
+  pub address : ℕ
+  pub bytes : List ℕ
+  pub fault : LookupFault
+  pub commanded : command ≡ Some (lookup name address)
+  pub held : map.get first.held name ≡ Some bytes
+  pub within : length bytes ≤ longest_file
+  pub damage : answer bytes address ≡ Err fault
+  pub found : fault ≢ lookup_faults.Memory
+
 -- the first move that is blocked is so for this
 pub record IsBlockedFor (why : Halt) (command : Option Command) (first : Told) : Type 0 where
   pub move : Move
@@ -53,7 +77,7 @@ Causes statuses.ReadFault command first = ⊥
 Causes statuses.Missing command first = IsAbsent command first ⊎ IsBlockedFor halts.Missing command first
 Causes statuses.WriteFault command first = ⊥
 Causes statuses.Job command first = IsNoJob command first
-Causes statuses.Source command first = IsBlockedFor halts.TooLong command first ⊎ IsBlockedFor halts.TooMany command first
+Causes statuses.Source command first = IsOverLimit command first ⊎ (IsBlockedFor halts.TooLong command first ⊎ IsBlockedFor halts.TooMany command first)
 Causes statuses.TooLarge command first = IsBlockedFor halts.TooLarge command first
-Causes statuses.File command first = ⊥
+Causes statuses.File command first = IsDamaged command first
 Causes statuses.Drop command first = ⊥
