@@ -1,12 +1,13 @@
 -- There are no more segments than the touch.
-use Rattle.std.proofs.Common.{◌≡◌, ℕ, zero, suc, ◌+◌, ◌≤◌, Bool, true, false, cond, eqb, List, [], ◌∷◌, length, Contains, refl, sym, ap, ◌∙◌, inl, inr, arith}
+use Rattle.std.proofs.Common.{◌≡◌, ℕ, ◌*◌, zero, suc, ◌+◌, ◌≤◌, Bool, true, false, cond, eqb, List, [], ◌∷◌, length, Contains, refl, sym, ap, ◌∙◌, inl, inr, arith}
 use Rattle.std.specs.List.{filter, flat_map, count_by}
 use Rattle.std.specs.List.Sorted.{IsStrictlyIncreasing}
 use Rattle.std.proofs.lemmas.Bool.Decides.{Decides-eqb}
-use Rattle.std.proofs.lemmas.List.Sums.{length-filter}
+use Rattle.std.proofs.lemmas.List.Sums.{length-filter, count_by-le-length}
 use Rattle.geo_addr.specs.Ranges.{Ends, IsCut, AreCuts, ground_first}
 use Rattle.geo_terms.specs.Cuts.{statement_ranges}
 use Rattle.geo_terms.specs.Sources.{InForce}
+use Rattle.mmdb_file.proofs.WritingLemmas.{length-each_once}
 use Rattle.least_nodes.proofs.Elements.{In, In-each_once-new}
 use Rattle.precedence.proofs.FirstLemmas.{Among, contains_from_among, among_filter}
 use Rattle.precedence.proofs.RankLemmas.{Up, up_from, up_above}
@@ -14,7 +15,8 @@ use Rattle.precedence.proofs.SourceLemmas.{steady}
 use Rattle.precedence.specs.CutPlaces.{whole}
 use Rattle.precedence.specs.Segments.{is_touched, AreSegments}
 use Rattle.update_session.specs.Build.{AreSteady}
-use Rattle.update_session.specs.Touch.{edges_of, edges, touch}
+use Rattle.update_session.specs.State.{State}
+use Rattle.update_session.specs.Touch.{edges_of, edges, touch, bound}
 
 -- a list with a member taken out, where it first stands
 abbrev taken : ℕ → List ℕ → List ℕ
@@ -109,3 +111,18 @@ AreSteady-from_segments s touched cuts out exact up segments =
       steady = steady s touched cuts out exact segments;
       few = omega (arith, few, segments.few);
     }
+
+length-edges : (rs : List Ends) → length (flat_map edges_of rs) ≡ 2 * length rs
+length-edges [] = refl
+length-edges (r ∷ rs) = omega (arith, length-edges rs)
+
+-- the bound grows with the number of statements alone
+pub bound_by_statements : (s : State) → bound s ≤ 256 * (3 * length (statement_ranges s.sources) + 1)
+unfolding bound touch
+bound_by_statements s =
+    let rs : List Ends = statement_ranges s.sources in
+    let kept_are : length (filter (is_touched rs) (edges rs)) ≡ count_by (is_touched rs) (edges rs) = length-filter (is_touched rs) (edges rs) in
+    let few_kept : count_by (is_touched rs) (edges rs) ≤ length (edges rs) = count_by-le-length (is_touched rs) (edges rs) in
+    let few_edges : length (edges rs) ≤ length (flat_map edges_of rs) = omega (arith, length-each_once eqb [] (flat_map edges_of rs)) in
+    let two_each : length (flat_map edges_of rs) ≡ 2 * length rs = length-edges rs in
+    omega arith

@@ -6,7 +6,7 @@ use Rattle.geo_terms.specs.Numbers.{place_at}
 use Rattle.geo_terms.specs.PlaceForm.{PlaceParts}
 use Rattle.geo_terms.specs.Precedence.{record_at}
 use Rattle.geo_terms.specs.Sources.{InForce}
-use Rattle.mmdb_file.specs.FileImage.{file, file_nodes, file_section, file_end, records_end, section, record_tree, fresh}
+use Rattle.mmdb_file.specs.FileImage.{file, file_of as image_of, file_with, file_nodes, file_section, file_end, node_records, records_end, same_answer, section, record_tree, fresh}
 use Rattle.mmdb_tree.specs.Nodes.{smallest, record_size}
 use Rattle.mmdb_tree.specs.declared.bits.Bits.{Bits}
 use Rattle.mmdb_tree.specs.declared.bits.Bits.TheVariants.{B24, B28, B32}
@@ -15,7 +15,7 @@ use Rattle.trie_core.specs.declared.node.Root.{Root}
 use Rattle.trie_core.specs.Store.{leaf_at}
 use Rattle.trie_core.specs.Tree.{Tree}
 use Rattle.update_session.specs.Build.{Answers}
-use Rattle.update_session.specs.State.{FileValue, node_count, section_length, is_too_large, file_of}
+use Rattle.update_session.specs.State.{State, FileValue, node_count, section_length, is_too_large, file_of}
 
 -- the leaf of a root that answers the record is the number of the record
 pub leaf_is : (pairs : List Pair) (places : List PlaceParts) (root : Root) (s : InForce) (a k : ℕ) → Answers pairs places root s a → leaf_at pairs root a ≡ Some k
@@ -68,3 +68,42 @@ unfolding is_too_large node_count section_length
 is_too_large-from_none s t epoch name tree none =
     none_holds (file_nodes (record_tree s) + 16 + length (file_section (record_tree s)))
     (ap smallest (sym (end_is (record_tree s)) ∙ ap file_end (sym tree)) ∙ none)
+
+-- a number from 2 ^ 32 on is held by no size
+all_hold : (n : ℕ) → leb (2 ^ 32) n ≡ true → smallest n ≡ None
+all_hold n large =
+    let over_24 : ltb n (2 ^ 24) ≡ false = grind (arith, nat_tests) in
+    let over_28 : ltb n (2 ^ 28) ≡ false = grind (arith, nat_tests) in
+    let over_32 : ltb n (2 ^ 32) ≡ false = grind (arith, nat_tests) in
+    rw (over_24, over_28, over_32) refl
+
+-- there is a file where a size of records was found
+file_there : (t : Tree (Option PlaceParts)) (epoch : ℕ) (name : List ℕ) (b : Bits) → smallest (file_end t) ≡ Some b → (bytes : List ℕ) × (file t epoch name ≡ Some bytes)
+unfolding file file_with file_end
+file_there t epoch name b is = (
+  image_of b (node_records same_answer (λ answer. answer) t) (section same_answer (λ answer. answer) t).bytes epoch name,
+  ap (option_map (λ (bits : Bits). image_of bits (node_records same_answer (λ answer. answer) t) (section same_answer (λ answer. answer) t).bytes epoch name)) is,
+)
+
+-- how far the numbers of a state's file go
+abbrev end_of : State → ℕ
+end_of s = file_nodes (record_tree s.sources) + 16 + length (file_section (record_tree s.sources))
+
+abbrev counted : Tree (Option PlaceParts) → Bits → List ℕ → FileValue
+counted t b bytes = record { bytes = bytes; nodes = file_nodes t; section = length (file_section t); bits = record_size b }
+
+some_file : (s : State) (b : Bits) → smallest (end_of s) ≡ Some b → with_bits (record_tree s.sources) s.epoch s.name (Some b) ≡ None → ⊥
+some_file s b is none =
+    let there = file_there (record_tree s.sources) s.epoch s.name b (ap smallest (end_is (record_tree s.sources)) ∙ is) in
+    let e : Some (counted (record_tree s.sources) b there.0) ≡ None = sym (ap (option_map (counted (record_tree s.sources) b)) there.1) ∙ none in
+    (cc)
+
+-- there is no file exactly where it is too large
+pub too_large_means_no_file : (s : State) → (is_too_large s ≡ true → file_of s ≡ None) × (file_of s ≡ None → is_too_large s ≡ true)
+unfolding is_too_large file_of node_count section_length fresh
+too_large_means_no_file s =
+    (λ large. ap (with_bits (record_tree s.sources) s.epoch s.name) (all_hold (end_of s) large), λ none. by (smallest (end_of s)) refl none)
+  where
+    by : (found : Option Bits) → smallest (end_of s) ≡ found → with_bits (record_tree s.sources) s.epoch s.name found ≡ None → leb (2 ^ 32) (end_of s) ≡ true
+    by None is none = none_holds (end_of s) is
+    by (Some b) is none = absurd (some_file s b is none)

@@ -3,6 +3,7 @@
 
 mod build;
 mod fault;
+pub mod laws;
 mod session;
 mod write;
 
