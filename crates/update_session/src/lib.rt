@@ -9,3 +9,6 @@ mod write;
 
 pub use fault::EmitFault;
 pub use session::Session;
+
+#[cfg(test)]
+mod tests;
