@@ -1,3 +1,5 @@
+pub mod ActLemmas
+pub mod RunLemmas
 pub mod EmptyJobs
 pub mod LawLemmas
 pub mod TextLemmas

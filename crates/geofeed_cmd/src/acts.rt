@@ -4,7 +4,10 @@ ghost use Rattle.geo_outside.specs.Count.{Rose};
 ghost use Rattle.geofeed_cmd.specs.World.{World, cost, does, prints};
 ghost use Rattle.geofeed_cmd.specs.Stops.{Does, Halts, IsIn, Prints, Tail};
 
-use crate::job::Step;
+use crate::emitting::emit;
+use crate::job::{Act, Step};
+use crate::reporting::print_report;
+use crate::setting::set_stats;
 use crate::stop::Halt;
 use geo_outside::{Folder, Sink, Steps};
 use std::alloc::Global;
@@ -37,11 +40,11 @@ pub(crate) fn do_step<F: Folder, O: Sink, L: Ledger>(
     ensures misses { F.misses folder.old ≤ F.misses folder.new }
     ensures faults { O.faults out.old ≤ O.faults out.new }
 {
-    let _ = alloc;
-    let _ = &step;
-    let _ = &session;
-    let _ = &folder;
-    let _ = &out;
-    let _ = &steps;
-    Err(Halt::Memory)
+    match &step.act {
+        Act::Stats { slot, file } => {
+            set_stats(alloc, slot.as_str(), file.as_str(), session, folder)
+        }
+        Act::Emit { file } => emit(alloc, file.as_str(), session, folder, out, steps),
+        Act::Report => print_report(alloc, session, out),
+    }
 }

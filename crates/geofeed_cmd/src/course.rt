@@ -5,6 +5,7 @@ ghost use Rattle.geofeed_cmd.specs.Course.{moves_of};
 ghost use Rattle.geofeed_cmd.specs.Stops.{DoesAll, IsIn, StopsAt};
 ghost use Rattle.geofeed_cmd.specs.World.{World};
 
+use crate::acts::do_step;
 use crate::job::Step;
 use crate::stop::{Halt, Stop};
 use geo_outside::{Folder, Sink, Steps};
@@ -36,16 +37,11 @@ pub(crate) fn do_steps<F: Folder, O: Sink, L: Ledger>(
     ensures misses { F.misses folder.old ≤ F.misses folder.new }
     ensures faults { O.faults out.old ≤ O.faults out.new }
 {
-    let _ = alloc;
-    let _ = &session;
-    let _ = &folder;
-    let _ = &out;
-    let _ = &steps;
-    if job.is_empty() {
-        return Ok(());
+    for (at, step) in job.iter().enumerate() {
+        match do_step(alloc, step, session, folder, out, steps) {
+            Ok(()) => {}
+            Err(why) => return Err(Stop { at, why }),
+        }
     }
-    Err(Stop {
-        at: 0,
-        why: Halt::Memory,
-    })
+    Ok(())
 }

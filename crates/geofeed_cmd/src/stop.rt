@@ -31,6 +31,17 @@ pub(crate) enum Halt {
     Memory,
 }
 
+impl From<Memory> for Halt {
+    ghost use Rattle.std.specs.Prelude.{◌≡◌};
+    ghost use Rattle.geofeed_cmd.specs.declared.stop.Halt.{Halt};
+
+    ghost from_gives = { λ _ why. why ≡ Halt.Memory };
+
+    fn from(_refused: Memory) -> Halt {
+        Halt::Memory
+    }
+}
+
 /// Where a list of steps stopped, as a place in the list, and why.
 #[derive(Clone, Copy, Debug, PartialEq, Eq)]
 pub(crate) struct Stop {

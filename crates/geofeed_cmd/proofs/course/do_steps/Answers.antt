@@ -1,33 +1,40 @@
--- No steps, and no memory.
-use Rattle.std.proofs.Common.{◌≡◌, ℕ, zero, ◌+◌, ◌≤◌, List, [], ◌∷◌, ◌++◌, length, inl, refl, sym, ◌∙◌, ap, arith, rules}
-use Rattle.std.specs.Prelude.{Option, Some}
-use Rattle.geo_outside.specs.Files.{Told}
-use Rattle.update_session.specs.State.{State}
-use Rattle.geofeed_cmd.specs.declared.job.Step.{Step}
-use Rattle.geofeed_cmd.specs.declared.stop.Halt.TheVariants.{Memory}
+use Rattle.std.proofs.Common.{arith}
 use Rattle.geofeed_cmd.specs.Course.{moves_of}
-use Rattle.geofeed_cmd.specs.Stops.{DoesAll, IsIn, StopsAt, Prints}
-use Rattle.geofeed_cmd.specs.World.{World, does}
-use Rattle.geofeed_cmd.proofs.AnswerLemmas.{append-nil}
+use Rattle.geofeed_cmd.specs.World.{does}
+use Rattle.geofeed_cmd.proofs.RunLemmas.{all_taken, does_more, does_none, does_same, more_taken, move_at, stops_at}
 use Rattle.geofeed_cmd.proofs.course.do_steps.Goals as goal
 
-prints-none : (old : Option (List ℕ)) (text : List ℕ) → text ≡ [] → Prints old old text
-prints-none old text none before was = was ∙ ap Some (sym (append-nil before) ∙ ap (λ t. before ++ t) (sym none))
+pub loop-at-init : goal.loop-at-init
+loop-at-init g c = record {
+  does = λ start here blank. does_none _ _ _ _ start here blank;
+  read_faults = omega arith;
+  put_faults = omega arith;
+  misses = omega arith;
+  faults = omega arith;
+}
 
-does-none : (list : List Step) → length list ≡ 0 → (told : Option Told) (state : State) (old : Option (List ℕ)) (steps : ℕ) (start : World) → IsIn told state start → start.text ≡ []
-    → DoesAll (moves_of list) start told state old old steps steps
-does-none [] none told state old steps start here blank =
-    record { world = start; done = refl; stands = here; printed = prints-none old start.text blank; spent = omega arith; published = λ count move then there. absurd (let next = there.next in cc) }
-does-none (step ∷ list) none told state old steps start here blank = absurd (omega arith)
+pub loop-at-preserved : goal.loop-at-preserved
+loop-at-preserved g c = record {
+  does = λ start here blank.
+      let moves = moves_of c.args.job.now in
+      let step = c.index-job-at.result in
+      let all = c.loop-at.invariant.does start here blank in
+      let next = move_at c.args.job.now c.loop-at.at step c.loop-at-test.true c.index-job-at.is in
+      does_same _ _ start _ _ _ _ _ _ (more_taken moves c.loop-at.at (does step) next)
+      (does_more _ start _ _ _ _ _ _ _ _ _ _ all (does step) c.do_step.ensures.spent (c.in-Ok.ensures.done all.world all.stands) c.in-Ok.ensures.printed);
+  read_faults = omega arith;
+  put_faults = omega arith;
+  misses = omega arith;
+  faults = omega arith;
+}
 
-stops-first : (list : List Step) → (length list ≡ 0 → ⊥) → (told : Option Told) (state : State) (old : Option (List ℕ)) (steps : ℕ) (start : World) → IsIn told state start → start.text ≡ []
-    → StopsAt Memory 0 (moves_of list) start told old old steps steps
-stops-first [] some told state old steps start here blank = absurd (some refl)
-stops-first (step ∷ list) some told state old steps start here blank =
-    record { move = does step; world = start; there = record { done = refl; next = refl }; files = inl here.tells; printed = prints-none old start.text blank; spent = omega arith }
+pub returns-in-Err-clause-stopped : goal.returns-in-Err-clause-stopped
+returns-in-Err-clause-stopped g c start here blank =
+    let step = c.index-job-at.result in
+    let all = c.loop-at.invariant.does start here blank in
+    let next = move_at c.args.job.now c.loop-at.at step c.loop-at-test.true c.index-job-at.is in
+    stops_at (moves_of c.args.job.now) start _ _ _ _ _ _ _ _ _ c.loop-at.at all (does step) c.do_step.ensures.spent next c.in-Err.why (c.in-Err.ensures.stopped all.world all.stands) c.in-Err.ensures.tail
 
-pub returns-then-is_empty-clause-done : goal.returns-then-is_empty-clause-done
-returns-then-is_empty-clause-done g c = λ start here blank. does-none c.args.job.now (search rules) _ _ _ _ start here blank
-
-pub returns-clause-stopped : goal.returns-clause-stopped
-returns-clause-stopped g c = λ start here blank. stops-first c.args.job.now (search rules) _ c.args.session.now _ _ start here blank
+pub returns-clause-done : goal.returns-clause-done
+returns-clause-done g c start here blank =
+    does_same _ _ start _ _ _ _ _ _ (all_taken c.args.job.now c.loop-at.at c.loop-at-test.false) (c.loop-at.invariant.does start here blank)
