@@ -20,8 +20,9 @@ use Rattle.geofeed_cmd.specs.Answers.{Seen, Comes, IsDone, IsFault, read, write,
 use Rattle.geofeed_cmd.specs.Commands.{Command}
 use Rattle.geofeed_cmd.specs.Ending.{Reaches}
 use Rattle.geofeed_cmd.specs.Stops.{ActPublishes, IsPublished}
-use Rattle.geofeed_cmd.specs.Values.{AreApart, IsLeastByValue}
+use Rattle.geofeed_cmd.specs.Values.{AreDistinct, IsLeastByValue}
 use Rattle.geofeed_cmd.specs.World.{World, does}
+use Rattle.geofeed_cmd.proofs.ValueLemmas.{record_of, record_back}
 
 module _ {A B : Type 0} (f : A → B) where
   records-map : (nodes : List (Member A × Member A)) (i j : ℕ) → map_pair f (slice_index_or nodes i (at j, at j)) ≡ slice_index_or (map (map_pair f) nodes) i (at j, at j)
@@ -42,13 +43,13 @@ module _ {A B : Type 0} (f : A → B) where
 
 -- a published file is least by value too
 pub least_by_value : (state : State) → IsPublished state → IsLeastByValue state
-least_by_value state published file emitted apart nodes finds =
+least_by_value state published file emitted distinct nodes finds =
     let same : published.file ≡ file = cc (published.emitted, emitted) in
-    let record_of = apart.record_of in
-    let back : Finds 128 (map (map_pair record_of) nodes) (record_at state.sources) =
-    λ a low. go-map record_of nodes (at 0) (bits_of 128 a) ∙ ap (option_map record_of) (finds a low) ∙ ap Some (apart.back a low) in
-    subst (λ (n : ℕ). file.nodes ≤ n) (length-map nodes (map_pair record_of))
-    (subst (λ (f : FileValue). f.nodes ≤ length (map (map_pair record_of) nodes)) same (published.least.fewest (map (map_pair record_of) nodes) back))
+    let back_of = record_of state in
+    let back : Finds 128 (map (map_pair back_of) nodes) (record_at state.sources) =
+    λ a low. go-map back_of nodes (at 0) (bits_of 128 a) ∙ ap (option_map back_of) (finds a low) ∙ ap Some (record_back state distinct a low) in
+    subst (λ (n : ℕ). file.nodes ≤ n) (length-map nodes (map_pair back_of))
+    (subst (λ (f : FileValue). f.nodes ≤ length (map (map_pair back_of) nodes)) same (published.least.fewest (map (map_pair back_of) nodes) back))
 
 pub done_of : (status : Status) (command : Option Command) (first : Told) (old new : Seen) (puts puts_now : ℕ) → status ≡ statuses.Done
     → Comes status command first old new puts puts_now → IsDone command first old new

@@ -14,3 +14,4 @@ pub mod LookupAnswers
 pub mod LimitLemmas
 pub mod CauseLemmas
 pub mod HeadlineLemmas
+pub mod ValueLemmas
