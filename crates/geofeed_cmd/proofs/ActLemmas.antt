@@ -16,7 +16,7 @@ use Rattle.geofeed_cmd.specs.declared.stop.Halt.{Halt}
 use Rattle.geofeed_cmd.specs.declared.stop.Halt.TheVariants.{Missing, TooLong, TooMany, TooLarge, ReadFailed, PutFailed, SinkFailed, Memory}
 use Rattle.geofeed_cmd.specs.Acts.{IsUnset}
 use Rattle.geofeed_cmd.specs.World.{World, does, blocked, act_blocked, act_told, act_state, after, bytes_in, file_in, file_named, set_from, unusable}
-use Rattle.geofeed_cmd.specs.Stops.{ActPublishes, Does, Halts, IsIn, IsLeastFile, IsPublished, IsUnprinted, Prints}
+use Rattle.geofeed_cmd.specs.Stops.{ActPublishes, Does, Halts, IsIn, IsLeastFile, IsPublished, IsUnprinted, Prints, ActReads, ActPuts}
 
 -- whether bytes are a statistics file that can be set
 pub unusable-none : (slot : List ℕ) (held : Option (List ℕ)) → held ≡ None → unusable slot held ≡ Some Missing
@@ -125,7 +125,7 @@ module _ (step : Step) (world : World) (name : List ℕ) (told : Option Told) (s
   halts_put why told' file made causes spoilt memory = elim causes [
     | inl failed ↦
         let v = spoilt world.told here.tells failed in
-        subst (λ (w : Halt). Halts w (does step) world told') (sym failed) (record { free = free_emit file made; spoilt = v.0; tells = v.1; spoils = subst (λ (a : Act). Spoils world.told v.0 (file_named a)) (sym is) v.2 })
+        subst (λ (w : Halt). Halts w (does step) world told') (sym failed) (record { puts = subst ActPuts (sym is) tt; free = free_emit file made; spoilt = v.0; tells = v.1; spoils = subst (λ (a : Act). Spoils world.told v.0 (file_named a)) (sym is) v.2 })
     | inr out ↦ subst (λ (w : Halt). Halts w (does step) world told') (sym out) (inl (memory out ∙ here.tells))
   ]
 
@@ -169,7 +169,7 @@ module _ (step : Step) (world : World) (slot name : List ℕ) (told : Option Tol
   halts_stats TooLong told' same cause = record { cause = ap (λ (a : Act). act_blocked a world) is ∙ cause; files = same ∙ here.tells }
   halts_stats TooMany told' same cause = record { cause = ap (λ (a : Act). act_blocked a world) is ∙ cause; files = same ∙ here.tells }
   halts_stats TooLarge told' same cause = absurd cause
-  halts_stats ReadFailed told' same cause = same ∙ here.tells
+  halts_stats ReadFailed told' same cause = record { reads = subst ActReads (sym is) tt; files = same ∙ here.tells }
   halts_stats PutFailed told' same cause = absurd cause
   halts_stats SinkFailed told' same cause = absurd cause
   halts_stats Memory told' same cause = inl (same ∙ here.tells)

@@ -57,7 +57,7 @@ pub record IsDone (command : Option Command) (first : Told) (old new : Seen) : T
   pub moves : List Move
   pub start : World
   pub last : World
-  pub plan : plan_of first (command) ≡ planned moves start
+  pub plan : plan_of first command ≡ planned moves start
   pub all : course moves start ≡ ended last
   pub files : new.told ≡ Some last.told
   pub printed : Prints old.written new.written last.text

@@ -52,6 +52,26 @@ abbrev pub Publishes : Move → State → Type 0
 Publishes (does step) state = ActPublishes step.act state
 Publishes (shows text) state = Unit {0}
 
+abbrev pub ActReads : Act → Type 0
+ActReads (Stats slot file) = Unit {0}
+ActReads (Emit file) = ⊥
+ActReads Report = ⊥
+
+-- a move reads a file
+abbrev pub Reads : Move → Type 0
+Reads (does step) = ActReads step.act
+Reads (shows text) = ⊥
+
+abbrev pub ActPuts : Act → Type 0
+ActPuts (Stats slot file) = ⊥
+ActPuts (Emit file) = Unit {0}
+ActPuts Report = ⊥
+
+-- a move puts a file
+abbrev pub Puts : Move → Type 0
+Puts (does step) = ActPuts step.act
+Puts (shows text) = ⊥
+
 -- a move was made
 pub record Does (move : Move) (world : World) (told : Option Told) (state : State) : Type 0 where
   pub free : blocked move world ≡ None
@@ -63,8 +83,14 @@ pub record IsBlocked (why : Halt) (move : Move) (world : World) (told : Option T
   pub cause : blocked move world ≡ Some why
   pub files : told ≡ Some world.told
 
+-- a move's read failed
+pub record IsReadless (move : Move) (world : World) (told : Option Told) : Type 0 where
+  pub reads : Reads move
+  pub files : told ≡ Some world.told
+
 -- a move's put failed: its name holds anything or nothing
 pub record IsSpoilt (move : Move) (world : World) (told : Option Told) : Type 0 where
+  pub puts : Puts move
   pub free : blocked move world ≡ None
   pub spoilt : Told
   pub tells : told ≡ Some spoilt
@@ -86,7 +112,7 @@ Halts Missing move world told = IsBlocked Missing move world told
 Halts TooLong move world told = IsBlocked TooLong move world told
 Halts TooMany move world told = IsBlocked TooMany move world told
 Halts TooLarge move world told = IsBlocked TooLarge move world told ⊎ IsSpent move world told
-Halts ReadFailed move world told = told ≡ Some world.told
+Halts ReadFailed move world told = IsReadless move world told
 Halts PutFailed move world told = IsSpoilt move world told
 Halts SinkFailed move world told = IsUnprinted move world told
 Halts Memory move world told = (told ≡ Some world.told) ⊎ IsUnprinted move world told
