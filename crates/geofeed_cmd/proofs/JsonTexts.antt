@@ -1,8 +1,7 @@
 -- The JSON value that is made of a value has no float, and its compact text is the value's JSON text.
-use Rattle.std.proofs.Common.{◌≡◌, ℕ, ◌/◌, ◌%◌, ◌==◌, ◌||◌, pos, negsuc, nat_lt, List, [], ◌∷◌, ◌++◌, Bool, true, false, cond, flat_map, codes, decimal, refl, sym, ap, ap₂, ◌∙◌, append_assoc, arith, true≢false, subst, length, Ordering, Less, Equal, Greater, nat_cmp}
+use Rattle.std.proofs.Common.{◌≡◌, ℕ, ◌==◌, ◌||◌, pos, negsuc, List, [], ◌∷◌, ◌++◌, Bool, true, false, flat_map, decimal, refl, sym, ap, ap₂, ◌∙◌, append_assoc, arith, true≢false, subst, length, Ordering, Less, Equal, Greater, nat_cmp}
 use Rattle.std.proofs.lemmas.Bool.{eqb-true}
 use Rattle.std.proofs.lemmas.Cmp.{nat_list_cmp_total}
-use Rattle.std.specs.Char.{digit_char}
 use Rattle.std.specs.Fmt.{signed_decimal}
 use Rattle.std.specs.List.{fold, join_by}
 use Rattle.std.specs.Ordering.{match_ordering}
@@ -11,11 +10,11 @@ use Rattle.std.specs.FinMap as finite
 use Rattle.std.specs.FinMap.Entries as entries
 use Rattle.json.specs.Print as print
 use Rattle.hex.specs.Hex.{encode_lower}
-use Rattle.serde_json.specs.Data.{Data, boolean, number, string, array, object, unsigned, negative, put, Items as DataItems, no_items as no_data_items, item as data_item, Members as DataMembers, no_members as no_data_members, member as data_member}
+use Rattle.serde_json.specs.Data.{Data, put, Items as DataItems, no_items as no_data_items, item as data_item, Members as DataMembers, no_members as no_data_members, member as data_member}
 use Rattle.serde_json.specs.Find.{of_integer, is_float}
-use Rattle.serde_json.specs.Written.{number_text, comma_if, compact_text, items_text, members_text, has_float, items_have_float, members_have_float}
+use Rattle.serde_json.specs.Written.{number_text, compact_text, items_text, members_text, has_float, items_have_float, members_have_float}
 use Rattle.mmdb_data.specs.Tree.{Tree, Members, Items, map, list, text, bytes, u16, u32, i32, u64, u128, bool, double, float, no_members, member, no_items, item}
-use Rattle.geofeed_cmd.specs.Json.{escaped, quoted, Object, object_of, member_text, object_text, array_text, bool_text, json, member_texts, item_texts}
+use Rattle.geofeed_cmd.specs.Json.{escaped, quoted, Object, object_of, member_text, object_text, array_text, json, member_texts, item_texts}
 use Rattle.geofeed_cmd.specs.JsonData.{data_of, members_put, items_data}
 
 -- ---- strings

@@ -15,3 +15,4 @@ pub mod LimitLemmas
 pub mod CauseLemmas
 pub mod HeadlineLemmas
 pub mod ValueLemmas
+pub mod LookupEndsLemmas

@@ -1,6 +1,6 @@
 -- How the answer of a lookup follows from its print, and from why it has none.
-use Rattle.std.proofs.Common.{◌≡◌, ℕ, zero, suc, ◌+◌, ◌≤◌, ◌⊎◌, inl, inr, List, [], ◌∷◌, ◌++◌, take, refl, sym, ◌∙◌, ap, subst, arith}
-use Rattle.std.specs.Prelude.{Option, Some, None, Result, Ok, Err, OnOk, slice_get}
+use Rattle.std.proofs.Common.{◌≡◌, ℕ, zero, suc, ◌+◌, ◌≤◌, inl, inr, List, [], ◌∷◌, ◌++◌, take, refl, sym, ◌∙◌, ap, subst, arith}
+use Rattle.std.specs.Prelude.{Some, Result, Ok, Err, OnOk, slice_get}
 use Rattle.std.specs.FinMap as map
 use Rattle.geo_outside.specs.Count.{Rose}
 use Rattle.geo_outside.specs.Files.{Told}
@@ -10,15 +10,14 @@ use Rattle.geofeed_cmd.specs.declared.lookup.LookupFault.{LookupFault}
 use Rattle.geofeed_cmd.specs.declared.lookup.LookupFault.TheVariants as faults
 use Rattle.geofeed_cmd.specs.declared.lookup_command.Unanswered.{Unanswered}
 use Rattle.geofeed_cmd.specs.declared.lookup_command.Unanswered.TheVariants.{Unread, Missing, TooLong, Fault}
-use Rattle.geofeed_cmd.specs.declared.status.Status.{Status}
 use Rattle.geofeed_cmd.specs.declared.status.Status.TheVariants as statuses
 use Rattle.geofeed_cmd.specs.Answers.{Seen, EndsWith, Comes}
-use Rattle.geofeed_cmd.specs.Commands.{Command, lookup}
-use Rattle.geofeed_cmd.specs.Ending.{Plan, refused, planned, alone, lookup_plan, lookup_status, missing_line, bytes_line, Reaches}
+use Rattle.geofeed_cmd.specs.Commands.{lookup}
+use Rattle.geofeed_cmd.specs.Ending.{Plan, refused, planned, alone, lookup_plan, lookup_status, missing_line, bytes_line}
 use Rattle.geofeed_cmd.specs.Lookup.{file_line}
 use Rattle.geofeed_cmd.specs.Stops.{Publishes}
 use Rattle.geofeed_cmd.specs.Unanswered.{IsUnanswered, print_status, unanswered_line, unanswered_status}
-use Rattle.geofeed_cmd.specs.World.{World, Move, shows, after}
+use Rattle.geofeed_cmd.specs.World.{Move, shows, after}
 use Rattle.geofeed_cmd.proofs.AnswerLemmas.{append-nil, at_planned, comes-refused, prints-nothing}
 
 abbrev Plans : Told → (name : List ℕ) → (address : ℕ) → Plan → Type 0

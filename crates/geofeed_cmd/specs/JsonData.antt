@@ -1,5 +1,5 @@
 -- The JSON value that is made of a value of the data section.
-use Rattle.std.specs.Prelude.{ℕ, List, decimal}
+use Rattle.std.specs.Prelude.{decimal}
 use Rattle.hex.specs.Hex.{encode_lower}
 use Rattle.serde_json.specs.Data.{Data, boolean, number, string, array, object, unsigned, put, Items as DataItems, no_items as no_data_items, item as data_item, Members as DataMembers, no_members as no_data_members}
 use Rattle.serde_json.specs.Find.{of_integer}

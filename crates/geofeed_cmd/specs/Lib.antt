@@ -18,3 +18,4 @@ pub mod Json
 pub mod JsonData
 pub mod Lookup
 pub mod Unanswered
+pub mod LookupEnds

@@ -1,5 +1,5 @@
 -- What `lookup` prints of an address in a file.
-use Rattle.std.specs.Prelude.{◌≡◌, ℕ, List, [], ◌∷◌, ◌++◌, codes, decimal, Option, Some, None, Result, Ok, Err}
+use Rattle.std.specs.Prelude.{◌≡◌, ℕ, List, [], ◌++◌, codes, decimal, Option, Some, None, Result, Ok, Err}
 use Rattle.geo_addr.specs.Bits.{bits_of}
 use Rattle.mmdb_data.specs.declared.fault.DataCause.{DataCause}
 use Rattle.mmdb_data.specs.declared.fault.DataCause.TheVariants as causes

@@ -12,6 +12,7 @@ mod job;
 mod job_laws;
 mod lookup;
 mod lookup_command;
+mod lookup_laws;
 mod names;
 mod printing;
 mod refusal;
@@ -29,6 +30,7 @@ pub use job_laws::{
     accepted_job_says_its_lines, accepted_job_sets_once_emits_once, only_passed_lines_have_no_epoch,
 };
 pub use lookup::{LookupFault, lookup_text};
+pub use lookup_laws::lookup_ends_by_cases;
 pub use names::is_name;
 pub use status::Status;
 pub use value_json::json_text;
@@ -37,5 +39,7 @@ pub use value_json::json_text;
 mod job_tests;
 #[cfg(test)]
 mod json_tests;
+#[cfg(test)]
+mod lookup_command_tests;
 #[cfg(test)]
 mod lookup_tests;
