@@ -43,3 +43,5 @@ mod json_tests;
 mod lookup_command_tests;
 #[cfg(test)]
 mod lookup_tests;
+#[cfg(test)]
+mod tests;
