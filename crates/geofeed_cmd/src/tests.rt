@@ -339,3 +339,31 @@ fn order_of_lines(rt: HostRuntime) -> Result<(), Fail> {
     assert!(rt; folder.bytes_of("a") == folder.bytes_of("b"));
     Ok(())
 }
+
+/// A source of so many lines.
+fn lines(alloc: Global, line: &[u8], count: u32) -> Result<Vec<u8>, Fail> {
+    let mut text = Vec::new(alloc);
+    for _ in 0..count {
+        text.extend_from_slice(line)?;
+    }
+    Ok(text)
+}
+
+/// One delegation more than a source may have.
+#[test]
+fn too_many_delegations(rt: HostRuntime) -> Result<(), Fail> {
+    let alloc = rt.alloc();
+    let mut folder = folder_of(alloc, &[("job", EMIT)], 0, 0)?;
+    let text = lines(
+        alloc,
+        b"|DE|ipv4|1.0.0.0|1||allocated\n".as_slice(),
+        2_097_153,
+    )?;
+    folder.hold("s.txt", text.as_slice())?;
+    let mut out = MemSink::new(alloc, Vec::new(alloc));
+    let words = ["build", "job"];
+    let status = ran::<_, Brand>(&rt, alloc, &words, &mut folder, &mut out, Blank::new(1))?;
+    assert_eq!(rt; status, Status::Source);
+    assert!(rt; out.written() == b"stop source 2 statements\n".as_slice());
+    Ok(())
+}
