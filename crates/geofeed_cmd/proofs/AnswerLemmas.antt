@@ -17,15 +17,15 @@ use Rattle.geofeed_cmd.specs.declared.status.Status.{Status}
 use Rattle.geofeed_cmd.specs.declared.status.Status.TheVariants as statuses
 use Rattle.geofeed_cmd.specs.declared.stop.Halt.{Halt}
 use Rattle.geofeed_cmd.specs.declared.stop.Halt.TheVariants as halts
-use Rattle.geofeed_cmd.specs.Answers.{Seen, Closes, EndsWith, Announces, ComesTo, IsDone, Leaves, StopsIn, IsUnput, IsUnprintedAt, IsUnread, IsUnchanged, Comes, IsFault, read, write, memory, IsAnswer}
+use Rattle.geofeed_cmd.specs.Answers.{Seen, Closes, EndsWith, Announces, ComesTo, IsDone, Leaves, IsUnchanged, Comes, read, write, memory, IsAnswer}
 use Rattle.geofeed_cmd.specs.Commands.{Command, build}
-use Rattle.geofeed_cmd.specs.Course.{Outcome, ended, stopped, course, moves_of, IsAt}
+use Rattle.geofeed_cmd.specs.Course.{stopped, moves_of, IsAt}
 use Rattle.geofeed_cmd.specs.Drafts.{no_lines}
-use Rattle.geofeed_cmd.specs.Ending.{Plan, refused, planned, plan_of, build_plan, job_plan, job_status, job_line, missing_line, words_line, ending, ending_by, ending_of, status_of, stop_line, Reaches}
+use Rattle.geofeed_cmd.specs.Ending.{refused, planned, plan_of, build_plan, job_plan, job_status, job_line, missing_line, words_line, ending, ending_by, ending_of, status_of, stop_line, Reaches}
 use Rattle.geofeed_cmd.specs.Job.{job, job_of, draft_from}
 use Rattle.geofeed_cmd.specs.Refusals.{IsRefusal, refusal_line, refusal_status}
-use Rattle.geofeed_cmd.specs.Stops.{Prints, PrintsPart, Tail, Halts, IsBlocked, IsSpent, DoesAll, StopsAt, Publishes}
-use Rattle.geofeed_cmd.specs.World.{World, Move, does, blocked, prints, cost}
+use Rattle.geofeed_cmd.specs.Stops.{Prints, Tail, Halts, IsBlocked, DoesAll, StopsAt}
+use Rattle.geofeed_cmd.specs.World.{World, Move, does, prints, cost}
 use Rattle.geofeed_cmd.proofs.CourseLemmas.{course_blocked}
 use Rattle.geofeed_cmd.proofs.LimitLemmas.{reached_cheap}
 

@@ -1,6 +1,6 @@
 -- Each answer that is no fault has its cause, and a cause has no other answer.
-use Rattle.std.proofs.Common.{◌≡◌, ◌≢◌, ◌≤◌, ◌<◌, ℕ, zero, suc, ◌⊎◌, inl, inr, Bool, true, false, nat_lt, List, [], ◌∷◌, length, take, refl, sym, ◌∙◌, ap, subst, rules}
-use Rattle.std.specs.Prelude.{Option, Some, None, Result, Ok, Err, slice_get, if◌then◌else◌}
+use Rattle.std.proofs.Common.{◌≡◌, ◌≢◌, ◌≤◌, ◌<◌, ℕ, suc, ◌⊎◌, inl, inr, Bool, true, false, nat_lt, List, [], ◌∷◌, length, take, refl, sym, ◌∙◌, ap, subst, rules}
+use Rattle.std.specs.Prelude.{Option, Some, None, Result, Ok, Err, if◌then◌else◌}
 use Rattle.std.specs.FinMap as map
 use Rattle.geo_outside.specs.Files.{Told}
 use Rattle.geofeed_cmd.specs.declared.job.Job.{Job}
@@ -16,7 +16,7 @@ use Rattle.geofeed_cmd.specs.Answers.{IsFault, read, write, memory, IsAnswer}
 use Rattle.geofeed_cmd.specs.Causes.{IsFree, IsAbsent, IsNoJob, IsBlockedFor, IsOverLimit, IsDamaged, Causes}
 use Rattle.geofeed_cmd.specs.Commands.{Command, build, lookup, file_first}
 use Rattle.geofeed_cmd.specs.Course.{Outcome, ended, stopped, unless, course, moves_of, IsAt}
-use Rattle.geofeed_cmd.specs.Ending.{Plan, refused, planned, plan_of, build_plan, job_plan, job_status, start_of, lookup_plan, answer_plan, lookup_status, alone, longest_file, bytes_line, ending, ending_by, ending_of, status_of, Reaches}
+use Rattle.geofeed_cmd.specs.Ending.{refused, planned, plan_of, build_plan, job_plan, job_status, start_of, lookup_plan, answer_plan, lookup_status, alone, longest_file, bytes_line, ending, ending_by, ending_of, status_of}
 use Rattle.geofeed_cmd.specs.Job.{job}
 use Rattle.geofeed_cmd.specs.Lookup.{answer}
 use Rattle.geofeed_cmd.specs.World.{World, Move, shows, blocked, after}

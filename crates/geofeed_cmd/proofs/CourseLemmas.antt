@@ -1,9 +1,9 @@
 -- The run of a list of moves, in parts.
-use Rattle.std.proofs.Common.{◌≡◌, ℕ, zero, suc, ◌+◌, ◌≤◌, List, [], ◌∷◌, ◌++◌, take, drop, refl, sym, ◌∙◌, ap, subst, arith}
+use Rattle.std.proofs.Common.{◌≡◌, ℕ, zero, suc, List, [], ◌∷◌, ◌++◌, take, drop, refl, sym, ◌∙◌, ap}
 use Rattle.std.proofs.lemmas.List.{take-append-drop}
 use Rattle.std.specs.Prelude.{slice_get, Option, Some, None}
 use Rattle.geofeed_cmd.specs.declared.stop.Halt.{Halt}
-use Rattle.geofeed_cmd.specs.World.{World, Move, blocked, after, cost}
+use Rattle.geofeed_cmd.specs.World.{World, Move, blocked, after}
 use Rattle.geofeed_cmd.specs.Course.{Outcome, ended, stopped, unless, course, go_on, IsAt}
 
 unless-go_on : (why : Option Halt) (move : Move) (world : World) (next : Outcome) (more : List Move) → unless why move world (go_on next more) ≡ go_on (unless why move world next) more

@@ -1,16 +1,13 @@
 -- What is done at `Done`.
-use Rattle.std.proofs.Common.{◌≡◌, ℕ, zero, suc, ◌^◌, ◌≤◌, ◌<◌, ◌⊎◌, inl, inr, List, [], ◌∷◌, length, map, refl, sym, ◌∙◌, ap, subst, Bool, true, false}
+use Rattle.std.proofs.Common.{◌≡◌, ℕ, zero, suc, ◌≤◌, ◌⊎◌, inl, inr, List, [], ◌∷◌, length, map, refl, sym, ◌∙◌, ap, subst, Bool, true, false}
 use Rattle.std.proofs.lemmas.List.{length-map}
-use Rattle.std.specs.Prelude.{Option, Some, None, option_map, slice_index_or}
+use Rattle.std.specs.Prelude.{Option, Some, option_map, slice_index_or}
 use Rattle.geo_addr.specs.Bits.{bits_of}
 use Rattle.geo_outside.specs.Files.{Told}
-use Rattle.geo_terms.specs.PlaceForm.{PlaceParts}
 use Rattle.geo_terms.specs.Precedence.{record_at}
 use Rattle.least_nodes.specs.NodeList.{Member, at, says, go, side, records_at, map_member, map_pair}
 use Rattle.least_nodes.specs.Laws.{Finds}
-use Rattle.mmdb_data.specs.Tree.{Tree as Value}
-use Rattle.mmdb_file.specs.PlaceValue.{place_value}
-use Rattle.update_session.specs.State.{State, FileValue, file_of}
+use Rattle.update_session.specs.State.{State, FileValue}
 use Rattle.geofeed_cmd.specs.declared.job.Act.{Act}
 use Rattle.geofeed_cmd.specs.declared.job.Act.TheVariants.{Emit}
 use Rattle.geofeed_cmd.specs.declared.job.Step.{Step}
@@ -20,7 +17,7 @@ use Rattle.geofeed_cmd.specs.Answers.{Seen, Comes, IsDone, IsFault, read, write,
 use Rattle.geofeed_cmd.specs.Commands.{Command}
 use Rattle.geofeed_cmd.specs.Ending.{Reaches}
 use Rattle.geofeed_cmd.specs.Stops.{ActPublishes, IsPublished}
-use Rattle.geofeed_cmd.specs.Values.{AreDistinct, IsLeastByValue}
+use Rattle.geofeed_cmd.specs.Values.{IsLeastByValue}
 use Rattle.geofeed_cmd.specs.World.{World, does}
 use Rattle.geofeed_cmd.proofs.ValueLemmas.{record_of, record_back}
 

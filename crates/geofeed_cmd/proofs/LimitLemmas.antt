@@ -1,5 +1,5 @@
 -- The one emit of an accepted job never takes too many steps: a job sets one statistics file at most, whose delegations are limited.
-use Rattle.std.proofs.Common.{◌≡◌, ℕ, zero, suc, ◌+◌, ◌-◌, ◌*◌, ◌^◌, ◌≤◌, ◌<◌, Bool, true, false, cond, List, [], ◌∷◌, ◌++◌, length, take, refl, sym, ◌∙◌, ap, subst, arith, rules, length-append, lit<, nat_lt, mul-le-mul_left}
+use Rattle.std.proofs.Common.{◌≡◌, ℕ, zero, suc, ◌+◌, ◌-◌, ◌*◌, ◌^◌, ◌≤◌, ◌<◌, Bool, true, false, cond, List, [], ◌∷◌, ◌++◌, length, take, refl, ◌∙◌, ap, subst, arith, rules, length-append, nat_lt}
 use Rattle.std.proofs.lemmas.List.{length-map}
 use Rattle.std.proofs.lemmas.List.Sums.{sum_by-cons}
 use Rattle.std.specs.Prelude.{Option, Some, None, Result, Ok, Err, slice_get, count_by, flat_map, filter, map, nat_eq, if◌then◌else◌}
@@ -12,7 +12,7 @@ use Rattle.geo_outside.specs.Files.{Told}
 use Rattle.geo_terms.specs.Cuts.{statement_ranges}
 use Rattle.geo_terms.specs.Precedence.{text_cmp}
 use Rattle.geo_terms.specs.SourceForm.{StatsParts}
-use Rattle.geo_terms.specs.Sources.{InForce, references, entries, delegations, override_rows}
+use Rattle.geo_terms.specs.Sources.{references, entries, delegations, override_rows}
 use Rattle.geo_terms.specs.DelegationForm.{DelegationParts}
 use Rattle.geo_terms.specs.declared.statement.Entry.{Entry}
 use Rattle.geo_terms.specs.declared.statement.Override.{Override}
@@ -35,11 +35,11 @@ use Rattle.geofeed_cmd.specs.declared.stop.Halt.TheVariants.{TooLong, TooMany}
 use Rattle.geofeed_cmd.specs.Commands.{Command, build, lookup}
 use Rattle.geofeed_cmd.specs.Course.{ended, unless, course, moves_of, IsAt}
 use Rattle.geofeed_cmd.specs.Drafts.{is_emit, is_stats, emits, sets_stats}
-use Rattle.geofeed_cmd.specs.Ending.{Plan, planned, refused, plan_of, build_plan, job_plan, start_of, lookup_plan, answer_plan, alone, longest_file, bytes_line}
+use Rattle.geofeed_cmd.specs.Ending.{planned, refused, plan_of, build_plan, job_plan, start_of, lookup_plan, answer_plan, alone, longest_file, bytes_line}
 use Rattle.geofeed_cmd.specs.Job.{job}
 use Rattle.geofeed_cmd.specs.Laws.{SetsAndEmitsOnce}
 use Rattle.geofeed_cmd.specs.Lookup.{answer}
-use Rattle.geofeed_cmd.specs.World.{World, Move, does, shows, blocked, act_blocked, act_state, act_cost, after, cost, file_in, set_from, unusable}
+use Rattle.geofeed_cmd.specs.World.{World, Move, does, shows, act_blocked, act_state, act_cost, after, cost, file_in, set_from, unusable}
 use Rattle.geofeed_cmd.proofs.LawLemmas.{sets_and_emits_once}
 
 -- how many statements are in force

@@ -1,6 +1,6 @@
 -- The database type of an accepted job is short.
-use Rattle.std.proofs.Common.{◌≡◌, ℕ, ◌^◌, ◌≤◌, ◌&&◌, Bool, true, false, List, [], ◌∷◌, length, refl, sym, ◌∙◌, ap, subst, arith, rules, lit≤}
-use Rattle.std.specs.Prelude.{Option, Some, None, Ok, nat_le, nat_lt, if◌then◌else◌, codes}
+use Rattle.std.proofs.Common.{◌≡◌, ℕ, ◌^◌, ◌≤◌, ◌&&◌, Bool, true, false, List, [], ◌∷◌, length, refl, subst, rules, lit≤}
+use Rattle.std.specs.Prelude.{Option, Some, None, nat_le, nat_lt, if◌then◌else◌, codes}
 use Rattle.std.specs.List.{filter_map, list_all, cons_option}
 use Rattle.geo_addr.specs.Decimals.{decimal}
 use Rattle.geo_addr.specs.Lines.{numbered_lines}
@@ -10,7 +10,6 @@ use Rattle.geofeed_cmd.specs.declared.form.Form.TheVariants.{Epoch, TypeName, Do
 use Rattle.geofeed_cmd.specs.declared.job.Act.TheVariants.{Stats, Emit, Report}
 use Rattle.geofeed_cmd.specs.declared.job.Job.{Job}
 use Rattle.geofeed_cmd.specs.Forms.{form_of, form_of_one, form_of_two, form_of_three, type_form, epoch_form, epoch_of, emit_form, stats_form, is_passed_over, words}
-use Rattle.geofeed_cmd.specs.Job.{default_name}
 use Rattle.geofeed_cmd.specs.Names.{is_type_name, is_name, is_slot, is_visible}
 use Rattle.geofeed_cmd.specs.Said.{SaysItsLines, form_said, is_only, name_in, name_said}
 

@@ -1,12 +1,11 @@
 -- The values of places, told apart by a test; and the least tree where trees carry values.
-use Rattle.std.proofs.Common.{◌≡◌, ◌≢◌, ℕ, ◌^◌, ◌≤◌, ◌<◌, ◌⊎◌, inl, inr, Bool, true, false, ◌&&◌, List, [], ◌∷◌, ◌++◌, length, map, refl, sym, ◌∙◌, ap, ap₂, subst}
+use Rattle.std.proofs.Common.{◌≡◌, ℕ, ◌^◌, ◌<◌, inl, inr, Bool, true, false, ◌&&◌, List, [], ◌∷◌, ◌++◌, refl, sym, ◌∙◌, ap, ap₂}
 use Rattle.std.specs.Cmp.Lexicographic.{bytes_decides}
 use Rattle.std.specs.Prelude.{Option, Some, None, option_map, unwrap_or, codes, if◌then◌else◌}
 use Rattle.geo_addr.specs.Bits.{bits_of}
 use Rattle.geo_terms.specs.PlaceForm.{PlaceParts, same_text}
 use Rattle.geo_terms.specs.Precedence.{record_at}
 use Rattle.geo_terms.specs.Sources.{InForce}
-use Rattle.trie_core.specs.Laws.{Answers}
 use Rattle.trie_core.specs.Tree.{Tree, leaf, node, look, HasLeaf, tree}
 use Rattle.trie_core.proofs.TreeLemmas.{TreeOfFunction-holds}
 use Rattle.mmdb_data.specs.Tree.{Tree as Value, Members, Items, map as map_value, list as list_value, text as text_value, bytes as bytes_value, u16, u32, i32, u64, u128, bool, double, float, no_members, member, no_items, item}

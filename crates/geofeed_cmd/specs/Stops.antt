@@ -1,5 +1,5 @@
 -- What a list of moves leaves where all were made, and where one could not be made: the table of stops.
-use Rattle.std.specs.Prelude.{◌≡◌, ℕ, ◌+◌, ◌-◌, ◌^◌, ◌≤◌, ◌<◌, ◌⊎◌, List, ◌++◌, take, length, Bool, true, false, IsTrue, Option, Some, None, option_map, Ok}
+use Rattle.std.specs.Prelude.{◌≡◌, ℕ, ◌+◌, ◌-◌, ◌^◌, ◌≤◌, ◌<◌, ◌⊎◌, List, ◌++◌, take, length, Option, Some, None, option_map, Ok}
 use Rattle.geo_addr.specs.Bits.{bits_of}
 use Rattle.geo_outside.specs.Files.{Told, Spoils}
 use Rattle.geo_terms.specs.PlaceForm.{PlaceParts}

@@ -1,5 +1,5 @@
 -- The least tree, where trees carry values in place of places.
-use Rattle.std.specs.Prelude.{◌≡◌, ℕ, ◌≤◌, List, length, Option, Some, option_map}
+use Rattle.std.specs.Prelude.{◌≡◌, ◌≤◌, List, length, Option, Some, option_map}
 use Rattle.geo_terms.specs.PlaceForm.{PlaceParts}
 use Rattle.geo_terms.specs.Precedence.{record_at}
 use Rattle.trie_core.specs.Tree.{HasLeaf}

@@ -1,5 +1,5 @@
 -- The answer of `build` from that of its parts.
-use Rattle.std.proofs.Common.{◌≡◌, ◌≤◌, ◌∙◌, arith}
+use Rattle.std.proofs.Common.{◌≤◌, ◌∙◌, arith}
 use Rattle.std.specs.Prelude.{Some}
 use Rattle.geofeed_cmd.specs.Commands.{build}
 use Rattle.geofeed_cmd.proofs.AnswerLemmas.{comes_earlier, comes_refusal}

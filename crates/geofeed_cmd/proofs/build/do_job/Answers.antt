@@ -1,5 +1,5 @@
 -- The answer of a job from what its steps left.
-use Rattle.std.proofs.Common.{◌≡◌, ◌≤◌, refl, sym, ◌∙◌, ap, arith, List}
+use Rattle.std.proofs.Common.{refl, sym, ◌∙◌, ap, arith, List}
 use Rattle.std.proofs.lemmas.Option.{slice_get_read}
 use Rattle.geo_outside.specs.Count.{Rose}
 use Rattle.geofeed_cmd.specs.declared.job.Step.{Step}
