@@ -18,7 +18,7 @@ done < <(sed -n 's/^    [A-Z][A-Za-z]* = \([0-9]*\),$/\1/p' crates/geofeed_cmd/s
 if ! command -v man >/dev/null; then
     echo "checks/manual.sh: the page's form is not looked at: there is no man"
 else
-    faults=$(MANWIDTH=80 man --warnings -E UTF-8 -l geofeed.1 2>&1 >/dev/null)
+    faults=$(LC_ALL=C.UTF-8 MANWIDTH=80 man --warnings -E UTF-8 -l geofeed.1 2>&1 >/dev/null)
     if [ -n "$faults" ]; then
         echo "checks/manual.sh: $faults"
         failed=1
