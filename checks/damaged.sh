@@ -1,23 +1,9 @@
 #!/usr/bin/env bash
 # Damaged files: each cut of a written file and each change of one of its bytes is looked up in, and a small file that
 # stands for 2^30 values. The program has to answer each by its status, and never be stopped by the system.
-# As checks/mmdblookup.sh, this builds nothing and passes where the program is missing.
 set -u
 cd "$(dirname "${BASH_SOURCE[0]}")/.." || exit 1
-program=$PWD/crates/geofeed/out/geofeed
-if [ ! -x "$program" ]; then
-    echo "checks/damaged.sh: skipped: $program is not built"
-    exit 0
-fi
-work=$(mktemp -d) || exit 1
-trap 'rm -rf "$work"' EXIT
-cd "$work" || exit 1
-failed=0
-
-fail() {
-    echo "checks/damaged.sh: $*"
-    failed=1
-}
+. checks/with_program.bash
 
 # looked_up NAME: what a lookup prints, and its status in `status`.
 looked_up() {
@@ -68,5 +54,4 @@ done
 looked_up many
 [[ "$status $printed" == '9 stop file Many '* ]] || fail "2^30 values give status $status and '$printed'"
 
-[ "$failed" -eq 0 ] && echo "checks/damaged.sh: passed"
-exit "$failed"
+verdict

@@ -1,17 +1,8 @@
 #!/usr/bin/env bash
 # A statistics file of the limit's 268,435,456 bytes is read, and one of a byte more is refused. The files are sparse.
-# As checks/mmdblookup.sh, this builds nothing and passes where the program is missing.
 set -u
 cd "$(dirname "${BASH_SOURCE[0]}")/.." || exit 1
-program=$PWD/crates/geofeed/out/geofeed
-if [ ! -x "$program" ]; then
-    echo "checks/limits.sh: skipped: $program is not built"
-    exit 0
-fi
-work=$(mktemp -d) || exit 1
-trap 'rm -rf "$work"' EXIT
-cd "$work" || exit 1
-failed=0
+. checks/with_program.bash
 printf 'epoch 1700000000\nstats x s.txt\nemit out.mmdb\n' > job
 
 # ends BYTES STATUS LINE: with a file of so many bytes the job ends so.
@@ -22,15 +13,13 @@ ends() {
     printed=$("$program" build job)
     status=$?
     if [ "$status" -eq 1 ]; then
-        echo "checks/limits.sh: $1 bytes are skipped: there is too little memory"
+        echo "$check: $1 bytes are skipped: there is too little memory"
     elif [ "$status" -ne "$2" ] || [ "$printed" != "$3" ]; then
-        echo "checks/limits.sh: $1 bytes end with status $status and '$printed', and not with $2 and '$3'"
-        failed=1
+        fail "$1 bytes end with status $status and '$printed', and not with $2 and '$3'"
     fi
 }
 
 ends 268435457 7 'stop source 2 bytes'
 ends 268435456 0 'emit out.mmdb nodes 120 data 22 bits 24 bytes 961'
 
-[ "$failed" -eq 0 ] && echo "checks/limits.sh: passed"
-exit "$failed"
+verdict

@@ -1,28 +1,10 @@
 #!/usr/bin/env bash
 # Files that the program writes, opened by libmaxminddb's own `mmdblookup`: addresses inside and outside of each
 # prefix, and addresses at random, for which the program's own `lookup` has to say the same.
-# `rt ci` leaves the program in crates/geofeed/out. Where it is missing nothing is built here, since a first build
-# takes many minutes, and the check passes.
 set -u
 cd "$(dirname "${BASH_SOURCE[0]}")/.." || exit 1
-program=$PWD/crates/geofeed/out/geofeed
-if [ ! -x "$program" ]; then
-    echo "checks/mmdblookup.sh: skipped: $program is not built"
-    exit 0
-fi
-if ! command -v mmdblookup >/dev/null; then
-    echo "checks/mmdblookup.sh: skipped: there is no mmdblookup (Debian's mmdb-bin)"
-    exit 0
-fi
-work=$(mktemp -d) || exit 1
-trap 'rm -rf "$work"' EXIT
-cd "$work" || exit 1
-failed=0
-
-fail() {
-    echo "checks/mmdblookup.sh: $*"
-    failed=1
-}
+. checks/with_program.bash
+command -v mmdblookup >/dev/null || skip "there is no mmdblookup (Debian's mmdb-bin)"
 
 # emits LINE TEXT: a job of these statistics has to print this line.
 emits() {
@@ -106,5 +88,4 @@ done < <(awk 'BEGIN {
 }
 function below(most) { seed = (seed * 16807) % 2147483647; return seed % most }')
 
-[ "$failed" -eq 0 ] && echo "checks/mmdblookup.sh: passed"
-exit "$failed"
+verdict
