@@ -37,7 +37,7 @@ fn fields_name_places(rt: HostRuntime) -> Result<(), Fail> {
         ("zz", "", "X", ("nothing", "")),
         ("", "ZZ-1", "", ("nothing", "")),
         ("", "", "", ("nothing", "")),
-        ("D1", "DEBY", "", ("refused", "country")),
+        ("A1", "DEBY", "", ("refused", "country")),
         ("DE", "DEBY", "", ("refused", "region")),
     ];
     for (country, region, city, wanted) in table {
