@@ -25,8 +25,8 @@ pub fn is_name(word: &[u8]) -> bool
     is_text(word) && has_name_bytes(word) && has_parts(word)
 }
 
-#[tactic(auto, using(crate::proofs::TextLemmas::text_tests))]
 /// Whether bytes are UTF-8.
+#[tactic(auto, using(crate::proofs::TextLemmas::text_tests))]
 pub(crate) fn is_text(word: &[u8]) -> bool
     ensures { result ≡ is_utf8 word.now }
 {
