@@ -1,0 +1,13 @@
+//! Laws over the definitions alone, which the readers above rest on.
+ghost use Rattle.rpsl_reader.specs.Laws.{PiecesJoin, WantedJoins};
+
+/// Two pieces, one after the other, are one piece.
+pub fn pieces_join()
+    ensures { PiecesJoin }
+{}
+
+/// What is wanted of some items is what is wanted of each part of them.
+#[tactic(auto, using(crate::proofs::Pieces::wanted_joins))]
+pub fn wanted_joins()
+    ensures { WantedJoins }
+{}
