@@ -2,10 +2,10 @@ use Rattle.std.proofs.Common.{◌≡◌, ◌-◌, true, false, leb, None, eqb, r
 use Rattle.std.specs.List.Sorted.{IsPartitionPoint}
 use Rattle.std.proofs.lemmas.List.Sorted.{IsPartitionPoint-from_clause, IsPartitionedBy-leb}
 use Rattle.std.proofs.lemmas.Bool.Decides.{nat_tests}
-use Rattle.precedence.specs.Boundaries.{told}
-use Rattle.precedence.specs.declared.boundaries.Boundary.{Boundary}
-use Rattle.precedence.proofs.BoundaryLemmas.{told_found}
-use Rattle.precedence.proofs.boundaries.told.Goals as goal
+use Rattle.geo_terms.specs.Boundaries.{told}
+use Rattle.geo_terms.specs.declared.boundaries.Boundary.{Boundary}
+use Rattle.geo_terms.proofs.BoundaryLemmas.{told_found}
+use Rattle.geo_terms.proofs.boundaries.told.Goals as goal
 
 pub returns-in_err-last : goal.returns-in_err-last
 returns-in_err-last c =

@@ -7,11 +7,11 @@ use Rattle.std.proofs.lemmas.List.Elements.{All-from_recursion, recursion_from_A
 use Rattle.std.proofs.lemmas.List.Folds.{list_any-append}
 use Rattle.std.proofs.lemmas.List.Sorted.{list_any-IsPermutation, All-permutation}
 use Rattle.geo_addr.specs.Ranges.{Ends, IsRange, ground_first, holds}
-use Rattle.precedence.specs.Boundaries.{told, AreBoundaries}
-use Rattle.precedence.specs.Edges.{edges_of, edges_from, after_edge, sweep}
-use Rattle.precedence.specs.declared.boundaries.Boundary.{Boundary}
-use Rattle.precedence.specs.declared.boundaries.Edge.{Edge}
-use Rattle.precedence.proofs.RankLemmas.{after_all, flag, up_all, in_all, head_is_position}
+use Rattle.geo_terms.specs.Boundaries.{told, AreBoundaries}
+use Rattle.geo_terms.specs.Edges.{edges_of, edges_from, after_edge, sweep}
+use Rattle.geo_terms.specs.declared.boundaries.Boundary.{Boundary}
+use Rattle.geo_terms.specs.declared.boundaries.Edge.{Edge}
+use Rattle.geo_terms.proofs.RankLemmas.{after_all, flag, up_all, in_all, head_is_position}
 
 -- the edges at or below an address
 abbrev upto : ℕ → List Edge → List Edge

@@ -2,8 +2,8 @@
 ghost use Rattle.std.specs.Prelude.{◌≡◌, ◌++◌, IfOk, OnOk, All, None, slice_get, []};
 ghost use Rattle.std.specs.List.Sorted.{IsNonDecreasingBy};
 ghost use Rattle.geo_addr.specs.Ranges.{IsRange};
-ghost use Rattle.precedence.specs.Boundaries.{told, AreBoundaries};
-ghost use Rattle.precedence.specs.Edges.{edges_of, edges_from, after_edge, sweep};
+ghost use Rattle.geo_terms.specs.Boundaries.{told, AreBoundaries};
+ghost use Rattle.geo_terms.specs.Edges.{edges_of, edges_from, after_edge, sweep};
 
 use geo_addr::{Memory, Range};
 use std::alloc::Global;

@@ -1,12 +1,12 @@
 use Rattle.std.proofs.Common.{List, sym, subst, rules}
 use Rattle.std.specs.List.Sorted.{IsPermutation, IsNonDecreasingBy}
 use Rattle.std.proofs.lemmas.List.Sorted.{IsNonDecreasingBy-from_sort_by_key}
-use Rattle.precedence.specs.Boundaries.{AreBoundaries}
-use Rattle.precedence.specs.Edges.{edges_from}
-use Rattle.precedence.specs.declared.boundaries.Boundary.{Boundary}
-use Rattle.precedence.specs.declared.boundaries.Edge.{Edge}
-use Rattle.precedence.proofs.BoundaryLemmas.{are_boundaries}
-use Rattle.precedence.proofs.boundaries.boundaries_of.Goals as goal
+use Rattle.geo_terms.specs.Boundaries.{AreBoundaries}
+use Rattle.geo_terms.specs.Edges.{edges_from}
+use Rattle.geo_terms.specs.declared.boundaries.Boundary.{Boundary}
+use Rattle.geo_terms.specs.declared.boundaries.Edge.{Edge}
+use Rattle.geo_terms.proofs.BoundaryLemmas.{are_boundaries}
+use Rattle.geo_terms.proofs.boundaries.boundaries_of.Goals as goal
 
 pub returns : goal.returns
 returns c =

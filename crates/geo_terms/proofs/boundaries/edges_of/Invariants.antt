@@ -1,8 +1,8 @@
 use Rattle.std.proofs.Common.{◌≡◌, ◌++◌, take, drop}
 use Rattle.std.specs.List.{All}
 use Rattle.geo_addr.specs.Ranges.{IsRange}
-use Rattle.precedence.specs.Edges.{edges_from}
-use Rattle.precedence.proofs.boundaries.edges_of.Given as goal
+use Rattle.geo_terms.specs.Edges.{edges_from}
+use Rattle.geo_terms.proofs.boundaries.edges_of.Given as goal
 
 -- the edges of the ranges that are left follow what was found
 abbrev pub invariant-loop-rank : goal.invariant-loop-rank

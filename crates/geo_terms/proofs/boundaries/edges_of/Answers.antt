@@ -4,7 +4,7 @@ use Rattle.std.proofs.lemmas.Grind.{common_steps}
 use Rattle.std.proofs.lemmas.List.Elements.{All-more}
 use Rattle.std.proofs.lemmas.List.{take_all}
 use Rattle.geo_addr.specs.Ranges.{Ends, IsRange}
-use Rattle.precedence.proofs.boundaries.edges_of.Goals as goal
+use Rattle.geo_terms.proofs.boundaries.edges_of.Goals as goal
 
 pub loop-rank-preserved : goal.loop-rank-preserved
 loop-rank-preserved c =

@@ -1,6 +1,6 @@
 use Rattle.std.proofs.Common.{◌≡◌, ◌++◌, [], drop}
-use Rattle.precedence.specs.Edges.{sweep}
-use Rattle.precedence.proofs.boundaries.sweep.Given as goal
+use Rattle.geo_terms.specs.Edges.{sweep}
+use Rattle.geo_terms.proofs.boundaries.sweep.Given as goal
 
 -- what is left to sweep follows what was found
 abbrev pub invariant-loop-edge : goal.invariant-loop-edge
