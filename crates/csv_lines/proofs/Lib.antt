@@ -1,0 +1,3 @@
+pub mod CsvLemmas
+pub mod RestLemmas
+pub mod ScanLemmas
