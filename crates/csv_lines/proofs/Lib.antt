@@ -1,3 +1,4 @@
 pub mod CsvLemmas
+pub mod FateLemmas
 pub mod RestLemmas
 pub mod ScanLemmas
