@@ -92,9 +92,9 @@ reads Start done part (b ∷ bs) tail fs i e =
         | inr o ↦
             let (more, is, made) = map_some (with_byte b) (scan Inside bs) fs (rw (o.quote, o.comma) at e) in
             rw (o.quote, o.comma, o.carriage, o.feed) (
-              reads Inside done (part ++ (b ∷ [])) bs tail more all is
-              ∙ ap (λ (x : List (List ℕ)). given (done ++ x) tail) (grown_byte part b more)
-              ∙ ap (λ (x : List Field). answer done part x tail) made)
+            reads Inside done (part ++ (b ∷ [])) bs tail more all is
+            ∙ ap (λ (x : List (List ℕ)). given (done ++ x) tail) (grown_byte part b more)
+            ∙ ap (λ (x : List Field). answer done part x tail) made)
       ]
     ]
 reads Inside done part (b ∷ bs) tail fs i e =
@@ -108,9 +108,9 @@ reads Inside done part (b ∷ bs) tail fs i e =
         | inr o ↦
             let (more, is, made) = map_some (with_byte b) (scan Inside bs) fs (rw (o.quote, o.comma) at e) in
             rw (o.comma, o.carriage, o.feed) (
-              reads Inside done (part ++ (b ∷ [])) bs tail more all is
-              ∙ ap (λ (x : List (List ℕ)). given (done ++ x) tail) (grown_byte part b more)
-              ∙ ap (λ (x : List Field). answer done part x tail) made)
+            reads Inside done (part ++ (b ∷ [])) bs tail more all is
+            ∙ ap (λ (x : List (List ℕ)). given (done ++ x) tail) (grown_byte part b more)
+            ∙ ap (λ (x : List Field). answer done part x tail) made)
       ]
     ]
 reads Within done part (b ∷ bs) tail fs i e =
@@ -121,9 +121,9 @@ reads Within done part (b ∷ bs) tail fs i e =
           let apart = ne_eqb b 34 q in
           let (more, is, made) = map_some (with_byte b) (scan Within bs) fs (rw apart at e) in
           rw apart (
-            reads Within done (part ++ (b ∷ [])) bs tail more all is
-            ∙ ap (λ (x : List (List ℕ)). given (done ++ x) tail) (grown_byte part b more)
-            ∙ ap (λ (x : List Field). answer done part x tail) made)
+          reads Within done (part ++ (b ∷ [])) bs tail more all is
+          ∙ ap (λ (x : List (List ℕ)). given (done ++ x) tail) (grown_byte part b more)
+          ∙ ap (λ (x : List Field). answer done part x tail) made)
     ]
 reads Closed done part (b ∷ bs) tail fs i e =
     let (one, all) = and_parts (is_inner b) (list_all is_inner bs) i in
@@ -131,9 +131,9 @@ reads Closed done part (b ∷ bs) tail fs i e =
       | inl q ↦
           let (more, is, made) = map_some (with_byte 34) (scan Within bs) fs (rw q at e) in
           rw q (
-            reads Within done (part ++ (34 ∷ [])) bs tail more all is
-            ∙ ap (λ (x : List (List ℕ)). given (done ++ x) tail) (grown_byte part 34 more)
-            ∙ ap (λ (x : List Field). answer done part x tail) made)
+          reads Within done (part ++ (34 ∷ [])) bs tail more all is
+          ∙ ap (λ (x : List (List ℕ)). given (done ++ x) tail) (grown_byte part 34 more)
+          ∙ ap (λ (x : List Field). answer done part x tail) made)
       | inr k ↦ elim k [
         | inl c ↦
             let (more, is, made) = map_some with_quoted (scan Start bs) fs (rw c at e) in
@@ -148,7 +148,7 @@ unfolding next_record
 first_byte b bs e =
     elim (kind b e) [
       | inl q ↦ rw q refl
-      | inr k ↦ elim k [ | inl c ↦ rw c refl | inr o ↦ rw (o.quote, o.comma, o.carriage, o.feed) refl ]
+      | inr k ↦ elim k [ inl c ↦ rw c refl | inr o ↦ rw (o.quote, o.comma, o.carriage, o.feed) refl ]
     ]
 
 -- a text that has bytes and the values of fields is read as these values, whatever follows its line feed
@@ -157,16 +157,16 @@ pub record_of : (text tail : List ℕ) (vs : List (List ℕ)) → text ≢ [] �
 unfolding state_of
 record_of [] tail vs some e = absurd (some refl)
 record_of (b ∷ bs) tail vs some e = by (list_all is_inner (b ∷ bs)) refl e
-    where
-      by : (x : Bool) → list_all is_inner (b ∷ bs) ≡ x → cond x (option_map (map value) (fields (b ∷ bs))) None ≡ Some vs
-          → next_record default_config st.StartRecord [] [] ((b ∷ bs) ++ (10 ∷ tail)) ≡ Some (vs, st.StartRecord, tail)
-      by false i h = absurd cc
-      by true i h =
-          let (fs, is, made) = map_some (map value) (fields (b ∷ bs)) vs h in
-          let (one, all) = and_parts (is_inner b) (list_all is_inner bs) i in
-          first_byte b (bs ++ (10 ∷ tail)) one
-          ∙ reads Start [] [] (b ∷ bs) tail fs i is
-          ∙ ap (λ (x : List (List ℕ)). given x tail) (grown_none (map value fs) ∙ made)
+  where
+    by : (x : Bool) → list_all is_inner (b ∷ bs) ≡ x → cond x (option_map (map value) (fields (b ∷ bs))) None ≡ Some vs
+        → next_record default_config st.StartRecord [] [] ((b ∷ bs) ++ (10 ∷ tail)) ≡ Some (vs, st.StartRecord, tail)
+    by false i h = absurd cc
+    by true i h =
+        let (fs, is, made) = map_some (map value) (fields (b ∷ bs)) vs h in
+        let (one, all) = and_parts (is_inner b) (list_all is_inner bs) i in
+        first_byte b (bs ++ (10 ∷ tail)) one
+        ∙ reads Start [] [] (b ∷ bs) tail fs i is
+        ∙ ap (λ (x : List (List ℕ)). given x tail) (grown_none (map value fs) ∙ made)
 
 -- a line feed before the first record keeps a byte order mark from being taken off
 pub strip_feed : (bs : List ℕ) → strip_bom (10 ∷ bs) ≡ 10 ∷ bs

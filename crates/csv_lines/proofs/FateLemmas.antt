@@ -26,9 +26,8 @@ use Rattle.csv_lines.specs.declared.fate.Seen.{Seen}
 use Rattle.csv_lines.specs.declared.fate.RepeatRules.{RepeatRules}
 use Rattle.csv_lines.specs.declared.fate.Fate.TheVariants.{Kept, Repeats, Differs}
 
-
 -- membership by recursion
-abbrev Member : {X : Type 0} → List X → X → Type 0
+abbrev pub Member : {X : Type 0} → List X → X → Type 0
 Member [] x = ⊥
 Member (y ∷ ys) x = (y ≡ x) ⊎ Member ys x
 
@@ -41,7 +40,7 @@ ends_same x y h =
     let last = eqb-true x.last y.last two in
     λ i. record { first = first i; last = last i }
 
-ends_itself : (x : Ends) → same_ends x x ≡ true
+pub ends_itself : (x : Ends) → same_ends x x ≡ true
 ends_itself x = rw (eq-eqb x.first x.first refl, eq-eqb x.last x.last refl) refl
 
 said_same : (x y : Said) → same_said x y ≡ true → x ≡ y
@@ -71,7 +70,7 @@ any_cases : {X : Type 0} (p : X → Bool) (xs : List X) → list_any p xs ≡ tr
 any_cases p [] h = absurd cc
 any_cases p (x ∷ xs) h = any_step p x xs (p x) refl (any_cases p xs) h
 
-any_from : {X : Type 0} (p : X → Bool) (xs : List X) (x : X) → Member xs x → p x ≡ true → list_any p xs ≡ true
+pub any_from : {X : Type 0} (p : X → Bool) (xs : List X) (x : X) → Member xs x → p x ≡ true → list_any p xs ≡ true
 any_from p [] x m e = absurd m
 any_from p (y ∷ ys) x (inl is) e = let here : p y ≡ true = ap p is ∙ e in rw here refl
 any_from p (y ∷ ys) x (inr m) e = or_right (p y) (list_any p ys) (any_from p ys x m e)
@@ -89,14 +88,14 @@ or_assoc : (a b c : Bool) → ((a || b) || c) ≡ (a || (b || c))
 or_assoc true b c = refl
 or_assoc false b c = refl
 
-both : (a b : Bool) → a ≡ true → b ≡ true → (a && b) ≡ true
+pub both : (a b : Bool) → a ≡ true → b ≡ true → (a && b) ≡ true
 both a b e f = rw (e, f) refl
 
 apart_back : (x y : Said) → not (same_said y x) ≡ true → not (same_said x y) ≡ true
 apart_back x y e = elim (cases_Bool (same_said x y)) [
-    | inl same ↦ absurd (let f = said_same x y same in let g : not (same_said y y) ≡ true = subst (λ (s : Said). not (same_said y s) ≡ true) f e in let h = rw (said_itself y) at g in cc)
-    | inr other ↦ rw other refl
-  ]
+  | inl same ↦ absurd (let f = said_same x y same in let g : not (same_said y y) ≡ true = subst (λ (s : Said). not (same_said y s) ≡ true) f e in let h = rw (said_itself y) at g in cc)
+  | inr other ↦ rw other refl
+]
 
 get_or_same : {X : Type 0} (xs : List X) (i : ℕ) (d e : X) → i < length xs → get_or xs i d ≡ get_or xs i e
 get_or_same [] i d e l = absurd (omega arith)
@@ -208,34 +207,34 @@ module _ {X : Type 0} (line : X → ℕ) (range : X → Ends) (said : X → Said
       let f = find_first (of_range k) low all r x m (ends_itself (range x)) in
       let is = shown_found k all f.first f.found in
       let contradicted : list_any (differs_from k (said f.first)) all ≡ is_contradicted line range said all x = same_tests _ _
-          (λ h.
-              let (y, n, t) = any_cases (differs_from k (said f.first)) all h in
-              let (own, apart) = and_parts (of_range k y) (not (same_said (said y) (said f.first))) t in
-              elim (cases_Bool (same_said (said y) (said x))) [
-                | inl same ↦
-                    let is_x = said_same (said y) (said x) same in
-                    any_from (differs_from k (said x)) all f.first f.member (both (of_range k f.first) (not (same_said (said f.first) (said x))) f.passes
-                    (apart_back (said f.first) (said x) (subst (λ (s : Said). not (same_said s (said f.first)) ≡ true) is_x apart)))
-                | inr other ↦ any_from (differs_from k (said x)) all y n (both (of_range k y) (not (same_said (said y) (said x))) own (rw other refl))
-              ])
-          (λ h.
-              let (y, n, t) = any_cases (differs_from k (said x)) all h in
-              let (own, apart) = and_parts (of_range k y) (not (same_said (said y) (said x))) t in
-              elim (cases_Bool (same_said (said y) (said f.first))) [
-                | inl same ↦
-                    let is_f = said_same (said y) (said f.first) same in
-                    any_from (differs_from k (said f.first)) all x m (both (of_range k x) (not (same_said (said x) (said f.first))) (ends_itself (range x))
-                    (apart_back (said x) (said f.first) (subst (λ (s : Said). not (same_said s (said x)) ≡ true) is_f apart)))
-                | inr other ↦ any_from (differs_from k (said f.first)) all y n (both (of_range k y) (not (same_said (said y) (said f.first))) own (rw other refl))
-              ]) in
+      (λ h.
+      let (y, n, t) = any_cases (differs_from k (said f.first)) all h in
+      let (own, apart) = and_parts (of_range k y) (not (same_said (said y) (said f.first))) t in
+      elim (cases_Bool (same_said (said y) (said x))) [
+        | inl same ↦
+            let is_x = said_same (said y) (said x) same in
+            any_from (differs_from k (said x)) all f.first f.member (both (of_range k f.first) (not (same_said (said f.first) (said x))) f.passes
+            (apart_back (said f.first) (said x) (subst (λ (s : Said). not (same_said s (said f.first)) ≡ true) is_x apart)))
+        | inr other ↦ any_from (differs_from k (said x)) all y n (both (of_range k y) (not (same_said (said y) (said x))) own (rw other refl))
+      ])
+      (λ h.
+      let (y, n, t) = any_cases (differs_from k (said x)) all h in
+      let (own, apart) = and_parts (of_range k y) (not (same_said (said y) (said x))) t in
+      elim (cases_Bool (same_said (said y) (said f.first))) [
+        | inl same ↦
+            let is_f = said_same (said y) (said f.first) same in
+            any_from (differs_from k (said f.first)) all x m (both (of_range k x) (not (same_said (said x) (said f.first))) (ends_itself (range x))
+            (apart_back (said x) (said f.first) (subst (λ (s : Said). not (same_said s (said x)) ≡ true) is_f apart)))
+        | inr other ↦ any_from (differs_from k (said f.first)) all y n (both (of_range k y) (not (same_said (said y) (said f.first))) own (rw other refl))
+      ]) in
       let repeated : ltb (line f.first) (line x) ≡ is_repetition line range said all x = same_tests _ _
-          (λ h. any_from (λ y. of_range k y && ltb (line y) (line x)) all f.first f.member (both (of_range k f.first) (ltb (line f.first) (line x)) f.passes h))
-          (λ h.
-              let (y, n, t) = any_cases (λ y. of_range k y && ltb (line y) (line x)) all h in
-              let (own, lower) = and_parts (of_range k y) (ltb (line y) (line x)) t in
-              let least = f.least y n own in
-              let below = ltb-true (line y) (line x) lower in
-              lt-ltb (line f.first) (line x) (omega arith)) in
+      (λ h. any_from (λ y. of_range k y && ltb (line y) (line x)) all f.first f.member (both (of_range k f.first) (ltb (line f.first) (line x)) f.passes h))
+      (λ h.
+      let (y, n, t) = any_cases (λ y. of_range k y && ltb (line y) (line x)) all h in
+      let (own, lower) = and_parts (of_range k y) (ltb (line y) (line x)) t in
+      let least = f.least y n own in
+      let below = ltb-true (line y) (line x) lower in
+      lt-ltb (line f.first) (line x) (omega arith)) in
       ap (λ s. fate_by s (line x)) is
       ∙ ap (λ b. cond b Differs (cond (ltb (line f.first) (line x)) Repeats Kept)) contradicted
       ∙ ap (λ b. cond (is_contradicted line range said all x) Differs (cond b Repeats Kept)) repeated
@@ -273,12 +272,12 @@ module _ {X : Type 0} (line : X → ℕ) (range : X → Ends) (said : X → Said
 
   alone : (all : List X) → Rising all → (i : ℕ) (d : X) → i < length all → (q : X → Bool) → q (get_or all i d) ≡ false → list_any (λ y. same_range line range said y (get_or all i d) && q y) all ≡ false
   alone all up i d l q fails = list_any_none _ all (λ j e m. elim (cases_order i j) [
-      | inl same ↦ let at : get_or all j e ≡ get_or all i d = rw (← same) (get_or_same all i e d l) in rw at (and_right (same_range line range said (get_or all i d) (get_or all i d)) (q (get_or all i d)) fails)
-      | inr apart ↦ elim apart [
-        | inl less ↦ and_left (same_range line range said (get_or all j e) (get_or all i d)) (q (get_or all j e)) (rw (get_or_same all i d e l) ((below_apart (range (get_or all i e)) (range (get_or all j e)) (up i j e less m)).1))
-        | inr more ↦ and_left (same_range line range said (get_or all j e) (get_or all i d)) (q (get_or all j e)) (rw (get_or_same all i d e l) ((below_apart (range (get_or all j e)) (range (get_or all i e)) (up j i e more l)).0))
-      ]
-    ])
+    | inl same ↦ let at : get_or all j e ≡ get_or all i d = rw (← same) (get_or_same all i e d l) in rw at (and_right (same_range line range said (get_or all i d) (get_or all i d)) (q (get_or all i d)) fails)
+    | inr apart ↦ elim apart [
+      | inl less ↦ and_left (same_range line range said (get_or all j e) (get_or all i d)) (q (get_or all j e)) (rw (get_or_same all i d e l) ((below_apart (range (get_or all i e)) (range (get_or all j e)) (up i j e less m)).1))
+      | inr more ↦ and_left (same_range line range said (get_or all j e) (get_or all i d)) (q (get_or all j e)) (rw (get_or_same all i d e l) ((below_apart (range (get_or all j e)) (range (get_or all i e)) (up j i e more l)).0))
+    ]
+  ])
 
   each_kept : (all : List X) → Rising all → All (λ x. fate line range said all x ≡ Kept) all
   unfolding fate

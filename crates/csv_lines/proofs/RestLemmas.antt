@@ -1,6 +1,9 @@
 -- Texts, fields by their places, and what a read of a row gives.
 use Rattle.std.proofs.Common.{inl, inr, ◌≡◌, ◌≢◌, ℕ, zero, suc, ◌+◌, Bool, true, false, not, cond, List, [], ◌∷◌, ◌++◌, get_or, Option, Some, None, refl, sym, ap, ◌∙◌}
-use Rattle.std.specs.Prelude.{IsUtf8, unwrap_or, is_some}
+use Rattle.std.specs.Prelude.{IsUtf8, unwrap_or, is_some, Result, Ok, Err, IfErr, OnOk, IsOkUnless}
+use Rattle.geo_terms.specs.declared.place.Said.{Said}
+use Rattle.geo_terms.specs.declared.place.PlaceFault.{PlaceFault}
+use Rattle.geo_terms.specs.declared.place.PlaceFault.TheVariants.{Memory}
 use Rattle.std.specs.Str.{is_utf8}
 use Rattle.std.proofs.lemmas.Bool.{cases_Bool}
 use Rattle.std.proofs.lemmas.List.{append_assoc}
@@ -22,7 +25,7 @@ pub text_is : (bs : List ℕ) → IsUtf8 bs → true ≡ is_utf8 bs
 text_is bs u = sym (is_utf8-from_IsUtf8 bs u)
 
 pub text_is_not : (bs : List ℕ) → (IsUtf8 bs → ⊥) → false ≡ is_utf8 bs
-text_is_not bs n = elim (cases_Bool (is_utf8 bs)) [ | inl y ↦ absurd (n (IsUtf8-from_is_utf8 bs y)) | inr e ↦ sym e ]
+text_is_not bs n = elim (cases_Bool (is_utf8 bs)) [ inl y ↦ absurd (n (IsUtf8-from_is_utf8 bs y)) | inr e ↦ sym e ]
 
 -- the field at a place, or an empty one
 pub field_is : (row : List (List ℕ)) (i : ℕ) → unwrap_or (field_at row i) [] ≡ get_or row i []
@@ -74,13 +77,23 @@ pub read_gives : {R : Type 0} (source : R → Option (List ℕ)) (a b : Reader R
     → (f ≡ vs) × Stands source b left
 read_gives source a b found f text left vs some is stands r first =
     let next = rw (stands.config, stands.state, stands.held) at r.0 in
-    let (row, state, rest) = next_go (pending_of (source b.rdr) b) found f b.state stands.bytes left vs (stands.reads ∙ record_of text left vs some is) next in
-    (row, record {
-      ready = inl first;
-      trim = r.3 ∙ stands.trim;
-      config = r.2 ∙ stands.config;
-      state = state;
-      bytes = left;
-      held = rw r.1 rest;
-      reads = refl;
-    })
+    let (row, state, rest) = next_go (pending_of (source b.rdr) b) found f b.state stands.bytes left vs (stands.reads ∙ record_of text left vs some is) next in (
+      row,
+      record {
+        ready = inl first;
+        trim = r.3 ∙ stands.trim;
+        config = r.2 ∙ stands.config;
+        state = state;
+        bytes = left;
+        held = rw r.1 rest;
+        reads = refl;
+      },
+    )
+
+abbrev refused_by : PlaceFault → Result Said PlaceFault
+refused_by fault = Err fault
+
+-- a fault other than of memory is that of the fields
+pub fault_told : (said : Result Said PlaceFault) (fault : PlaceFault) → fault ≢ Memory → IfErr said (λ f. refused_by fault ≡ Err f) → OnOk said (IsOkUnless (refused_by fault) Memory) → refused_by fault ≡ said
+fault_told (Ok s) fault other refused otherwise = absurd (other otherwise)
+fault_told (Err f) fault other refused otherwise = refused

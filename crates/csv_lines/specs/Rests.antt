@@ -1,5 +1,5 @@
 -- What is left of a line without its comment, and how `csv` reads it (RFC 8805 section 2, RFC 4180 section 2).
-use Rattle.std.specs.Prelude.{◌≡◌, ℕ, Bool, true, false, not, is_some, List, [], ◌∷◌, ◌++◌, flat_map, Option, Some, None, unwrap_or, get_or, if◌then◌else◌}
+use Rattle.std.specs.Prelude.{◌≡◌, ℕ, ◌+◌, Result, Bool, true, false, not, is_some, List, [], ◌∷◌, ◌++◌, flat_map, Option, Some, None, unwrap_or, get_or, if◌then◌else◌}
 use Rattle.std.specs.Str.{is_utf8}
 use Rattle.geo_addr.specs.Lines.{pieces, trimmed}
 use Rattle.geo_terms.specs.PlaceForm.{is_empty}
@@ -8,6 +8,9 @@ use Rattle.csv.specs.Reading.{Ready, default_config, reader_config, reader_state
 use Rattle.csv.specs.declared.parser.State.TheVariants as st
 use Rattle.csv.specs.declared.reader.Reader.{Reader}
 use Rattle.csv.specs.declared.reader.Trim.TheVariants as trim
+use Rattle.geo_terms.specs.SaidOf.{said_of}
+use Rattle.geo_terms.specs.declared.place.PlaceFault.{PlaceFault}
+use Rattle.geo_terms.specs.declared.place.Said.{Said}
 use Rattle.csv_lines.specs.Fields.{values_of}
 use Rattle.csv_lines.specs.declared.rest.Content.{Content}
 use Rattle.csv_lines.specs.declared.rest.Content.TheVariants.{Blank, NotText, NoFields, Fields}
@@ -58,3 +61,11 @@ pub record Stands {R : Type 0} (source : R → Option (List ℕ)) (reader : Read
   pub bytes : List ℕ
   pub held : source_of source reader ≡ Some bytes
   pub reads : next_record default_config st.StartRecord [] [] bytes ≡ next_record default_config st.StartRecord [] [] left
+
+-- a reader stands where the rest of a line, and of those after it, was handed over
+abbrev pub CanRead : {R : Type 0} → (R → Option (List ℕ)) → Reader R → List ℕ → Type 0
+CanRead source reader line = (left : List ℕ) × Stands source reader (handed line ++ left)
+
+-- what four fields from a place on say of a location: country, region, city and postal code
+abbrev pub said_in : ℕ → List (List ℕ) → Result Said PlaceFault
+said_in place row = said_of (column place row) (column (place + 1) row) (column (place + 2) row) (column (place + 3) row)

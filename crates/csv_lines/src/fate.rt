@@ -10,8 +10,8 @@ ghost use Rattle.csv_lines.specs.Seen.{IsBelow, fate_by, shown, with_row};
 ghost use Rattle.csv_lines.specs.declared.fate.Fate.{Fate};
 
 use crate::fault::{Fault, merged};
-use geo_addr::{Memory, Range};
-use geo_terms::{Rule, Said};
+use geo_addr::{Memory, Range, range_of};
+use geo_terms::{Entry, Override, Rule, Said};
 use indexmap::IndexMap;
 use std::alloc::Global;
 
@@ -32,6 +32,48 @@ pub trait Accepted {
 
     fn said(&self) -> &Said
         ensures { result.now ≡ said self.now };
+}
+
+impl Accepted for Entry {
+    ghost use Rattle.geo_addr.specs.Ranges.{range_of_block};
+
+    ghost line = { λ e. e.line };
+
+    ghost range = { λ e. range_of_block e.block };
+
+    ghost said = { λ e. e.said };
+
+    fn line(&self) -> u64 {
+        self.line
+    }
+
+    fn range(&self) -> Range {
+        range_of(self.block)
+    }
+
+    fn said(&self) -> &Said {
+        &self.said
+    }
+}
+
+impl Accepted for Override {
+    ghost line = { λ o. o.line };
+
+    ghost range = { λ o. o.range };
+
+    ghost said = { λ o. o.said };
+
+    fn line(&self) -> u64 {
+        self.line
+    }
+
+    fn range(&self) -> Range {
+        self.range
+    }
+
+    fn said(&self) -> &Said {
+        &self.said
+    }
 }
 
 /// What becomes of an accepted line among those of the same range.
@@ -129,9 +171,7 @@ fn fates<T: Accepted>(alloc: Global, rows: &[T]) -> Result<Vec<Fate>, Memory>
     let seen = seen_in(alloc, rows)?;
     let mut fates = Vec::with_capacity(alloc, rows.len())?;
     for row in rows {
-        fates
-            .push(fate_in(&seen, row))
-            .map_err(Memory::from)?;
+        fates.push(fate_in(&seen, row)).map_err(Memory::from)?;
     }
     Ok(fates)
 }
@@ -150,13 +190,13 @@ fn seen_in<T: Accepted>(alloc: Global, rows: &[T]) -> Result<IndexMap<Range, See
 {
     let mut seen: IndexMap<Range, Seen> = IndexMap::new(alloc);
     for row in rows {
-        see(alloc, &mut seen, row)?;
+        see(&mut seen, row)?;
     }
     Ok(seen)
 }
 
 // Takes one more line.
-fn see<T: Accepted>(alloc: Global, seen: &mut IndexMap<Range, Seen>, row: &T) -> Result<(), Memory>
+fn see<T: Accepted>(seen: &mut IndexMap<Range, Seen>, row: &T) -> Result<(), Memory>
     ensures { (k : Ends) → OnOk result (get same_ends seen.new k ≡ with_row T.line T.range T.said (get same_ends seen.old k) row.now k) }
 {
     let range = row.range();
@@ -168,7 +208,7 @@ fn see<T: Accepted>(alloc: Global, seen: &mut IndexMap<Range, Seen>, row: &T) ->
     }
     let first = Seen {
         line: row.line(),
-        said: said_again(alloc, row.said())?,
+        said: said_again(row.said())?,
         differs: false,
     };
     let Ok(_) = seen.insert(range, first) else {
@@ -178,13 +218,13 @@ fn see<T: Accepted>(alloc: Global, seen: &mut IndexMap<Range, Seen>, row: &T) ->
 }
 
 // A second copy of what a line says.
-fn said_again(alloc: Global, said: &Said) -> Result<Said, Memory>
+fn said_again(said: &Said) -> Result<Said, Memory>
     ensures { IfOk result (λ copy. copy ≡ said.now) }
 {
     match said {
         Said::Nothing => Ok(Said::Nothing),
         Said::At(place) => {
-            let place = place.copied(alloc)?;
+            let place = place.copied()?;
             Ok(Said::At(place))
         }
     }

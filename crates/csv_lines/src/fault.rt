@@ -30,7 +30,11 @@ pub(crate) fn merged(alloc: Global, late: &[Fault], early: &[Fault]) -> Result<V
 }
 
 // Takes the faults of lower lines, and gives those that are left.
-fn take_before<'a>(faults: &'a [Fault], line: u64, all: &mut Vec<Fault>) -> Result<&'a [Fault], Memory>
+fn take_before<'a>(
+    faults: &'a [Fault],
+    line: u64,
+    all: &mut Vec<Fault>,
+) -> Result<&'a [Fault], Memory>
     ensures taken { OnOk result (all.new.items ≡ all.old.items ++ take_while (is_before line) faults.now) }
     ensures left { IfOk result (λ left. left.now ≡ drop (prefix_len (is_before line) faults.now) faults.now) }
 {

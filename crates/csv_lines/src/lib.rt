@@ -10,5 +10,5 @@ mod scan;
 pub use fate::{Accepted, Fate, Judged, RepeatRules, judge};
 pub use fault::Fault;
 pub use rest::{Content, content_of, rest_of};
-pub use rows::{all_handed, column, next_row, reader_of};
+pub use rows::{all_handed, column, next_row, reader_of, said_in};
 pub use scan::has_fields;

@@ -1,15 +1,17 @@
 //! The fields of all lines that have any, read by one `csv` reader.
-ghost use Rattle.std.specs.Prelude.{◌≡◌, ◌≢◌, [], ◌∷◌, ◌++◌, ℕ, List, Some, IfOk, OnOk};
+ghost use Rattle.std.specs.Prelude.{◌≡◌, ◌≢◌, [], ◌∷◌, ◌++◌, ◌<◌, ℕ, List, Some, IfOk, OnOk};
 ghost use Rattle.geo_addr.specs.Lines.{numbered_lines};
 ghost use Rattle.csv.specs.Records.{fields_of};
 ghost use Rattle.csv_lines.specs.Fields.{values_of};
-ghost use Rattle.csv_lines.specs.Rests.{Stands, all_handed, column, content_of, handed, rest_of, row_of};
+ghost use Rattle.csv_lines.specs.Rests.{CanRead, Stands, all_handed, column, content_of, handed, rest_of, row_of, said_in};
 ghost use Rattle.csv_lines.specs.declared.rest.Content.{Content};
 
 use crate::rest::{Content, content_of, rest_of};
 use csv::{ByteRecord, Reader, ReaderBuilder};
 use geo_addr::{Lines, Memory, trim_blanks};
+use geo_terms::{PlaceFault, Said, Texts, place_in};
 use std::alloc::Global;
+use std::str;
 
 /// What is handed to `csv` of a file: a line feed, and the rest of each line that has fields, each as
 /// a line of its own.
@@ -62,8 +64,9 @@ pub fn next_row(
     line: &[u8],
     row: &mut ByteRecord,
 ) -> Result<Content, Memory>
+    requires { CanRead (λ s. Some s.now) reader.old line.now }
     ensures content { IfOk result (λ content. content ≡ content_of (rest_of line.now)) }
-    ensures row { (left : List ℕ) → Stands (λ s. Some s.now) reader.old (handed line.now ++ left) → IfOk result (λ content. content ≡ Content.Fields → fields_of row.new ≡ row_of (rest_of line.now)) }
+    ensures row { IfOk result (λ content. content ≡ Content.Fields → fields_of row.new ≡ row_of (rest_of line.now)) }
     ensures stands { (left : List ℕ) → Stands (λ s. Some s.now) reader.old (handed line.now ++ left) → OnOk result (Stands (λ s. Some s.now) reader.new left) }
 {
     let content = content_of(rest_of(line));
@@ -94,5 +97,39 @@ pub fn column(row: &ByteRecord, place: usize) -> &[u8]
     match row.get(place) {
         Some(field) => trim_blanks(field),
         None => &[],
+    }
+}
+
+/// What four fields from a place on say of a location, or the first of their faults: country, region,
+/// city and postal code.
+#[tactic(auto, using(crate::proofs::RestLemmas::fault_told))]
+pub fn said_in(
+    texts: &mut Texts,
+    row: &ByteRecord,
+    place: usize,
+) -> Result<Result<Said, PlaceFault>, Memory>
+    requires { place < 8 }
+    ensures { IfOk result (λ said. said ≡ said_in place (fields_of row.now)) }
+{
+    let country = text_column(row, place)?;
+    let region = text_column(row, place + 1)?;
+    let city = text_column(row, place + 2)?;
+    let postal = text_column(row, place + 3)?;
+    match place_in(texts, country, region, city, postal) {
+        Ok(said) => Ok(Ok(said)),
+        Err(PlaceFault::Country) => Ok(Err(PlaceFault::Country)),
+        Err(PlaceFault::Region) => Ok(Err(PlaceFault::Region)),
+        Err(PlaceFault::TooLong) => Ok(Err(PlaceFault::TooLong)),
+        Err(PlaceFault::Memory) => Err(Memory),
+    }
+}
+
+// A field of a row by its place, as a text.
+fn text_column(row: &ByteRecord, place: usize) -> Result<&str, Memory>
+    ensures { IfOk result (λ text. text.now ≡ column place (fields_of row.now)) }
+{
+    match str::from_utf8(column(row, place)) {
+        Ok(text) => Ok(text),
+        Err(_) => Err(Memory),
     }
 }

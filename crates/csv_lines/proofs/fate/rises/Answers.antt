@@ -9,10 +9,9 @@ pub loop-row-preserved : goal.loop-row-preserved
 loop-row-preserved g c =
     let within : c.loop-row.row-index < length c.args.rows.now = search rules in
     let is = c.range-range.ensures in
-    let below = c.follows.ensures (search rules) in
-    (
+    let below = c.follows.ensures (search rules) in (
       rising_more g.T.Accepted.line g.T.Accepted.range g.T.Accepted.said c.args.rows.now c.loop-row.row-index c.row-item.result c.loop-row.before within c.row-item.is
-      c.loop-row.invariant.0 c.loop-row.invariant.1 (rw is at below),
+          c.loop-row.invariant.0 c.loop-row.invariant.1 (rw is at below),
       (omega arith, λ d. last_range g.T.Accepted.line g.T.Accepted.range g.T.Accepted.said c.args.rows.now c.loop-row.row-index c.row-item.result within c.row-item.is d ∙ sym is),
     )
 
