@@ -72,7 +72,7 @@ pub(crate) fn lower_name(alloc: Global, name: &[u8]) -> Result<Text, Memory>
         Ok(text) => {
             let mut lower = String::from_str(alloc, text)?;
             lower.make_ascii_lowercase();
-            Ok(Text::from_string(lower))
+            Text::from_string(lower)
         }
         Err(_) => unreachable!(),
     }

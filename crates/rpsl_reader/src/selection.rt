@@ -76,7 +76,7 @@ impl Selection {
         if self.everything {
             return Ok(Some(lower_name(alloc, name)?));
         }
-        copy_of(alloc, find(self.classes.as_slice(), name))
+        copy_of(find(self.classes.as_slice(), name))
     }
 
     /// The name of the attribute that a line begins, where it is wanted.
@@ -88,16 +88,16 @@ impl Selection {
         if self.everything {
             return Ok(Some(lower_name(alloc, name)?));
         }
-        copy_of(alloc, find(self.names.as_slice(), name))
+        copy_of(find(self.names.as_slice(), name))
     }
 }
 
 // A copy of a text, if there is one.
-fn copy_of(alloc: Global, text: Option<&Text>) -> Result<Option<Text>, Memory>
+fn copy_of(text: Option<&Text>) -> Result<Option<Text>, Memory>
     ensures { IfOk result (λ copy. copy ≡ option_copied text.entry) }
 {
     match text {
-        Some(text) => Ok(Some(text.copied(alloc)?)),
+        Some(text) => Ok(Some(text.copied()?)),
         None => Ok(None),
     }
 }
