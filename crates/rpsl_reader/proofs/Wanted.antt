@@ -91,22 +91,22 @@ later_rest (m ∷ ms) rest l some first is = λ i. sym first i ∷ (sym (take_al
 pub later_step : (w : Wanted) (left rest : List Numbered) (l : Numbered) (old new : List Item) → 1 ≤ length left → l ≡ get_or left 0 l → rest ≡ take (length left - 1) (drop 1 left) → is_attribute l.1 ≡ false → new ≡ old ++ (Passed l.0 P02 ∷ [])
     → new ++ wanted w (items rest) ≡ old ++ wanted w (items left)
 unfolding items
-later_step w left rest l old new some first is no put =
+later_step w left rest l old new some first is unlike put =
     ap (λ t. t ++ wanted w (items rest)) put
     ∙ append_assoc old (Passed l.0 P02 ∷ []) (wanted w (items rest))
     ∙ ap (λ t. old ++ t) (sym (ap (λ t. wanted w (items t)) (later_rest left rest l some first is)
-    ∙ ap (λ t. wanted w (cond t (whole l rest ∷ strays rest) (stray l ∷ items rest))) no
+    ∙ ap (λ t. wanted w (cond t (whole l rest ∷ strays rest) (stray l ∷ items rest))) unlike
     ∙ wanted_note w l.0 (items rest)))
 
 pub first_step : (w : Wanted) (left rest : List Numbered) (l : Numbered) (old mid new : List Item) → 1 ≤ length left → l ≡ get_or left 0 l → rest ≡ take (length left - 1) (drop 1 left) → is_attribute l.1 ≡ true
     → mid ≡ old ++ wanted w (whole l rest ∷ []) → new ≡ mid ++ strays rest → new ≡ old ++ wanted w (items left)
 unfolding items
-first_step w left rest l old mid new some first is yes put noted =
+first_step w left rest l old mid new some first is begins put noted =
     noted
     ∙ ap (λ t. t ++ strays rest) put
     ∙ append_assoc old (wanted w (whole l rest ∷ [])) (strays rest)
     ∙ ap (λ t. old ++ t) (sym (ap (λ t. wanted w (items t)) (later_rest left rest l some first is)
-    ∙ ap (λ t. wanted w (cond t (whole l rest ∷ strays rest) (stray l ∷ items rest))) yes
+    ∙ ap (λ t. wanted w (cond t (whole l rest ∷ strays rest) (stray l ∷ items rest))) begins
     ∙ wanted_object w (whole l rest) (filter (λ k. is_stray k.1) rest)))
 
 pub last_step : (w : Wanted) (left : List Numbered) (found : List Item) → length left < 1 → found ≡ found ++ wanted w (items left)

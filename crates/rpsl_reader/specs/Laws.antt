@@ -1,5 +1,6 @@
 -- That reading in pieces gives what the whole text says.
-use Rattle.std.specs.Prelude.{◌≡◌, ℕ, ◌+◌, ◌≤◌, List, [], ◌∷◌, ◌++◌, length, concat}
+use Rattle.std.specs.Prelude.{◌≡◌, ℕ, ◌+◌, ◌≤◌, List, [], ◌∷◌, ◌++◌, length}
+use Rattle.std.specs.List.{concat}
 use Rattle.rpsl_reader.specs.declared.item.Item.{Item}
 use Rattle.rpsl_reader.specs.Objects.{longest, objects, size}
 use Rattle.rpsl_reader.specs.Reading.{Group, State, after, given, last, most, over, start, within}

@@ -133,9 +133,8 @@ fn every_cutting(rt: HostRuntime) -> Result<(), Fail> {
 // A line of a name, a colon and so many bytes in all, which an empty line and a short object follow.
 fn long_text(alloc: Global, name: &[u8], length: usize) -> Result<Vec<u8>, Fail> {
     let mut text = Vec::from_slice(alloc, name)?;
-    while text.len() < length {
-        text.push(b'x')?;
-    }
+    let rest = vec![in alloc; b'x'; length.saturating_sub(name.len())]?;
+    text.extend_from_slice(rest.as_slice())?;
     text.extend_from_slice(b"\n\nrole: good\n")?;
     Ok(text)
 }
@@ -181,10 +180,7 @@ fn long_names(rt: HostRuntime) -> Result<(), Fail> {
     // The letters of a name, and whether it is one.
     let table: [(usize, bool); 3] = [(63, true), (64, true), (65, false)];
     for (letters, wanted) in table {
-        let mut text = Vec::new(alloc);
-        while text.len() < letters {
-            text.push(b'n')?;
-        }
+        let mut text = vec![in alloc; b'n'; letters]?;
         text.extend_from_slice(b": v\n")?;
         let (items, noted) = summary(alloc, text.as_slice(), 3)?;
         assert_eq!(rt; items, 1);
