@@ -12,11 +12,13 @@ mod source;
 mod statement;
 #[cfg(test)]
 mod tests;
+mod texts;
 
-pub use fields::{country_place, place_of};
+pub use fields::{country_place, place_in, place_of};
 pub use note::{Note, Origin, Rule, note_text};
 pub use order::Statement;
 pub use place::{Place, PlaceFault, Said};
 pub use places::{Places, PlacesFault};
 pub use source::{Dump, Feed, Overrides, SourceFault, Stats};
 pub use statement::{Delegation, Entry, Override, Reference};
+pub use texts::Texts;
