@@ -1,7 +1,9 @@
 //! Places, statements, notes and sources: what the readers make, and the definitions of who speaks for an address.
 #![tactic(auto)]
 
+mod boundaries;
 mod fields;
+mod first_index;
 pub mod laws;
 mod note;
 mod order;
@@ -15,6 +17,7 @@ mod tests;
 mod texts;
 
 pub use fields::{country_place, place_in, place_of};
+pub use first_index::FirstIndex;
 pub use note::{Note, Origin, Rule, note_text};
 pub use order::Statement;
 pub use place::{Place, PlaceFault, Said};
