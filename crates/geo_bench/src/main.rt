@@ -7,6 +7,7 @@ mod order;
 mod paint;
 mod ranges;
 mod registries;
+mod wide;
 mod write;
 
 use anyhow::{Context, bail};
@@ -29,6 +30,12 @@ fn main(rt: HostRuntime) -> anyhow::Result<()> {
         "emit" => emit::run(rt.alloc(), &rt, size, true),
         "prepare" => write::run(rt.alloc(), &rt, size, false),
         "write" => write::run(rt.alloc(), &rt, size, true),
+        "wide" => {
+            let name = words
+                .next()
+                .context("the third word is to be a file's name")?;
+            wide::run(rt.alloc(), &rt, size, name.as_str())
+        }
         _ => bail!("no case is called {case}"),
     }
 }
