@@ -3,6 +3,7 @@
 #![tactic(auto)]
 
 mod emit;
+mod fan;
 mod order;
 mod paint;
 mod ranges;
@@ -36,6 +37,8 @@ fn main(rt: HostRuntime) -> anyhow::Result<()> {
                 .context("the third word is to be a file's name")?;
             wide::run(rt.alloc(), &rt, size, name.as_str())
         }
+        "serial" => fan::run(rt.alloc(), &rt, size, false),
+        "parallel" => fan::run(rt.alloc(), &rt, size, true),
         _ => bail!("no case is called {case}"),
     }
 }

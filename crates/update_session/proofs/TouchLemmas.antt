@@ -9,8 +9,8 @@ use Rattle.geo_terms.specs.Cuts.{statement_ranges}
 use Rattle.geo_terms.specs.Sources.{InForce}
 use Rattle.mmdb_file.proofs.WritingLemmas.{length-each_once}
 use Rattle.least_nodes.proofs.Elements.{In, In-each_once-new}
-use Rattle.precedence.proofs.FirstLemmas.{Among, contains_from_among, among_filter}
-use Rattle.precedence.proofs.RankLemmas.{Up, up_from, up_above}
+use Rattle.geo_terms.proofs.Members.{Among, contains_from_among, among_filter}
+use Rattle.geo_terms.proofs.RankLemmas.{Up, up_from, up_above}
 use Rattle.precedence.proofs.SourceLemmas.{steady}
 use Rattle.precedence.specs.CutPlaces.{whole}
 use Rattle.precedence.specs.Segments.{is_touched, AreSegments}
