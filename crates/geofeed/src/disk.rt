@@ -1,6 +1,8 @@
 //! What a put asks of the system, and in what order.
-ghost use Rattle.std.specs.Prelude.{◌≡◌, ◌∷◌, [], List, Option, Some, ◌++◌, OnOk, OnErr, IfOk, IsTrue, IsFalse, ℕ, string_bytes};
-ghost use Rattle.geofeed.specs.Acts.{Act, looked, made, filled, mode_set, synced, renamed, removed, first_mode, last_mode, preparing, replacing, IsFront, IsUndone};
+ghost use Rattle.std.specs.Prelude.{◌≡◌, ◌∷◌, [], ◌++◌, ℕ, List, Option, Ok, true, false};
+ghost use Rattle.std.specs.Prelude.{OnOk, OnErr, IfOk, string_bytes};
+ghost use Rattle.geofeed.specs.Acts.{Act, looked, made, filled, mode_set, synced, renamed, removed};
+ghost use Rattle.geofeed.specs.Acts.{Adds, first_mode, last_mode, preparing, replacing, IsFront, IsUndone};
 
 use std::alloc::Global;
 use std::io;
@@ -23,34 +25,34 @@ pub(crate) trait Disk {
 
     /// The mode of the regular file of this name: none where there is no file, or one of another kind.
     fn look(&mut self, name: &str) -> io::Result<Option<u32>>
-        ensures ok { (before : List Act) → acts self.old ≡ Some before → IfOk result (λ mode. acts self.new ≡ Some (before ++ looked name.now mode ∷ [])) }
+        ensures ok { IfOk result (λ mode. Adds (acts self.old) (acts self.new) (looked name.now mode ∷ [])) }
         ensures err { OnErr result (acts self.new ≡ acts self.old) };
 
     /// Makes the new file, and answers false where its name is taken.
     fn make(&mut self, name: &str, mode: u32) -> io::Result<bool>
-        ensures ok { (before : List Act) → acts self.old ≡ Some before → IfOk result (λ is_made. IsTrue is_made → acts self.new ≡ Some (before ++ made name.now mode ∷ [])) }
-        ensures taken { IfOk result (λ is_made. IsFalse is_made → acts self.new ≡ acts self.old) }
+        ensures ok { result ≡ Ok true → Adds (acts self.old) (acts self.new) (made name.now mode ∷ []) }
+        ensures taken { result ≡ Ok false → acts self.new ≡ acts self.old }
         ensures err { OnErr result (acts self.new ≡ acts self.old) };
 
     /// Writes all these bytes into the new file.
     fn fill(&mut self, bytes: &[u8]) -> io::Result<()>
-        ensures ok { (before : List Act) → acts self.old ≡ Some before → OnOk result (acts self.new ≡ Some (before ++ filled bytes.now ∷ [])) }
+        ensures ok { OnOk result (Adds (acts self.old) (acts self.new) (filled bytes.now ∷ [])) }
         ensures err { OnErr result (acts self.new ≡ acts self.old) };
 
     fn set_mode(&mut self, mode: u32) -> io::Result<()>
-        ensures ok { (before : List Act) → acts self.old ≡ Some before → OnOk result (acts self.new ≡ Some (before ++ mode_set mode ∷ [])) }
+        ensures ok { OnOk result (Adds (acts self.old) (acts self.new) (mode_set mode ∷ [])) }
         ensures err { OnErr result (acts self.new ≡ acts self.old) };
 
     fn sync(&mut self) -> io::Result<()>
-        ensures ok { (before : List Act) → acts self.old ≡ Some before → OnOk result (acts self.new ≡ Some (before ++ synced ∷ [])) }
+        ensures ok { OnOk result (Adds (acts self.old) (acts self.new) (synced ∷ [])) }
         ensures err { OnErr result (acts self.new ≡ acts self.old) };
 
     fn rename(&mut self, old_name: &str, new_name: &str) -> io::Result<()>
-        ensures ok { (before : List Act) → acts self.old ≡ Some before → OnOk result (acts self.new ≡ Some (before ++ renamed old_name.now new_name.now ∷ [])) }
+        ensures ok { OnOk result (Adds (acts self.old) (acts self.new) (renamed old_name.now new_name.now ∷ [])) }
         ensures err { OnErr result (acts self.new ≡ acts self.old) };
 
     fn remove(&mut self, name: &str)
-        ensures { (before : List Act) → acts self.old ≡ Some before → acts self.new ≡ Some (before ++ removed name.now ∷ []) };
+        ensures { Adds (acts self.old) (acts self.new) (removed name.now ∷ []) };
 }
 
 /// Writes a new file beside the old one and renames it over that, so that who has the old one open or
@@ -61,8 +63,10 @@ pub(crate) fn replace<D: Disk>(
     name: &str,
     bytes: &[u8],
 ) -> io::Result<()>
-    ensures ok { (before : List Act) → D.acts disk.old ≡ Some before → OnOk result ((mode : Option ℕ) × (new : List ℕ) × (D.acts disk.new ≡ Some (before ++ replacing name.now bytes.now mode new))) }
-    ensures err { (before : List Act) → D.acts disk.old ≡ Some before → OnErr result ((done : List Act) × IsUndone name.now bytes.now done × (D.acts disk.new ≡ Some (before ++ done))) }
+    ensures ok { OnOk result ((mode : Option ℕ) × (new : List ℕ)
+        × Adds (D.acts disk.old) (D.acts disk.new) (replacing name.now bytes.now mode new)) }
+    ensures err { OnErr result ((done : List Act) × IsUndone name.now bytes.now done
+        × Adds (D.acts disk.old) (D.acts disk.new) done) }
 {
     let mode = disk.look(name)?;
     let new_name = make_beside(disk, alloc, name, mode_at_first(mode))?;
@@ -91,8 +95,10 @@ fn complete<D: Disk>(
     mode: Option<u32>,
     bytes: &[u8],
 ) -> io::Result<()>
-    ensures ok { (before : List Act) → D.acts disk.old ≡ Some before → OnOk result (D.acts disk.new ≡ Some (before ++ (preparing mode bytes.now ++ renamed new_name.now name.now ∷ []))) }
-    ensures err { (before : List Act) → D.acts disk.old ≡ Some before → OnErr result ((part : List Act) × IsFront part (preparing mode bytes.now) × (D.acts disk.new ≡ Some (before ++ part))) }
+    ensures ok { OnOk result (Adds (D.acts disk.old) (D.acts disk.new)
+        (preparing mode bytes.now ++ renamed new_name.now name.now ∷ [])) }
+    ensures err { OnErr result ((part : List Act) × IsFront part (preparing mode bytes.now)
+        × Adds (D.acts disk.old) (D.acts disk.new) part) }
 {
     disk.fill(bytes)?;
     set_last_mode(disk, mode)?;
@@ -101,7 +107,7 @@ fn complete<D: Disk>(
 }
 
 fn set_last_mode<D: Disk>(disk: &mut D, mode: Option<u32>) -> io::Result<()>
-    ensures ok { (before : List Act) → D.acts disk.old ≡ Some before → OnOk result (D.acts disk.new ≡ Some (before ++ last_mode mode)) }
+    ensures ok { OnOk result (Adds (D.acts disk.old) (D.acts disk.new) (last_mode mode)) }
     ensures err { OnErr result (D.acts disk.new ≡ D.acts disk.old) }
 {
     match mode {
@@ -112,7 +118,7 @@ fn set_last_mode<D: Disk>(disk: &mut D, mode: Option<u32>) -> io::Result<()>
 
 // A new file in the folder of `name`. Its own name has a blank, so no job can name it.
 fn make_beside<D: Disk>(disk: &mut D, alloc: Global, name: &str, mode: u32) -> io::Result<String>
-    ensures ok { (before : List Act) → D.acts disk.old ≡ Some before → IfOk result (λ new. D.acts disk.new ≡ Some (before ++ made (string_bytes new) mode ∷ [])) }
+    ensures ok { IfOk result (λ new. Adds (D.acts disk.old) (D.acts disk.new) (made (string_bytes new) mode ∷ [])) }
     ensures err { OnErr result (D.acts disk.new ≡ D.acts disk.old) }
 {
     let folder = folder_of(name);

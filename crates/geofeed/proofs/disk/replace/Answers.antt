@@ -1,43 +1,35 @@
-use Rattle.std.proofs.Common.{◌∷◌, [], Some, ◌++◌, sym, ap, ◌∙◌, append_assoc, append-nil, string_bytes, ℕ, List}
-use Rattle.geofeed.specs.Acts.{looked, made, renamed, removed, first_mode, preparing, none_done, only_looked, given_up}
-use Rattle.geofeed.proofs.Puts.{three_more}
+use Rattle.std.proofs.Common.{◌∷◌, [], ◌++◌, subst, ℕ, List, string_bytes}
+use Rattle.geofeed.specs.Acts.{looked, made, renamed, removed, first_mode, preparing, none_done, only_looked, given_up, Adds}
+use Rattle.geofeed.proofs.Puts.{adds_none, adds_no_more, adds_then}
 use Rattle.geofeed.proofs.Taken.{on_err}
 use Rattle.geofeed.proofs.disk.replace.Goals as goal
 
 pub returns-in_err-mode-clause-err : goal.returns-in_err-mode-clause-err
-returns-in_err-mode-clause-err g c before told =
-    on_err c.from_residual.result ([], none_done, c.in_err-mode.ensures.err ∙ told ∙ ap Some (sym (append-nil before)))
+returns-in_err-mode-clause-err g c =
+    on_err c.from_residual.result ([], none_done, adds_none c.in_err-mode.ensures.err)
 
 pub returns-in_err-new_name-clause-err : goal.returns-in_err-new_name-clause-err
-returns-in_err-new_name-clause-err g c before told =
+returns-in_err-new_name-clause-err g c =
     let mode = c.in_ok-mode.mode in
-    on_err c.from_residual-in_err-new_name.result (looked c.args.name.now mode ∷ [], only_looked mode, c.in_err-new_name.ensures.err ∙ c.in_ok-mode.ensures.ok before told)
+    let done = adds_no_more c.in_ok-mode.ensures.ok c.in_err-new_name.ensures.err in
+    on_err c.from_residual-in_err-new_name.result (looked c.args.name.now mode ∷ [], only_looked mode, done)
 
 pub returns-in-Ok-clause-ok : goal.returns-in-Ok-clause-ok
-returns-in-Ok-clause-ok g c before told =
+returns-in-Ok-clause-ok g c =
     let name = c.args.name.now in
     let mode = c.in_ok-mode.mode in
     let new = string_bytes c.in_ok-new_name.new_name in
-    let look = looked name mode ∷ [] in
-    let make = made new c.mode_at_first.result ∷ [] in
     let ready = preparing mode c.args.bytes.now in
-    let is_made = c.in_ok-new_name.ensures.ok (before ++ look) (c.in_ok-mode.ensures.ok before told) in
-    let is_done = c.in-Ok.ensures.ok ((before ++ look) ++ make) is_made in
-    let acts = λ (m : ℕ) (n : List ℕ). Some (before ++ looked name mode ∷ made new m ∷ (ready ++ renamed n name ∷ [])) in
-    let end = ready ++ renamed c.as_str.result.now name ∷ [] in
-    (mode, new, is_done ∙ ap Some (three_more before look make end) ∙ ap (λ (m : ℕ). acts m c.as_str.result.now) c.mode_at_first.ensures ∙ ap (acts (first_mode mode)) c.as_str.ensures.value)
+    let made_so = subst (λ (m : ℕ). Adds (g.D.Disk.acts c.look.new.self) (g.D.Disk.acts c.make_beside.new.disk) (made new m ∷ [])) c.mode_at_first.ensures c.in_ok-new_name.ensures.ok in
+    let renamed_so = subst (λ (n : List ℕ). Adds (g.D.Disk.acts c.make_beside.new.disk) (g.D.Disk.acts c.complete.new.disk) (ready ++ renamed n name ∷ [])) c.as_str.ensures.value c.in-Ok.ensures.ok in
+    (mode, new, adds_then _ _ c.in_ok-mode.ensures.ok (adds_then _ _ made_so renamed_so))
 
 pub returns-clause-err : goal.returns-clause-err
-returns-clause-err g c before told =
-    let name = c.args.name.now in
+returns-clause-err g c =
     let mode = c.in_ok-mode.mode in
     let new = string_bytes c.in_ok-new_name.new_name in
-    let look = looked name mode ∷ [] in
-    let make = made new c.mode_at_first.result ∷ [] in
-    let is_made = c.in_ok-new_name.ensures.ok (before ++ look) (c.in_ok-mode.ensures.ok before told) in
-    let (part, front, is_part) = c.in-Err.ensures.err ((before ++ look) ++ make) is_made in
-    let last = c.as_str-in-Err.result.now in
-    let is_removed = c.remove.ensures (((before ++ look) ++ make) ++ part) is_part in
-    let acts = λ (m : ℕ) (n : List ℕ). Some (before ++ looked name mode ∷ made new m ∷ (part ++ removed n ∷ [])) in
-    let joined = append_assoc ((before ++ look) ++ make) part (removed last ∷ []) ∙ three_more before look make (part ++ removed last ∷ []) in
-    (looked name mode ∷ made new (first_mode mode) ∷ (part ++ removed new ∷ []), given_up mode new part front, is_removed ∙ ap Some joined ∙ ap (λ (m : ℕ). acts m last) c.mode_at_first.ensures ∙ ap (acts (first_mode mode)) c.as_str-in-Err.ensures.value)
+    let (part, front, done) = c.in-Err.ensures.err in
+    let made_so = subst (λ (m : ℕ). Adds (g.D.Disk.acts c.look.new.self) (g.D.Disk.acts c.make_beside.new.disk) (made new m ∷ [])) c.mode_at_first.ensures c.in_ok-new_name.ensures.ok in
+    let removed_so = subst (λ (n : List ℕ). Adds (g.D.Disk.acts c.complete.new.disk) (g.D.Disk.acts c.remove.new.self) (removed n ∷ [])) c.as_str-in-Err.ensures.value c.remove.ensures in
+    let acts = looked c.args.name.now mode ∷ made new (first_mode mode) ∷ (part ++ removed new ∷ []) in
+    (acts, given_up mode new part front, adds_then _ _ c.in_ok-mode.ensures.ok (adds_then _ _ made_so (adds_then _ _ done removed_so)))
