@@ -8,6 +8,7 @@ mod order;
 mod paint;
 mod ranges;
 mod registries;
+mod wide;
 mod write;
 
 use anyhow::{Context, bail};
@@ -30,6 +31,12 @@ fn main(rt: HostRuntime) -> anyhow::Result<()> {
         "emit" => emit::run(rt.alloc(), &rt, size, true),
         "prepare" => write::run(rt.alloc(), &rt, size, false),
         "write" => write::run(rt.alloc(), &rt, size, true),
+        "wide" => {
+            let name = words
+                .next()
+                .context("the third word is to be a file's name")?;
+            wide::run(rt.alloc(), &rt, size, name.as_str())
+        }
         "serial" => fan::run(rt.alloc(), &rt, size, false),
         "parallel" => fan::run(rt.alloc(), &rt, size, true),
         _ => bail!("no case is called {case}"),
