@@ -4,6 +4,7 @@
 
 mod emit;
 mod fan;
+mod feed;
 mod order;
 mod paint;
 mod ranges;
@@ -29,6 +30,9 @@ fn main(rt: HostRuntime) -> anyhow::Result<()> {
         "order" => order::run(rt.alloc(), &rt, size, ORDERED),
         "read" => emit::run(rt.alloc(), &rt, size, false),
         "emit" => emit::run(rt.alloc(), &rt, size, true),
+        "lines" => feed::run(rt.alloc(), &rt, size, false, false),
+        "feed" => feed::run(rt.alloc(), &rt, size, false, true),
+        "scattered" => feed::run(rt.alloc(), &rt, size, true, true),
         "prepare" => write::run(rt.alloc(), &rt, size, false),
         "write" => write::run(rt.alloc(), &rt, size, true),
         "wide" => {
