@@ -4,10 +4,12 @@
 
 mod emit;
 mod fan;
+mod feed;
 mod order;
 mod paint;
 mod ranges;
 mod registries;
+mod wide;
 mod write;
 
 use anyhow::{Context, bail};
@@ -28,8 +30,17 @@ fn main(rt: HostRuntime) -> anyhow::Result<()> {
         "order" => order::run(rt.alloc(), &rt, size, ORDERED),
         "read" => emit::run(rt.alloc(), &rt, size, false),
         "emit" => emit::run(rt.alloc(), &rt, size, true),
+        "lines" => feed::run(rt.alloc(), &rt, size, false, false),
+        "feed" => feed::run(rt.alloc(), &rt, size, false, true),
+        "scattered" => feed::run(rt.alloc(), &rt, size, true, true),
         "prepare" => write::run(rt.alloc(), &rt, size, false),
         "write" => write::run(rt.alloc(), &rt, size, true),
+        "wide" => {
+            let name = words
+                .next()
+                .context("the third word is to be a file's name")?;
+            wide::run(rt.alloc(), &rt, size, name.as_str())
+        }
         "serial" => fan::run(rt.alloc(), &rt, size, false),
         "parallel" => fan::run(rt.alloc(), &rt, size, true),
         _ => bail!("no case is called {case}"),
