@@ -1,0 +1,5 @@
+pub mod Dates
+pub mod Kinds
+pub mod References
+pub mod Urls
+pub mod Used

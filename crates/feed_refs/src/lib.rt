@@ -1,0 +1,10 @@
+//! Finds the geofeed references of a registry dump (RFC 9632).
+#![tactic(auto)]
+
+mod feed_url;
+mod kinds;
+mod modified;
+mod reference;
+
+pub use feed_url::{UrlRead, read_url};
+pub use reference::{FoundRef, What, reference_of};
