@@ -1,5 +1,5 @@
 //! Laws over the definitions alone, which the readers above rest on.
-ghost use Rattle.rpsl_reader.specs.Laws.{PiecesJoin, WantedJoins};
+ghost use Rattle.rpsl_reader.specs.Laws.{GivenIsWhole, PiecesJoin, WantedJoins};
 
 /// Two pieces, one after the other, are one piece.
 pub fn pieces_join()
@@ -10,4 +10,9 @@ pub fn pieces_join()
 #[tactic(auto, using(crate::proofs::Pieces::wanted_joins))]
 pub fn wanted_joins()
     ensures { WantedJoins }
+{}
+
+/// What the pieces of a text give, and then its end, is what the whole text says.
+pub fn given_is_whole()
+    ensures { GivenIsWhole }
 {}
