@@ -3,7 +3,7 @@ ghost use Rattle.std.specs.Prelude.{◌≡◌, ◌++◌, ◌∷◌, [], List, If
 ghost use Rattle.std.specs.Option.{option_copied};
 ghost use Rattle.rpsl_reader.specs.declared.item.Attribute.{Attribute};
 ghost use Rattle.feed_refs.specs.Kinds.{is_of_kind, is_last_modified, url_text, used_kind};
-ghost use Rattle.feed_refs.specs.References.{class_named, found, found_as, found_by, found_in, found_in_parts, found_unread, modified_of, note_by, notes_from, notes_on, rule_on, v4_class, v6_class};
+ghost use Rattle.feed_refs.specs.References.{class_named, found, found_by, found_in, found_unread, modified_of, note_by, notes_from, notes_on, rule_on, v4_class, v6_class};
 ghost use Rattle.feed_refs.specs.Urls.{url_read};
 ghost use Rattle.geo_addr.specs.Prefixes.{block_in};
 ghost use Rattle.geo_addr.specs.Spans.{range_of_read, span_in};
@@ -49,22 +49,19 @@ enum Class {
 ///
 /// Where the object has a `geofeed` attribute, these count; otherwise the remarks that begin with
 /// `Geofeed`, blanks and a word with `://` in it. Two or more of the kind that counts are void.
-#[tactic(auto, unfolding(crate::specs::References::found))]
 pub fn reference_of(alloc: Global, slot: &str, object: &Object) -> Result<FoundRef, Memory>
     ensures { IfOk result (λ told. told ≡ found slot.now object.now) }
 {
     let slot = Text::of(alloc, slot)?;
-    found_in_parts(alloc, &slot, object.parts.as_slice())
+    found_of(alloc, &slot, object)
 }
 
-/// The same, of the attributes of an object.
-pub(crate) fn found_in_parts(
-    alloc: Global,
-    slot: &Text,
-    parts: &[Attribute],
-) -> Result<FoundRef, Memory>
-    ensures { IfOk result (λ told. told ≡ found_in_parts slot.now parts.now) }
+/// The same, for a slot that is shared.
+#[tactic(auto, unfolding(crate::specs::References::found))]
+pub(crate) fn found_of(alloc: Global, slot: &Text, object: &Object) -> Result<FoundRef, Memory>
+    ensures { IfOk result (λ told. told ≡ found slot.now object.now) }
 {
+    let parts = object.parts.as_slice();
     match parts {
         [first, ..] => match class_named(first) {
             Class::Other => Ok(without_notes(alloc, What::NotInet)),
