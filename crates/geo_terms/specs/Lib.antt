@@ -1,9 +1,12 @@
 pub mod AllSources
+pub mod Boundaries
 pub mod Cuts
 pub mod DelegationForm
+pub mod Edges
 pub mod First
-pub mod Numbers
+pub mod FirstIndex
 pub mod NoteText
+pub mod Numbers
 pub mod Orders
 pub mod PlaceForm
 pub mod Precedence
@@ -11,3 +14,4 @@ pub mod Report
 pub mod SaidOf
 pub mod SourceForm
 pub mod Sources
+pub mod TotalOrders

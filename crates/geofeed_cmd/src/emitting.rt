@@ -78,7 +78,8 @@ fn emit_line(alloc: Global, name: &str, file: &Emitted) -> Result<Text, Memory>
     let text = format!(in alloc;
         "emit {name} nodes {nodes} data {section} bits {bits} bytes {length}\n"
     )?;
-    Ok(Text::from_string(text))
+    let text = Text::from_string(text)?;
+    Ok(text)
 }
 
 /// Puts a file.

@@ -86,7 +86,8 @@ fn json_line(alloc: Global, value: &Value) -> Result<Text, Memory>
 {
     let json = json_text(alloc, value)?;
     let line = format!(in alloc; "{}\n", json.as_str())?;
-    Ok(Text::from_string(line))
+    let line = Text::from_string(line)?;
+    Ok(line)
 }
 
 fn no_record(alloc: Global) -> Result<Text, LookupFault>
@@ -132,7 +133,8 @@ fn value_line(alloc: Global, at: u64, cause: DataCause) -> Result<Text, Memory>
 {
     let name = cause_name(cause);
     let text = format!(in alloc; "stop file {name} {at}\n")?;
-    Ok(Text::from_string(text))
+    let text = Text::from_string(text)?;
+    Ok(text)
 }
 
 /// A cause as it is printed.

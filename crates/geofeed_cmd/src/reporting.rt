@@ -46,7 +46,8 @@ fn report_text(alloc: Global, notes: &[Note]) -> Result<Text, Memory>
     let lines = note_lines(alloc, notes)?;
     let count = notes.len();
     let text = format!(in alloc; "{lines}notes {count}\n")?;
-    Ok(Text::from_string(text))
+    let text = Text::from_string(text)?;
+    Ok(text)
 }
 
 /// The lines of the notes.

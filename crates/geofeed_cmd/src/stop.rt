@@ -93,7 +93,8 @@ pub(crate) fn read_line(alloc: Global, name: &str) -> Result<Text, Memory>
     ensures { IfOk result (λ text. text ≡ read_line name.now) }
 {
     let text = format!(in alloc; "stop read {name}\n")?;
-    Ok(Text::from_string(text))
+    let text = Text::from_string(text)?;
+    Ok(text)
 }
 
 #[tactic(auto, unfolding(crate::specs::Ending::missing_line))]
@@ -101,7 +102,8 @@ pub(crate) fn missing_line(alloc: Global, name: &str) -> Result<Text, Memory>
     ensures { IfOk result (λ text. text ≡ missing_line name.now) }
 {
     let text = format!(in alloc; "stop missing {name}\n")?;
-    Ok(Text::from_string(text))
+    let text = Text::from_string(text)?;
+    Ok(text)
 }
 
 #[tactic(auto, unfolding(crate::specs::Ending::write_line))]
@@ -109,7 +111,8 @@ fn write_line(alloc: Global, name: &str) -> Result<Text, Memory>
     ensures { IfOk result (λ text. text ≡ write_line name.now) }
 {
     let text = format!(in alloc; "stop write {name}\n")?;
-    Ok(Text::from_string(text))
+    let text = Text::from_string(text)?;
+    Ok(text)
 }
 
 #[tactic(auto, unfolding(crate::specs::Ending::bytes_line))]
@@ -117,7 +120,8 @@ pub(crate) fn bytes_line(alloc: Global, line: u64) -> Result<Text, Memory>
     ensures { IfOk result (λ text. text ≡ bytes_line line) }
 {
     let text = format!(in alloc; "stop source {line} bytes\n")?;
-    Ok(Text::from_string(text))
+    let text = Text::from_string(text)?;
+    Ok(text)
 }
 
 #[tactic(auto, unfolding(crate::specs::Ending::statements_line))]
@@ -125,7 +129,8 @@ fn statements_line(alloc: Global, line: u64) -> Result<Text, Memory>
     ensures { IfOk result (λ text. text ≡ statements_line line) }
 {
     let text = format!(in alloc; "stop source {line} statements\n")?;
-    Ok(Text::from_string(text))
+    let text = Text::from_string(text)?;
+    Ok(text)
 }
 
 #[tactic(auto, unfolding(crate::specs::Ending::large_line))]
@@ -133,7 +138,8 @@ fn large_line(alloc: Global, line: u64) -> Result<Text, Memory>
     ensures { IfOk result (λ text. text ≡ large_line line) }
 {
     let text = format!(in alloc; "stop large {line}\n")?;
-    Ok(Text::from_string(text))
+    let text = Text::from_string(text)?;
+    Ok(text)
 }
 
 #[tactic(auto, unfolding(crate::specs::Ending::words_line))]
@@ -160,7 +166,8 @@ fn refused_line(alloc: Global, line: u64) -> Result<Text, Memory>
     ensures { IfOk result (λ text. text ≡ codes "stop job " ++ (decimal line ++ codes "\n")) }
 {
     let text = format!(in alloc; "stop job {line}\n")?;
-    Ok(Text::from_string(text))
+    let text = Text::from_string(text)?;
+    Ok(text)
 }
 
 /// Prints a stop line. Where it does not go out, the command ends all the same.

@@ -20,8 +20,9 @@ pub fn json_text(alloc: Global, value: &Value) -> Result<Text, Memory>
     ensures { IfOk result (λ text. text ≡ json (tree value.now)) }
 {
     let made = json_of(alloc, value)?;
-    let text = made.to_string(alloc)?;
-    Ok(Text::from_string(text))
+    let line = made.to_string(alloc)?;
+    let text = Text::from_string(line)?;
+    Ok(text)
 }
 
 #[cycle(making)]

@@ -19,12 +19,12 @@ use Rattle.geo_terms.specs.SourceForm.{StatsParts, IsStats}
 use Rattle.geo_terms.specs.Sources.{InForce}
 use Rattle.geo_terms.specs.declared.note.Note.{Note}
 use Rattle.geo_terms.specs.declared.note.Origin.TheVariants.{Stats}
-use Rattle.precedence.proofs.FirstLemmas.{among_from_contains, contains_from_among}
-use Rattle.precedence.proofs.RankLemmas.{Up, up_from, same_members}
+use Rattle.geo_terms.proofs.Members.{among_from_contains, contains_from_among}
+use Rattle.geo_terms.proofs.RankLemmas.{Up, up_from, same_members}
 use Rattle.precedence.proofs.SlotLemmas.{Ascend, ascend}
-use Rattle.precedence.specs.Boundaries.{told}
+use Rattle.geo_terms.specs.Boundaries.{told}
 use Rattle.precedence.specs.CutPlaces.{whole, AreCutPlaces}
-use Rattle.precedence.specs.Ranking.{delegation_of_rank, IsIndex}
+use Rattle.precedence.specs.Spots.{delegation_of_place, IsIndex}
 use Rattle.precedence.specs.Segments.{AreSegments}
 use Rattle.precedence.specs.SlotOrder.{AreInOrder}
 use Rattle.precedence.specs.declared.delegations.DelegationIndex.{DelegationIndex}
@@ -44,9 +44,9 @@ ranges_of_stats ts = append-nil (map (λ (d : DelegationParts). d.range) (flat_m
 
 -- the record is the place of the delegation that an index tells
 pub record_by_index : (ts : List StatsParts) (index : DelegationIndex) (s : InForce) (found : Option DelegationParts) (a : ℕ) → IsIndex ts index → a < 2 ^ 128 → stats_alone ts ≡ s
-    → found ≡ option_and_then (delegation_of_rank ts index.spots.items) (told None index.boundaries.items a) → delegated_place found ≡ record_at s a
+    → found ≡ option_and_then (delegation_of_place ts index.spots.items) (told None index.firsts a) → delegated_place found ≡ record_at s a
 record_by_index ts index s found a is within same e =
-    ap delegated_place (e ∙ is.tell a within) ∙ sym (record_of_stats ts a) ∙ ap (λ (s : InForce). record_at s a) same
+    ap delegated_place (e ∙ is a within) ∙ sym (record_of_stats ts a) ∙ ap (λ (s : InForce). record_at s a) same
 
 -- notes in the order of a report stay as they are
 abbrev InOrder : List Note → Type 0

@@ -21,7 +21,7 @@ pub struct Sources {
 impl Model for Sources {
     ghost use Rattle.std.specs.Prelude.{[], None};
     ghost use Rattle.geo_terms.specs.Sources.{InForce};
-    ghost use Rattle.precedence.specs.Ranking.{IsIndex};
+    ghost use Rattle.precedence.specs.Spots.{IsIndex};
     ghost use Rattle.precedence.specs.SlotOrder.{AreInOrder};
 
     ghost Value = { InForce };

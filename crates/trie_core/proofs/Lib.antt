@@ -1,5 +1,7 @@
 pub mod BlockLemmas
 pub mod CostLemmas
+pub mod GraftLemmas
+pub mod HeldLemmas
 pub mod PaintLemmas
 pub mod PairLemmas
 pub mod PartLemmas

@@ -9,6 +9,7 @@ use Rattle.trie_core.specs.declared.node.Pair.{Pair}
 use Rattle.trie_core.specs.declared.paint.Part.{Part}
 use Rattle.trie_core.specs.Tree.{Tree, leaf, node, height, look, join, IsPartOf}
 use Rattle.trie_core.specs.Store.{meaning, IsOf, IsSound, IsKept, NeedsNew, AddedUnder}
+use Rattle.trie_core.specs.Graft.{half}
 use Rattle.trie_core.specs.Paint.{leaf_in, over, IsPainted, HoldsPainted, IsHalved}
 use Rattle.trie_core.proofs.TreeLemmas.{look-join, height-join, nat_equality}
 use Rattle.trie_core.proofs.PartLemmas.{leaf_in_first}
@@ -21,6 +22,8 @@ pub IsHalved-leaf : (pairs : List Pair) (k : ℕ) → IsHalved pairs (Leaf k) (L
 IsHalved-leaf pairs k = record {
   left_of = tt;
   right_of = tt;
+  left_is = rw (meaning-leaf pairs k) refl;
+  right_is = rw (meaning-leaf pairs k) refl;
   left_look = λ w. rw (meaning-leaf pairs k) refl;
   right_look = λ w. rw (meaning-leaf pairs k) refl;
   left_low = omega (arith, ap height (meaning-leaf pairs k));
@@ -33,6 +36,8 @@ pub IsHalved-node : (pairs : List Pair) (rec left right : Rec) → IsOf pairs le
 IsHalved-node pairs rec left right left-of right-of is = record {
   left_of = left-of;
   right_of = right-of;
+  left_is = sym (ap (half false) is);
+  right_is = sym (ap (half true) is);
   left_look = λ w. ap (λ t. look t (false ∷ w)) is;
   right_look = λ w. ap (λ t. look t (true ∷ w)) is;
   left_low = omega (arith, ap height is);

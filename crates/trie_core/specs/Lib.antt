@@ -1,3 +1,4 @@
+pub mod Graft
 pub mod Laws
 pub mod Paint
 pub mod Store

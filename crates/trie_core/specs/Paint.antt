@@ -9,6 +9,7 @@ use Rattle.trie_core.specs.declared.node.Pair.{Pair}
 use Rattle.trie_core.specs.declared.paint.Part.{Part}
 use Rattle.trie_core.specs.Tree.{Tree, height, look}
 use Rattle.trie_core.specs.Store.{meaning, leaf_at, IsOf, IsRootOf}
+use Rattle.trie_core.specs.Graft.{half}
 
 -- the parts ascend, and no two share an address
 pub record IsAscending (parts : List Part) : Type 0 where
@@ -81,6 +82,8 @@ pub record IsBack (parts back : List Part) (middle : ℕ) : Type 0 where
 pub record IsHalved (pairs : List Pair) (rec left right : Rec) : Type 0 where
   pub left_of : IsOf pairs left
   pub right_of : IsOf pairs right
+  pub left_is : meaning pairs left ≡ half false (meaning pairs rec)
+  pub right_is : meaning pairs right ≡ half true (meaning pairs rec)
   pub left_look : (w : List Bool) → look (meaning pairs rec) (false ∷ w) ≡ look (meaning pairs left) w
   pub right_look : (w : List Bool) → look (meaning pairs rec) (true ∷ w) ≡ look (meaning pairs right) w
   pub left_low : height (meaning pairs left) ≤ height (meaning pairs rec) - 1

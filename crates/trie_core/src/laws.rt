@@ -2,6 +2,7 @@
 ghost use Rattle.std.specs.Prelude.{List};
 ghost use Rattle.trie_core.specs.declared.node.Pair.{Pair};
 ghost use Rattle.trie_core.specs.Store.{IsSound};
+ghost use Rattle.trie_core.specs.Graft.{BelowAnswers, CopyAnswersAlike, GraftAnswers};
 ghost use Rattle.trie_core.specs.Laws.{Canonical, MeansFunction, OneRecord, OnlyTree, Renamed, TreeOfFunction};
 
 /// Equal lookups, equal trees: two reduced trees with no leaf below depth n that answer alike along
@@ -34,4 +35,19 @@ pub fn equal_leaves_equal_records()
 /// A root of a store that answers a function of the addresses means that function's tree.
 pub fn root_means_tree_of_function()
     ensures { (pairs : List Pair) → IsSound pairs → MeansFunction pairs }
+{}
+
+/// The tree below a way answers along every list of bits as the whole tree does behind that way.
+pub fn tree_below_answers<A>()
+    ensures { BelowAnswers A }
+{}
+
+/// Behind its way the tree of a graft answers, and along every list that parts from the way the old tree.
+pub fn graft_answers<A>()
+    ensures { GraftAnswers A }
+{}
+
+/// After the tree below one way is grafted at another one, which parts from it, both ways answer alike.
+pub fn copy_answers_alike<A>()
+    ensures { CopyAnswersAlike A }
 {}

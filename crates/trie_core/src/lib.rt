@@ -2,6 +2,7 @@
 #![tactic(auto)]
 
 mod fault;
+mod graft;
 pub mod laws;
 mod node;
 mod paint;

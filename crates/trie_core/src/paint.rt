@@ -122,7 +122,7 @@ impl Store {
     }
 
     // The records of the two halves of a block.
-    fn halves(&self, rec: Rec) -> (Rec, Rec)
+    pub(crate) fn halves(&self, rec: Rec) -> (Rec, Rec)
         requires { IsOf self.now rec }
         ensures { IsHalved self.now rec result.0 result.1 }
     {

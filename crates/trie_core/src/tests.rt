@@ -3,7 +3,7 @@ ghost use Rattle.geo_addr.specs.Ranges.{IsWithin};
 ghost use Rattle.trie_core.specs.Store.{IsRootOf};
 
 use crate::{Part, Root, Store, StoreFault};
-use geo_addr::{Addr, Range};
+use geo_addr::{Addr, Block, Range};
 use geo_outside::Steps;
 use std::alloc::Global;
 use std::marker::Brand;
@@ -53,5 +53,53 @@ fn paints_over(rt: HostRuntime) -> Result<(), Fail> {
     let addresses = [0, 1, 2, 9, 10, u128::MAX];
     let leaves = painted_over::<Brand>(rt.alloc(), Blank::new(1), addresses)?;
     assert_eq!(rt; leaves, [1, 1, 2, 2, 0, 0]);
+    Ok(())
+}
+
+/// The leaves of these addresses after the IPv4 tree, with leaf 1 on 192.0.2.0/24, was grafted at
+/// ::ffff:0:0/96 and at 2002::/16.
+fn found_by_alias<L: Ledger>(
+    alloc: Global,
+    blank: Blank,
+    addresses: [u128; 6],
+) -> Result<[u32; 6], StoreFault>
+    requires name { blank.name ≡ L.name }
+    requires parts { blank.parts ≡ L.parts }
+    requires some { 0 < blank.parts }
+{
+    let mut steps: Steps<L> = Steps::new(blank);
+    let mut store = Store::new(alloc);
+    let root = store.empty();
+    let network = Range {
+        first: 0xc000_0200,
+        last: 0xc000_02ff,
+    };
+    let root = store.paint(root, network, 1, &mut steps)?;
+    let v4 = store.sub(root, Block { first: 0, len: 96 });
+    let mapped = Block {
+        first: 0xffff << 32,
+        len: 96,
+    };
+    let root = store.graft(root, mapped, v4, &mut steps)?;
+    let six_to_four = Block {
+        first: 0x2002 << 112,
+        len: 16,
+    };
+    let root = store.graft(root, six_to_four, v4, &mut steps)?;
+    Ok(addresses.map(|at| store.find(root, Addr(at))))
+}
+
+#[test]
+fn grafts_at_alias_blocks(rt: HostRuntime) -> Result<(), Fail> {
+    let addresses = [
+        0xc000_0207,
+        0xffff_c000_0207,
+        0xffff_c000_0307,
+        0x2002_c000_0207 << 80 | 5,
+        0x2002_c000_0307 << 80 | 5,
+        0x2003_c000_0207 << 80,
+    ];
+    let leaves = found_by_alias::<Brand>(rt.alloc(), Blank::new(1), addresses)?;
+    assert_eq!(rt; leaves, [1, 1, 0, 1, 0, 0]);
     Ok(())
 }
