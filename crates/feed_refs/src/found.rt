@@ -74,7 +74,7 @@ fn take_item(alloc: Global, slot: &Text, item: &Item, found: &mut Found) -> Resu
     match item {
         Item::Whole(object) => take_object(alloc, slot, object, found),
         Item::Passed { line, rule } => {
-            let origin = Origin::Rpsl(slot.copied(alloc)?);
+            let origin = Origin::Rpsl(slot.copied()?);
             let note = Note {
                 origin,
                 line: *line,

@@ -201,7 +201,7 @@ fn read_only(
         UrlRead::OtherScheme => (What::Nothing, Some(Rule::P06)),
         UrlRead::Https(url) => {
             let reference = Reference {
-                slot: slot.copied(alloc)?,
+                slot: slot.copied()?,
                 line: only.line,
                 range,
                 modified: modified_of(parts),
@@ -275,7 +275,7 @@ fn push_note(
     ensures { OnOk result (notes.new.items ≡ notes.old.items ++ option_to_list (note_by slot.now line rule)) }
 {
     if let Some(rule) = rule {
-        let origin = Origin::Rpsl(slot.copied(alloc)?);
+        let origin = Origin::Rpsl(slot.copied()?);
         notes
             .push(Note { origin, line, rule })
             .map_err(Memory::from)?;
