@@ -1,13 +1,13 @@
 -- The digits of a text that fits a shape, and their value.
-use Rattle.std.proofs.Common.{◌≡◌, ℕ, ◌+◌, ◌-◌, ◌*◌, ◌^◌, ◌<◌, ◌≤◌, Bool, true, false, cond, List, [], ◌∷◌, length, drop, get_or, filter, arith, sym, ap, refl, ◌∙◌, inl, inr}
-use Rattle.std.specs.Prelude.{◌==◌, not, ◌&&◌, codes}
+use Rattle.std.proofs.Common.{◌≡◌, ℕ, ◌+◌, ◌-◌, ◌*◌, ◌^◌, ◌<◌, ◌≤◌, Bool, true, false, cond, List, [], ◌∷◌, length, drop, get_or, filter, arith, ap, refl, ◌∙◌}
+use Rattle.std.specs.Prelude.{◌==◌, not, codes}
 use Rattle.std.specs.Char.{is_ascii_digit, digit_value}
 use Rattle.std.specs.List.{list_all}
 use Rattle.std.specs.Str.Parse.{AllDigits, digits_value, digits_value_after}
-use Rattle.std.proofs.lemmas.Bool.{and_parts, cases_Bool, cond-true, cond-false, eqb-true, not-true, not_from_true}
+use Rattle.std.proofs.lemmas.Bool.{and_parts, cond-true, cond-false, eqb-true, not-true}
 use Rattle.std.proofs.lemmas.Bool.Decides.{nat_tests}
 use Rattle.std.proofs.lemmas.Int.Digits.{digits_value-lt}
-use Rattle.std.proofs.lemmas.List.{at_drop_more, at_drop_all}
+use Rattle.std.proofs.lemmas.List.{at_drop_more}
 use Rattle.std.proofs.Math.Nat.{pow-le-pow_right}
 use Rattle.feed_refs.specs.Dates.{fits, fits_byte}
 
@@ -30,7 +30,7 @@ all_digits [] = tt
 all_digits (c ∷ cs) =
     let one : (b : Bool) → is_ascii_digit c ≡ b → AllDigits 10 (cond b (c ∷ filter is_ascii_digit cs) (filter is_ascii_digit cs)) =
     λ b. elim b as (λ t. is_ascii_digit c ≡ t → AllDigits 10 (cond t (c ∷ filter is_ascii_digit cs) (filter is_ascii_digit cs))) [
-        true ↦ λ is. (let r : (48 ≤ c) × (c ≤ 57) = digit_range c is in let v : digit_value c ≡ c - 48 = value_of c is in omega arith, all_digits cs)
+      | true ↦ λ is. (let r : (48 ≤ c) × (c ≤ 57) = digit_range c is in let v : digit_value c ≡ c - 48 = value_of c is in omega arith, all_digits cs)
       | false ↦ λ is. all_digits cs
     ] in
     one (is_ascii_digit c) refl
@@ -95,7 +95,7 @@ fits_as : (s b : ℕ) → not (is_ascii_digit s) ≡ true → fits_byte s b ≡ 
 fits_as s b free e =
     let one : (t : Bool) → (s == 100) ≡ t → cond t (is_ascii_digit b) (b == s) ≡ true → one_if (is_ascii_digit b) ≡ one_if t =
     λ t. elim t as (λ u. (s == 100) ≡ u → cond u (is_ascii_digit b) (b == s) ≡ true → one_if (is_ascii_digit b) ≡ one_if u) [
-        true ↦ λ is h. ap one_if h
+      | true ↦ λ is h. ap one_if h
       | false ↦ λ is h. ap (λ x. one_if (is_ascii_digit x)) (eqb-true b s h) ∙ ap one_if (not-true (is_ascii_digit s) free)
     ] in
     one (s == 100) refl e

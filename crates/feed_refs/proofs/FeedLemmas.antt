@@ -1,5 +1,5 @@
 -- What a call of a reader of a dump leaves, over the text that the reader was fed.
-use Rattle.std.proofs.Common.{◌≡◌, ℕ, ◌+◌, ◌-◌, ◌<◌, ◌≤◌, List, ◌++◌, length, take, Option, Some, None, Result, Ok, Err, refl, sym, ap, subst, arith, ◌∙◌}
+use Rattle.std.proofs.Common.{◌≡◌, ℕ, ◌+◌, ◌-◌, ◌<◌, ◌≤◌, List, ◌++◌, length, take, Option, Some, None, Result, Ok, Err, sym, ap, subst, arith, ◌∙◌}
 use Rattle.std.proofs.lemmas.List.{length-take, take_all}
 use Rattle.geo_terms.specs.SourceForm.{DumpParts, IsDump}
 use Rattle.geo_terms.specs.declared.note.Note.{Note}
@@ -29,9 +29,9 @@ pub fault_read : (slot : List ℕ) (f : SourceFault) (v : Reading) → faulty sl
 fault_read slot f v is =
     subst (λ (w : Reading). (text piece : List ℕ) → w ≡ reading w.slot text → (w ≡ reading w.slot (text ++ piece)) × (Err f ≡ so_far w.slot (text ++ piece))) is
     (λ text piece h.
-      let now : so_far slot text ≡ Err f = fault_opened slot text f (ap (λ (w : Reading). w.kept) h) in
-      let then : so_far slot (text ++ piece) ≡ Err f = fault_stays slot text piece f now in
-      ((λ i. record { slot = slot; kept = fault_reading slot (text ++ piece) f then i }), sym then))
+    let now : so_far slot text ≡ Err f = fault_opened slot text f (ap (λ (w : Reading). w.kept) h) in
+    let then : so_far slot (text ++ piece) ≡ Err f = fault_stays slot text piece f now in
+    ((λ i. record { slot = slot; kept = fault_reading slot (text ++ piece) f then i }), sym then))
 
 -- a reader that holds something, whatever text it was fed
 pub holds_opened : (slot : List ℕ) (k : Kept) (text : List ℕ) → holding slot k ≡ reading slot text → Opened slot text k
@@ -56,8 +56,8 @@ module _ (slot : List ℕ) (k : Kept) (fault : Option SourceFault) (none : fault
     fault_found v is =
         subst (λ (w : Reading). (text : List ℕ) → w ≡ reading w.slot text → (faulty slot f ≡ reading w.slot (text ++ piece)) × (Err f ≡ so_far w.slot (text ++ piece))) (is_holding v is)
         (λ text h.
-          let then : so_far slot (text ++ piece) ≡ Err f = leads text (holds_opened slot k text h) in
-          ((λ i. record { slot = slot; kept = fault_reading slot (text ++ piece) f then i }), sym then))
+        let then : so_far slot (text ++ piece) ≡ Err f = leads text (holds_opened slot k text h) in
+        ((λ i. record { slot = slot; kept = fault_reading slot (text ++ piece) f then i }), sym then))
 
   -- a piece leads on
   module _ (piece : List ℕ) (k' : Kept) (leads : (text : List ℕ) → Opened slot text k → (so_far slot (text ++ piece) ≡ Ok tt) × (Ok k' ≡ kept_if (so_far slot (text ++ piece)) (kept_of slot (text ++ piece)))) where
@@ -128,13 +128,15 @@ module _ (slot : List ℕ) (k : Kept) (piece cut : List ℕ) (rs : List Referenc
       → (text : List ℕ) → Opened slot text k → (so_far slot (text ++ piece) ≡ Ok tt) × (Ok k' ≡ kept_if (so_far slot (text ++ piece)) (kept_of slot (text ++ piece)))
   leads_on few le ns told k' fed state refs notes text o =
       let whole = is_whole k.reader.fed piece cut (omega (arith, o.fed, o.short)) is_cut le in
-      let good = next_ok slot text piece k o (omega (arith, said_count)) whole.0 in
-      (good, next_reading slot text piece k o k'
-        (fed ∙ ap (λ t. k.reader.fed + length t) whole.1)
-        (state ∙ ap (λ t. after k.reader.state t) whole.1)
-        (refs ∙ ap (λ t. k.refs ++ t) (said ∙ ap (λ t. references slot (given k.reader.state t)) whole.1))
-        (notes ∙ ap (λ t. k.notes ++ t) (told ∙ ap (λ t. noted slot (given k.reader.state t)) whole.1))
-        good)
+      let good = next_ok slot text piece k o (omega (arith, said_count)) whole.0 in (
+        good,
+        next_reading slot text piece k o k'
+            (fed ∙ ap (λ t. k.reader.fed + length t) whole.1)
+            (state ∙ ap (λ t. after k.reader.state t) whole.1)
+            (refs ∙ ap (λ t. k.refs ++ t) (said ∙ ap (λ t. references slot (given k.reader.state t)) whole.1))
+            (notes ∙ ap (λ t. k.notes ++ t) (told ∙ ap (λ t. noted slot (given k.reader.state t)) whole.1))
+            good,
+      )
 
 -- the end of the text
 module _ (slot : List ℕ) (k : Kept) (rs : List Reference) (said : rs ≡ references slot (last k.reader.state)) where

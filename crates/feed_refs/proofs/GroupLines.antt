@@ -1,6 +1,6 @@
 -- What the objects of a text say stands on its lines: references in order, and notes on lines of their own.
-use Rattle.std.proofs.Common.{◌≡◌, ℕ, ◌+◌, ◌<◌, ◌≤◌, Bool, true, false, cond, List, [], ◌∷◌, ◌++◌, length, map, filter, ◌⊎◌, inl, inr, refl, sym, subst, ap, ◌∙◌, arith}
-use Rattle.std.specs.Prelude.{nat_eq, nat_lt, not, ◌&&◌}
+use Rattle.std.proofs.Common.{◌≡◌, ℕ, ◌+◌, ◌<◌, ◌≤◌, Bool, true, List, [], ◌∷◌, ◌++◌, map, filter, ◌⊎◌, inl, inr, refl, sym, subst, ap, ◌∙◌, arith}
+use Rattle.std.specs.Prelude.{nat_eq, nat_lt, not}
 use Rattle.std.specs.List.{AllByRecursion, IsDistinct, enumerate_from, flat_map, onto_first, slice_split}
 use Rattle.std.proofs.lemmas.Bool.{and_parts, both_ways, cond_both, not-true}
 use Rattle.std.proofs.lemmas.Grind.{flat_map-append}
@@ -14,14 +14,13 @@ use Rattle.geo_terms.specs.declared.note.Rule.TheVariants.{P01, P02}
 use Rattle.geo_terms.specs.declared.statement.Reference.{Reference}
 use Rattle.rpsl_reader.specs.Attributes.{Numbered, attribute, attributes, continues, is_attribute, is_comment, is_end, is_stray}
 use Rattle.rpsl_reader.specs.Objects.{group_items, groups, items, longest, objects, size, stray, strays, too_long}
-use Rattle.rpsl_reader.specs.declared.item.Attribute.{Attribute}
 use Rattle.rpsl_reader.specs.declared.item.Item.{Item}
 use Rattle.rpsl_reader.specs.declared.item.Item.TheVariants.{Whole, Passed}
 use Rattle.rpsl_reader.specs.declared.item.Object.{Object}
 use Rattle.feed_refs.specs.Dumps.{noted, notes_of, reference_in, references, references_of}
 use Rattle.feed_refs.specs.References.{found}
 use Rattle.feed_refs.proofs.ObjectLines.{Stands, part_lines, reference_lines, stands}
-use Rattle.feed_refs.proofs.Rising.{In, Rises, all_from_in, distinct-append, distinct_from_rises, in-append, in-lt-past, low-le-in, low-le-past, past, rises-append, rises_from_less}
+use Rattle.feed_refs.proofs.Rising.{In, Rises, distinct-append, distinct_from_rises, in-append, in-lt-past, low-le-in, low-le-past, past, rises-append, rises_from_less}
 
 abbrev numbers : List Numbered → List ℕ
 numbers = map (λ l. l.0)
@@ -68,15 +67,15 @@ apart : (slot : List ℕ) (low : ℕ) (ls : List Numbered) → Rises low (number
 apart slot low [] r x y i j e = absurd (attribute_none x i)
 apart slot low (l ∷ ls) r x y i j e =
     elim (attribute_in l ls x i) [
-      inl a ↦ elim (stray_in slot l ls y j) [
-        inl s ↦ both_ways (is_attribute l.1) (not-true (is_attribute l.1) (and_parts (not (is_attribute l.1)) (not (continues l.1)) s.1).0) a.1
-      | inr k ↦ let h : l.0 + 1 ≤ y = low-le-in (l.0 + 1) (note_lines (stray_notes slot ls)) y (strays_rise slot (l.0 + 1) ls r.1) k in let g : x ≡ l.0 = a.0 in omega arith
+      | inl a ↦ elim (stray_in slot l ls y j) [
+        | inl s ↦ both_ways (is_attribute l.1) (not-true (is_attribute l.1) (and_parts (not (is_attribute l.1)) (not (continues l.1)) s.1).0) a.1
+        | inr k ↦ let h : l.0 + 1 ≤ y = low-le-in (l.0 + 1) (note_lines (stray_notes slot ls)) y (strays_rise slot (l.0 + 1) ls r.1) k in let g : x ≡ l.0 = a.0 in omega arith
       ]
-    | inr k ↦ elim (stray_in slot l ls y j) [
-        inl s ↦ let h : l.0 + 1 ≤ x = low-le-in (l.0 + 1) (part_lines (attributes ls)) x (attributes_rise (l.0 + 1) ls r.1) k in let g : y ≡ l.0 = s.0 in omega arith
-      | inr m ↦ apart slot (l.0 + 1) ls r.1 x y k m e
+      | inr k ↦ elim (stray_in slot l ls y j) [
+        | inl s ↦ let h : l.0 + 1 ≤ x = low-le-in (l.0 + 1) (part_lines (attributes ls)) x (attributes_rise (l.0 + 1) ls r.1) k in let g : y ≡ l.0 = s.0 in omega arith
+        | inr m ↦ apart slot (l.0 + 1) ls r.1 x y k m e
       ]
-  ]
+    ]
 
 -- what items say stands between two lines
 pub record Fits (slot : List ℕ) (low high : ℕ) (these : List Item) : Type 0 where
@@ -111,16 +110,16 @@ fits-append slot low mid high xs ys le le' f g =
     ap reference_lines (references-append slot xs ys) ∙ map-append (λ (r : Reference). r.line) (references slot xs) (references slot ys) in
     record {
       distinct = subst (λ l. IsDistinct nat_eq l) (sym lines) (distinct-append (note_lines (noted slot xs)) (note_lines (noted slot ys)) f.distinct g.distinct
-        (λ x y i j e. let h : x < mid = (f.between x i).1 in let k : mid ≤ y = (g.between y j).0 in omega arith));
+          (λ x y i j e. let h : x < mid = (f.between x i).1 in let k : mid ≤ y = (g.between y j).0 in omega arith));
       between = λ x i. elim (in-append (note_lines (noted slot xs)) (note_lines (noted slot ys)) x (subst (λ l. In x l) lines i)) [
-        inl j ↦ let h = f.between x j in (omega (arith, h.0), omega (arith, h.1))
-      | inr j ↦ let h = g.between x j in (omega (arith, h.0), omega (arith, h.1))
+        | inl j ↦ let h = f.between x j in (omega (arith, h.0), omega (arith, h.1))
+        | inr j ↦ let h = g.between x j in (omega (arith, h.0), omega (arith, h.1))
       ];
       own = subst (λ l. AllByRecursion (λ n. n.origin ≡ Rpsl slot) l) (sym (noted-append slot xs ys)) (all-append (λ n. n.origin ≡ Rpsl slot) (noted slot xs) (noted slot ys) f.own g.own);
       refs = subst (λ l. Rises low l) (sym ref_lines) (rises-append low mid (reference_lines (references slot xs)) (reference_lines (references slot ys)) le f.refs f.refs_below g.refs);
       refs_below = λ x i. elim (in-append (reference_lines (references slot xs)) (reference_lines (references slot ys)) x (subst (λ l. In x l) ref_lines i)) [
-        inl j ↦ let h : x < mid = f.refs_below x j in omega arith
-      | inr j ↦ g.refs_below x j
+        | inl j ↦ let h : x < mid = f.refs_below x j in omega arith
+        | inr j ↦ g.refs_below x j
       ];
       slots = subst (λ l. AllByRecursion (λ r. r.slot ≡ slot) l) (sym (references-append slot xs ys)) (all-append (λ r. r.slot ≡ slot) (references slot xs) (references slot ys) f.slots g.slots);
     }
@@ -129,10 +128,13 @@ fits-append slot low mid high xs ys le le' f g =
 fits_passed : (slot : List ℕ) (low high line : ℕ) (rule : Rule) → low ≤ line → line < high → Fits slot low high (Passed line rule ∷ [])
 unfolding noted references IsDistinct
 fits_passed slot low high line rule le lt = record {
-    distinct = (tt, tt);
-    between = λ x i. elim i [ inl e ↦ (omega (arith, e), omega (arith, e)) | inr j ↦ absurd j ];
-    own = (refl, tt); refs = tt; refs_below = λ x i. absurd i; slots = tt;
-  }
+  distinct = (tt, tt);
+  between = λ x i. elim i [ inl e ↦ (omega (arith, e), omega (arith, e)) | inr j ↦ absurd j ];
+  own = (refl, tt);
+  refs = tt;
+  refs_below = λ x i. absurd i;
+  slots = tt;
+}
 
 strays_own : (slot : List ℕ) (ms : List Numbered) → AllByRecursion (λ n. n.origin ≡ Rpsl slot) (noted slot (map stray ms))
 unfolding noted
@@ -188,14 +190,14 @@ object_fits slot low l ls o made r =
     let refs : references slot (Whole o ∷ strays ls) ≡ reference_in (found slot o).what = whole_references slot o ls in
     record {
       distinct = subst (λ t. IsDistinct nat_eq t) (sym lines) (distinct-append (note_lines (found slot o).notes) (note_lines (stray_notes slot ls))
-        (distinct_from_rises low (note_lines (found slot o).notes) s.rises) (distinct_from_rises (l.0 + 1) (note_lines (stray_notes slot ls)) stray_rise)
-        (λ x y i j e. elim (on_part x (s.inside x i)) [
-          inl h ↦ let k : l.0 + 1 ≤ y = low-le-in (l.0 + 1) (note_lines (stray_notes slot ls)) y stray_rise j in omega arith
-        | inr h ↦ apart slot (l.0 + 1) ls r.1 x y h j e
-        ]));
+          (distinct_from_rises low (note_lines (found slot o).notes) s.rises) (distinct_from_rises (l.0 + 1) (note_lines (stray_notes slot ls)) stray_rise)
+          (λ x y i j e. elim (on_part x (s.inside x i)) [
+            | inl h ↦ let k : l.0 + 1 ≤ y = low-le-in (l.0 + 1) (note_lines (stray_notes slot ls)) y stray_rise j in omega arith
+            | inr h ↦ apart slot (l.0 + 1) ls r.1 x y h j e
+          ]));
       between = λ x i. elim (in-append (note_lines (found slot o).notes) (note_lines (stray_notes slot ls)) x (subst (λ t. In x t) lines i)) [
-        inl j ↦ (low-le-in low (note_lines (found slot o).notes) x s.rises j, part_below x (s.inside x j))
-      | inr j ↦ let k : l.0 + 1 ≤ x = low-le-in (l.0 + 1) (note_lines (stray_notes slot ls)) x stray_rise j in (omega (arith, r.0), stray_in_below slot (l.0 + 1) ls x r.1 j)
+        | inl j ↦ (low-le-in low (note_lines (found slot o).notes) x s.rises j, part_below x (s.inside x j))
+        | inr j ↦ let k : l.0 + 1 ≤ x = low-le-in (l.0 + 1) (note_lines (stray_notes slot ls)) x stray_rise j in (omega (arith, r.0), stray_in_below slot (l.0 + 1) ls x r.1 j)
       ];
       own = whole_own slot o ls s.own;
       refs = subst (λ t. Rises low (reference_lines t)) (sym refs) s.refs_rise;
@@ -218,7 +220,7 @@ items_fit slot low (l ∷ ls) r =
     cond_both (is_attribute l.1) (Whole (record { line = l.0; parts = attribute l ls ∷ attributes ls }) ∷ strays ls) (stray l ∷ items ls) (λ these. Fits slot low high these)
     (λ e. object_fits slot low l ls (record { line = l.0; parts = attribute l ls ∷ attributes ls }) refl r)
     (λ e. fits-append slot low (l.0 + 1) high (stray l ∷ []) (items ls) (omega (arith, r.0)) least
-      (fits_passed slot low (l.0 + 1) l.0 P02 r.0 (omega arith)) (items_fit slot (l.0 + 1) ls r.1))
+    (fits_passed slot low (l.0 + 1) l.0 P02 r.0 (omega arith)) (items_fit slot (l.0 + 1) ls r.1))
 
 group_fits : (slot : List ℕ) (low : ℕ) (ls : List Numbered) → Rises low (numbers ls) → Fits slot low (past low (numbers ls)) (group_items ls)
 unfolding group_items
@@ -273,4 +275,4 @@ unfolding objects
 text_fits slot text =
     groups_fit slot 1 (groups (numbered_lines text))
     (split_rises (λ l. is_end l.1) 1 (filter (λ l. not (is_comment l.1)) (numbered_lines text))
-      (filter_rises (λ l. not (is_comment l.1)) 1 (numbered_lines text) (numbers_rise 1 (lines_of (without_mark text)))))
+    (filter_rises (λ l. not (is_comment l.1)) 1 (numbered_lines text) (numbers_rise 1 (lines_of (without_mark text)))))

@@ -15,7 +15,7 @@ pub before_none : {X : Type 0} (p : X → Bool) (xs : List X) → None ≡ posit
 before_none p xs e =
     let at : (b : Bool) → nat_lt (position_or_len p xs) (length xs) ≡ b → None ≡ cond b (Some (position_or_len p xs)) None → length xs ≤ position_or_len p xs =
     λ b. elim b as (λ t. nat_lt (position_or_len p xs) (length xs) ≡ t → None ≡ cond t (Some (position_or_len p xs)) None → length xs ≤ position_or_len p xs) [
-        true ↦ λ is h. absurd cc
+      | true ↦ λ is h. absurd cc
       | false ↦ λ is h. ltb-false (position_or_len p xs) (length xs) is
     ] in
     sym (take_all (position_or_len p xs) xs (at (nat_lt (position_or_len p xs) (length xs)) refl e))

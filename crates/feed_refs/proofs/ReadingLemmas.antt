@@ -1,24 +1,21 @@
 -- What a reader holds, and what one more piece makes of it.
-use Rattle.std.proofs.Common.{◌≡◌, ◌≢◌, ℕ, ◌+◌, ◌-◌, ◌<◌, ◌≤◌, Bool, true, false, cond, List, [], ◌∷◌, ◌++◌, length, take, Option, Some, None, Result, Ok, Err, ◌⊎◌, inl, inr, refl, sym, ap, subst, arith, ◌∙◌}
+use Rattle.std.proofs.Common.{◌≡◌, ℕ, ◌+◌, ◌-◌, ◌<◌, ◌≤◌, List, [], ◌++◌, length, take, Result, Ok, Err, ◌⊎◌, inl, inr, refl, sym, ap, subst, arith, ◌∙◌}
 use Rattle.std.specs.Prelude.{nat_lt}
 use Rattle.std.proofs.lemmas.Bool.{cond-true, cond-false, cases_Bool, cases_lt, lt-ltb, le-ltb, ltb-true, ltb-false}
 use Rattle.std.proofs.lemmas.Grind.{flat_map-append}
 use Rattle.std.proofs.lemmas.List.{length-append, take_all, take-append-le}
 use Rattle.std.proofs.Math.Seq.{take-append-add}
 use Rattle.geo_terms.specs.SourceForm.{DumpParts}
-use Rattle.geo_terms.specs.declared.note.Note.{Note}
 use Rattle.geo_terms.specs.declared.source.SourceFault.{SourceFault}
 use Rattle.geo_terms.specs.declared.source.SourceFault.TheVariants.{TooLong, TooMany}
 use Rattle.geo_terms.specs.declared.statement.Reference.{Reference}
 use Rattle.rpsl_reader.specs.Objects.{objects}
-use Rattle.rpsl_reader.specs.Reading.{Fed, after, given, last, start}
-use Rattle.rpsl_reader.specs.Selections.{wanted}
+use Rattle.rpsl_reader.specs.Reading.{after, given, last, start}
 use Rattle.rpsl_reader.specs.declared.item.Item.{Item}
 use Rattle.rpsl_reader.proofs.Pieces.{after-append, given-append}
 use Rattle.rpsl_reader.proofs.WholeText.{given_is_whole}
 use Rattle.feed_refs.specs.Dumps.{dump, dump_parts, in_line_order, judged, last_references, longest, most, noted, notes_of, references, references_of, so_far, whole_references, within}
-use Rattle.feed_refs.specs.Readings.{Kept, Reading, kept_if, kept_of, ours, reading}
-use Rattle.feed_refs.proofs.WantedLemmas.{noted_wanted, references_wanted}
+use Rattle.feed_refs.specs.Readings.{Kept, kept_if, kept_of}
 
 pub noted-append : (slot : List ℕ) (xs ys : List Item) → noted slot (xs ++ ys) ≡ noted slot xs ++ noted slot ys
 unfolding noted
@@ -41,21 +38,21 @@ fine rs text x few h = cond-false (nat_lt most (length rs)) _ _ (le-ltb most (le
 -- what is judged fine has neither too many references nor too many bytes
 is_fine : {T : Type 0} (rs : List Reference) (text : List ℕ) (x y : T) → judged rs text x ≡ Ok y → (length rs ≤ most) × (length text ≤ longest)
 is_fine rs text x y e = elim (cases_Bool (nat_lt most (length rs))) [
-    inl b ↦ absurd (let f = sym (many rs text x (ltb-true most (length rs) b)) ∙ e in cc)
+  | inl b ↦ absurd (let f = sym (many rs text x (ltb-true most (length rs) b)) ∙ e in cc)
   | inr b ↦ elim (cases_Bool (nat_lt longest (length text))) [
-      inl d ↦ absurd (let f = sym (long rs text x (ltb-false most (length rs) b) (ltb-true longest (length text) d)) ∙ e in cc)
+    | inl d ↦ absurd (let f = sym (long rs text x (ltb-false most (length rs) b) (ltb-true longest (length text) d)) ∙ e in cc)
     | inr d ↦ (ltb-false most (length rs) b, ltb-false longest (length text) d)
-    ]
+  ]
 ]
 
 -- a fault has its cause
 is_fault : {T : Type 0} (rs : List Reference) (text : List ℕ) (x : T) (f : SourceFault) → judged rs text x ≡ Err f → ((most < length rs) × (f ≡ TooMany)) ⊎ ((longest < length text) × (length rs ≤ most) × (f ≡ TooLong))
 is_fault rs text x f e = elim (cases_Bool (nat_lt most (length rs))) [
-    inl b ↦ let h = ltb-true most (length rs) b in inl (h, (let g = sym e ∙ many rs text x h in cc))
+  | inl b ↦ let h = ltb-true most (length rs) b in inl (h, (let g = sym e ∙ many rs text x h in cc))
   | inr b ↦ elim (cases_Bool (nat_lt longest (length text))) [
-      inl d ↦ let h = ltb-false most (length rs) b in let k = ltb-true longest (length text) d in inr (k, h, (let g = sym e ∙ long rs text x h k in cc))
+    | inl d ↦ let h = ltb-false most (length rs) b in let k = ltb-true longest (length text) d in inr (k, h, (let g = sym e ∙ long rs text x h k in cc))
     | inr d ↦ absurd (let g = sym (fine rs text x (ltb-false most (length rs) b) (ltb-false longest (length text) d)) ∙ e in cc)
-    ]
+  ]
 ]
 
 -- a text that is not too long counts whole
@@ -120,9 +117,12 @@ opened slot text k e =
     let parts : (k ≡ kept_of slot text) × (so_far slot text ≡ Ok tt) = kept_cases (so_far slot text) k (kept_of slot text) e in
     let good : (length (whole_references slot text) ≤ most) × (length text ≤ longest) = so_far_fine slot text parts.1 in
     record {
-      few = subst (λ rs. length rs ≤ most) (whole_now slot text good.1) good.0; short = good.1;
-      fed = ap (λ (q : Kept). q.reader.fed) parts.0; state = ap (λ (q : Kept). q.reader.state) parts.0;
-      refs = ap (λ (q : Kept). q.refs) parts.0; notes = ap (λ (q : Kept). q.notes) parts.0;
+      few = subst (λ rs. length rs ≤ most) (whole_now slot text good.1) good.0;
+      short = good.1;
+      fed = ap (λ (q : Kept). q.reader.fed) parts.0;
+      state = ap (λ (q : Kept). q.reader.state) parts.0;
+      refs = ap (λ (q : Kept). q.refs) parts.0;
+      notes = ap (λ (q : Kept). q.notes) parts.0;
     }
 
 so_far_many : (slot text : List ℕ) → most < length (whole_references slot text) → so_far slot text ≡ Err TooMany
@@ -179,11 +179,11 @@ pub fault_stays : (slot text piece : List ℕ) (f : SourceFault) → so_far slot
 fault_stays slot text piece f e =
     let both : (longest < length text) ⊎ (length text ≤ longest) = cases_lt longest (length text) in
     elim (so_far_fault slot text f e) [
-      inl h ↦ elim both [
-        inr short ↦ so_far_many slot (text ++ piece) (omega (arith, ap length (whole_next slot text piece short), length-append (refs_of slot text) (more_refs slot text (take (longest - length text) piece)), ap length (whole_now slot text short), h.0)) ∙ ap (λ g. Err g) (sym h.1)
-      | inl over ↦ so_far_many slot (text ++ piece) (omega (arith, ap (λ t. length (references slot (given start t))) (none_within text piece (omega arith)), h.0)) ∙ ap (λ g. Err g) (sym h.1)
+      | inl h ↦ elim both [
+        | inr short ↦ so_far_many slot (text ++ piece) (omega (arith, ap length (whole_next slot text piece short), length-append (refs_of slot text) (more_refs slot text (take (longest - length text) piece)), ap length (whole_now slot text short), h.0)) ∙ ap (λ g. Err g) (sym h.1)
+        | inl over ↦ so_far_many slot (text ++ piece) (omega (arith, ap (λ t. length (references slot (given start t))) (none_within text piece (omega arith)), h.0)) ∙ ap (λ g. Err g) (sym h.1)
       ]
-    | inr h ↦ so_far_long slot (text ++ piece) (omega (arith, ap (λ t. length (references slot (given start t))) (none_within text piece (omega (arith, h.0))), h.1)) (omega (arith, length-append text piece, h.0)) ∙ ap (λ g. Err g) (sym h.2)
+      | inr h ↦ so_far_long slot (text ++ piece) (omega (arith, ap (λ t. length (references slot (given start t))) (none_within text piece (omega (arith, h.0))), h.1)) (omega (arith, length-append text piece, h.0)) ∙ ap (λ g. Err g) (sym h.2)
     ]
 
 pub fault_opened : (slot text : List ℕ) (f : SourceFault) → Err f ≡ kept_if (so_far slot text) (kept_of slot text) → so_far slot text ≡ Err f
@@ -245,12 +245,12 @@ end_fault slot text f e =
     let both : (longest < length text) ⊎ (length text ≤ longest) = cases_lt longest (length text) in
     let over_last = λ (over : longest < length text). cond-true (nat_lt longest (length text)) (whole_references slot text) (references slot (objects text)) (lt-ltb longest (length text) over) in
     elim (so_far_fault slot text f e) [
-      inl h ↦ elim both [
-        inr short ↦
-          many (last_references slot text) text (dump_parts slot text)
-          (omega (arith, ap length (cond-false (nat_lt longest (length text)) (whole_references slot text) (references slot (objects text)) (le-ltb longest (length text) short)), ap (λ t. length (references slot t)) (whole_given text), ap length (references-append slot (given start text) (last (after start text))), length-append (refs_of slot text) (references slot (last (after start text))), ap length (whole_now slot text short), h.0))
-          ∙ ap (λ g. Err g) (sym h.1)
-      | inl over ↦ many (last_references slot text) text (dump_parts slot text) (omega (arith, ap length (over_last over), h.0)) ∙ ap (λ g. Err g) (sym h.1)
+      | inl h ↦ elim both [
+        | inr short ↦
+            many (last_references slot text) text (dump_parts slot text)
+            (omega (arith, ap length (cond-false (nat_lt longest (length text)) (whole_references slot text) (references slot (objects text)) (le-ltb longest (length text) short)), ap (λ t. length (references slot t)) (whole_given text), ap length (references-append slot (given start text) (last (after start text))), length-append (refs_of slot text) (references slot (last (after start text))), ap length (whole_now slot text short), h.0))
+            ∙ ap (λ g. Err g) (sym h.1)
+        | inl over ↦ many (last_references slot text) text (dump_parts slot text) (omega (arith, ap length (over_last over), h.0)) ∙ ap (λ g. Err g) (sym h.1)
       ]
-    | inr h ↦ long (last_references slot text) text (dump_parts slot text) (omega (arith, ap length (over_last h.0), h.1)) h.0 ∙ ap (λ g. Err g) (sym h.2)
+      | inr h ↦ long (last_references slot text) text (dump_parts slot text) (omega (arith, ap length (over_last h.0), h.1)) h.0 ∙ ap (λ g. Err g) (sym h.2)
     ]

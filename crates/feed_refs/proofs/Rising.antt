@@ -1,5 +1,5 @@
 -- Numbers that rise, and what is kept of them.
-use Rattle.std.proofs.Common.{◌≡◌, ℕ, zero, suc, ◌+◌, ◌<◌, ◌≤◌, Bool, true, false, cond, List, [], ◌∷◌, ◌++◌, length, get_or, ◌⊎◌, inl, inr, refl, sym, ap, subst, arith}
+use Rattle.std.proofs.Common.{◌≡◌, ℕ, zero, suc, ◌+◌, ◌<◌, ◌≤◌, false, List, [], ◌∷◌, ◌++◌, ◌⊎◌, inl, inr, refl, sym, subst, arith}
 use Rattle.std.specs.Prelude.{nat_eq}
 use Rattle.std.specs.List.{IsDistinct, AllByRecursion}
 use Rattle.std.specs.List.Sorted.{IsStrictlyIncreasing}
@@ -30,14 +30,14 @@ low-le-past low (x ∷ xs) r = let h : x + 1 ≤ past (x + 1) xs = low-le-past (
 pub low-le-in : (low : ℕ) (xs : List ℕ) (x : ℕ) → Rises low xs → In x xs → low ≤ x
 low-le-in low [] x r i = absurd i
 low-le-in low (y ∷ ys) x r i = elim i [
-    inl e ↦ omega (arith, r.0, e)
+  | inl e ↦ omega (arith, r.0, e)
   | inr j ↦ let h : y + 1 ≤ x = low-le-in (y + 1) ys x r.1 j in omega (arith, r.0)
 ]
 
 pub in-lt-past : (low : ℕ) (xs : List ℕ) (x : ℕ) → Rises low xs → In x xs → x < past low xs
 in-lt-past low [] x r i = absurd i
 in-lt-past low (y ∷ ys) x r i = elim i [
-    inl e ↦ let h : y + 1 ≤ past (y + 1) ys = low-le-past (y + 1) ys r.1 in omega (arith, e)
+  | inl e ↦ let h : y + 1 ≤ past (y + 1) ys = low-le-past (y + 1) ys r.1 in omega (arith, e)
   | inr j ↦ in-lt-past (y + 1) ys x r.1 j
 ]
 
@@ -69,7 +69,7 @@ in_from_all P (y ∷ ys) a x i = elim i [ inl e ↦ subst P (sym e) a.0 | inr j 
 pub in-append : (xs ys : List ℕ) (x : ℕ) → In x (xs ++ ys) → In x xs ⊎ In x ys
 in-append [] ys x i = inr i
 in-append (z ∷ xs) ys x i = elim i [
-    inl e ↦ inl (inl e)
+  | inl e ↦ inl (inl e)
   | inr j ↦ elim (in-append xs ys x j) [ inl k ↦ inl (inr k) | inr k ↦ inr k ]
 ]
 
@@ -84,8 +84,10 @@ distinct_from_rises low (x ∷ xs) r =
 pub distinct-append : (xs ys : List ℕ) → IsDistinct nat_eq xs → IsDistinct nat_eq ys → ((x y : ℕ) → In x xs → In y ys → x ≡ y → ⊥) → IsDistinct nat_eq (xs ++ ys)
 unfolding IsDistinct
 distinct-append [] ys d e apart = e
-distinct-append (x ∷ xs) ys d e apart =
-    (all_from_in (λ y. nat_eq x y ≡ false) (xs ++ ys) (λ y i. elim (in-append xs ys y i) [
-        inl j ↦ in_from_all (λ z. nat_eq x z ≡ false) xs d.0 y j
-      | inr k ↦ ne_eqb x y (λ same. apart x y (inl refl) k same)
-    ]), distinct-append xs ys d.1 e (λ z y i k. apart z y (inr i) k))
+distinct-append (x ∷ xs) ys d e apart = (
+  all_from_in (λ y. nat_eq x y ≡ false) (xs ++ ys) (λ y i. elim (in-append xs ys y i) [
+    | inl j ↦ in_from_all (λ z. nat_eq x z ≡ false) xs d.0 y j
+    | inr k ↦ ne_eqb x y (λ same. apart x y (inl refl) k same)
+  ]),
+  distinct-append xs ys d.1 e (λ z y i k. apart z y (inr i) k),
+)

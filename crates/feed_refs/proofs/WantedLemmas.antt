@@ -2,16 +2,13 @@
 use Rattle.std.proofs.Common.{◌≡◌, ℕ, Bool, true, false, cond, List, [], ◌∷◌, ◌++◌, filter, find, Option, Some, None, refl, sym, ap, ◌∙◌}
 use Rattle.std.specs.Prelude.{◌||◌, codes, option_to_list}
 use Rattle.std.specs.List.{cons_option, filter_map, flat_map, list_any}
-use Rattle.std.proofs.lemmas.Bool.{cond-true, cond-false, or_parts, or_from}
+use Rattle.std.proofs.lemmas.Bool.{cond-false, or_parts}
 use Rattle.geo_addr.specs.Ranges.{Ends}
-use Rattle.geo_addr.specs.Spans.{range_of_read, span_in}
-use Rattle.geo_addr.specs.Prefixes.{block_in}
 use Rattle.geo_terms.specs.PlaceForm.{same_text}
 use Rattle.geo_terms.specs.declared.note.Note.{Note}
 use Rattle.geo_terms.specs.declared.note.Rule.{Rule}
-use Rattle.geo_terms.specs.declared.note.Rule.TheVariants.{P04, P05, P06, P07, P10}
-use Rattle.geo_terms.specs.declared.statement.Reference.{Reference}
-use Rattle.rpsl_reader.specs.Selections.{class_of, is_among, wanted, wanted_of, wanted_parts, wants_class, wants_name}
+use Rattle.geo_terms.specs.declared.note.Rule.TheVariants.{P04, P05, P06}
+use Rattle.rpsl_reader.specs.Selections.{class_of, wanted, wanted_of, wanted_parts, wants_class, wants_name}
 use Rattle.rpsl_reader.specs.declared.item.Attribute.{Attribute}
 use Rattle.rpsl_reader.specs.declared.item.Item.{Item}
 use Rattle.rpsl_reader.specs.declared.item.Item.TheVariants.{Whole, Passed}
@@ -22,12 +19,11 @@ use Rattle.feed_refs.specs.declared.kinds.Kind.{Kind}
 use Rattle.feed_refs.specs.declared.kinds.Kind.TheVariants.{Geofeed, Remark}
 use Rattle.feed_refs.specs.declared.reference.Class.{Class}
 use Rattle.feed_refs.specs.declared.reference.Class.TheVariants.{Other, Unread, Inet}
-use Rattle.feed_refs.specs.declared.reference.FoundRef.{FoundRef}
 use Rattle.feed_refs.specs.declared.reference.What.TheVariants.{Nothing, NotInet, One, Void}
 use Rattle.feed_refs.specs.Dumps.{noted, notes_of, reference_in, references, references_of}
-use Rattle.feed_refs.specs.Kinds.{is_geofeed, is_last_modified, is_of_kind, is_reference_remark, remark_url, url_text, used_kind}
+use Rattle.feed_refs.specs.Kinds.{is_geofeed, is_last_modified, is_of_kind, is_reference_remark, url_text, used_kind}
 use Rattle.feed_refs.specs.Readings.{ours}
-use Rattle.feed_refs.specs.References.{class_named, found, found_among, found_as, found_by, found_in, found_in_parts, modified_in, modified_of, note_by, notes_from, notes_on, rule_on, v4_class, v6_class}
+use Rattle.feed_refs.specs.References.{class_named, found, found_among, found_as, found_by, found_in, found_in_parts, modified_in, modified_of, note_by, notes_from, notes_on, rule_on}
 use Rattle.feed_refs.specs.Urls.{url_read}
 
 abbrev asked : Attribute → Bool
@@ -63,7 +59,7 @@ any_same p not_asked (a ∷ ps) =
     let later = any_same p not_asked ps in
     let one : (b : Bool) → asked a ≡ b → list_any p (cond b (a ∷ kept_parts ps) (kept_parts ps)) ≡ (p a || list_any p ps) =
     λ b. elim b as (λ t. asked a ≡ t → list_any p (cond t (a ∷ kept_parts ps) (kept_parts ps)) ≡ (p a || list_any p ps)) [
-        true ↦ λ e. ap (λ t. p a || t) later
+      | true ↦ λ e. ap (λ t. p a || t) later
       | false ↦ λ e. later ∙ sym (ap (λ t. t || list_any p ps) (not_asked a e))
     ] in
     one (asked a) refl
@@ -74,7 +70,7 @@ filter_same p not_asked (a ∷ ps) =
     let later = filter_same p not_asked ps in
     let one : (b : Bool) → asked a ≡ b → filter p (cond b (a ∷ kept_parts ps) (kept_parts ps)) ≡ cond (p a) (a ∷ filter p ps) (filter p ps) =
     λ b. elim b as (λ t. asked a ≡ t → filter p (cond t (a ∷ kept_parts ps) (kept_parts ps)) ≡ cond (p a) (a ∷ filter p ps) (filter p ps)) [
-        true ↦ λ e. ap (λ t. cond (p a) (a ∷ t) t) later
+      | true ↦ λ e. ap (λ t. cond (p a) (a ∷ t) t) later
       | false ↦ λ e. later ∙ sym (cond-false (p a) (a ∷ filter p ps) (filter p ps) (not_asked a e))
     ] in
     one (asked a) refl
@@ -85,7 +81,7 @@ find_same p not_asked (a ∷ ps) =
     let later = find_same p not_asked ps in
     let one : (b : Bool) → asked a ≡ b → find p (cond b (a ∷ kept_parts ps) (kept_parts ps)) ≡ cond (p a) (Some a) (find p ps) =
     λ b. elim b as (λ t. asked a ≡ t → find p (cond t (a ∷ kept_parts ps) (kept_parts ps)) ≡ cond (p a) (Some a) (find p ps)) [
-        true ↦ λ e. ap (λ t. cond (p a) (Some a) t) later
+      | true ↦ λ e. ap (λ t. cond (p a) (Some a) t) later
       | false ↦ λ e. later ∙ sym (cond-false (p a) (Some a) (find p ps) (not_asked a e))
     ] in
     one (asked a) refl
@@ -100,7 +96,7 @@ notes_same slot kind used seen (a ∷ ps) =
     let whole : List Note = option_to_list (note_by slot a.line (rule_on kind used seen a)) ++ notes_from slot kind used (seen || is_last_modified a) ps in
     let one : (b : Bool) → asked a ≡ b → notes_from slot kind used seen (cond b (a ∷ kept_parts ps) (kept_parts ps)) ≡ whole =
     λ b. elim b as (λ t. asked a ≡ t → notes_from slot kind used seen (cond t (a ∷ kept_parts ps) (kept_parts ps)) ≡ whole) [
-        true ↦ λ e. ap (λ t. option_to_list (note_by slot a.line (rule_on kind used seen a)) ++ t) (notes_same slot kind used (seen || is_last_modified a) ps)
+      | true ↦ λ e. ap (λ t. option_to_list (note_by slot a.line (rule_on kind used seen a)) ++ t) (notes_same slot kind used (seen || is_last_modified a) ps)
       | false ↦ λ e.
           notes_same slot kind used seen ps
           ∙ ap (λ t. notes_from slot kind used t ps) (sym (seen_stays seen (is_last_modified a) (passes a e).modified))
@@ -150,7 +146,7 @@ found_parts_same slot [] = refl
 found_parts_same slot (p ∷ ps) =
     let one : (c : Class) → found_as slot p.line (p ∷ kept_parts ps) c ≡ found_as slot p.line (p ∷ ps) c =
     λ c. elim c as (λ t. found_as slot p.line (p ∷ kept_parts ps) t ≡ found_as slot p.line (p ∷ ps) t) [
-        Other ↦ refl
+      | Other ↦ refl
       | Unread ↦ refl
       | Inet range ↦ found_in_same slot range p ps
     ] in
@@ -187,7 +183,7 @@ noted_wanted slot (Whole o ∷ more) =
     let rest : List Item = filter_map (wanted_of ours) more in
     let one : (b : Bool) → wants_class ours (class_of o.parts) ≡ b → flat_map (notes_of slot) (cons_option (cond b (Some (less o)) None) rest) ≡ (found slot o).notes ++ flat_map (notes_of slot) more =
     λ b. elim b as (λ t. wants_class ours (class_of o.parts) ≡ t → flat_map (notes_of slot) (cons_option (cond t (Some (less o)) None) rest) ≡ (found slot o).notes ++ flat_map (notes_of slot) more) [
-        true ↦ λ e. ap (λ f. f.notes ++ flat_map (notes_of slot) rest) (found_same slot o) ∙ ap (λ t. (found slot o).notes ++ t) (noted_wanted slot more)
+      | true ↦ λ e. ap (λ f. f.notes ++ flat_map (notes_of slot) rest) (found_same slot o) ∙ ap (λ t. (found slot o).notes ++ t) (noted_wanted slot more)
       | false ↦ λ e. noted_wanted slot more ∙ sym (ap (λ f. f.notes ++ flat_map (notes_of slot) more) (found_nothing slot o e))
     ] in
     one (wants_class ours (class_of o.parts)) refl
@@ -200,7 +196,7 @@ references_wanted slot (Whole o ∷ more) =
     let rest : List Item = filter_map (wanted_of ours) more in
     let one : (b : Bool) → wants_class ours (class_of o.parts) ≡ b → flat_map (references_of slot) (cons_option (cond b (Some (less o)) None) rest) ≡ reference_in (found slot o).what ++ flat_map (references_of slot) more =
     λ b. elim b as (λ t. wants_class ours (class_of o.parts) ≡ t → flat_map (references_of slot) (cons_option (cond t (Some (less o)) None) rest) ≡ reference_in (found slot o).what ++ flat_map (references_of slot) more) [
-        true ↦ λ e. ap (λ f. reference_in f.what ++ flat_map (references_of slot) rest) (found_same slot o) ∙ ap (λ t. reference_in (found slot o).what ++ t) (references_wanted slot more)
+      | true ↦ λ e. ap (λ f. reference_in f.what ++ flat_map (references_of slot) rest) (found_same slot o) ∙ ap (λ t. reference_in (found slot o).what ++ t) (references_wanted slot more)
       | false ↦ λ e. references_wanted slot more ∙ sym (ap (λ f. reference_in f.what ++ flat_map (references_of slot) more) (found_nothing slot o e))
     ] in
     one (wants_class ours (class_of o.parts)) refl

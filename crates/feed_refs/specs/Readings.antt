@@ -25,10 +25,10 @@ kept_if (Err fault) kept = Err fault
 -- what a text leaves
 unfoldable pub kept_of : (slot text : List ℕ) → Kept
 kept_of slot text = record {
-    reader = record { fed = length text; state = after start text };
-    refs = references slot (given start text);
-    notes = noted slot (given start text);
-  }
+  reader = record { fed = length text; state = after start text };
+  refs = references slot (given start text);
+  notes = noted slot (given start text);
+}
 
 -- the reader of a slot that was fed a text
 abbrev pub reading : (slot text : List ℕ) → Reading
@@ -41,10 +41,10 @@ WasFed r = (text : List ℕ) × (r ≡ reading r.slot text)
 -- the objects and the attributes that a dump is read for
 abbrev pub ours : Wanted
 ours = record {
-    everything = false;
-    classes = codes "inetnum" ∷ codes "inet6num" ∷ [];
-    names = codes "geofeed" ∷ codes "remarks" ∷ codes "last-modified" ∷ [];
-  }
+  everything = false;
+  classes = codes "inetnum" ∷ codes "inet6num" ∷ [];
+  names = codes "geofeed" ∷ codes "remarks" ∷ codes "last-modified" ∷ [];
+}
 
 abbrev pub kept_by : Option SourceFault → Kept → Result Kept SourceFault
 kept_by None kept = Ok kept

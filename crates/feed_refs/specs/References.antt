@@ -1,8 +1,7 @@
 -- The reference of an object to a feed, and the notes on its attributes (RFC 9632, section 3).
 use Rattle.std.specs.Prelude.{ℕ, ◌&&◌, ◌||◌, not, Bool, false, List, [], ◌∷◌, ◌++◌, codes, filter, find, Option, None, Some, is_none, unwrap_or, option_to_list, Result, Ok, Err, if◌then◌else◌}
-use Rattle.std.specs.List.{list_any}
 use Rattle.geo_addr.specs.Prefixes.{block_in}
-use Rattle.geo_addr.specs.Ranges.{Ends, Prefix, is_v4, range_of_block}
+use Rattle.geo_addr.specs.Ranges.{Ends, is_v4}
 use Rattle.geo_addr.specs.Spans.{span_in, range_of_read}
 use Rattle.geo_addr.specs.declared.fault.BlockFault.{BlockFault}
 use Rattle.geo_terms.specs.PlaceForm.{same_text}
@@ -13,16 +12,14 @@ use Rattle.geo_terms.specs.declared.note.Rule.TheVariants.{P03, P04, P05, P06, P
 use Rattle.feed_refs.specs.declared.feed_url.UrlRead.{UrlRead}
 use Rattle.feed_refs.specs.declared.feed_url.UrlRead.TheVariants.{Refused, OtherScheme, Https}
 use Rattle.feed_refs.specs.declared.kinds.Kind.{Kind}
-use Rattle.feed_refs.specs.declared.kinds.Kind.TheVariants.{Geofeed, Remark}
 use Rattle.rpsl_reader.specs.declared.item.Attribute.{Attribute}
 use Rattle.rpsl_reader.specs.declared.item.Object.{Object}
 use Rattle.feed_refs.specs.declared.reference.Class.{Class}
 use Rattle.feed_refs.specs.declared.reference.Class.TheVariants.{Other, Unread, Inet}
 use Rattle.feed_refs.specs.declared.reference.FoundRef.{FoundRef}
-use Rattle.feed_refs.specs.declared.reference.What.{What}
 use Rattle.feed_refs.specs.declared.reference.What.TheVariants.{NotInet, Nothing, One, Void}
 use Rattle.feed_refs.specs.Dates.{modified}
-use Rattle.feed_refs.specs.Kinds.{is_geofeed, is_reference_remark, is_last_modified, is_of_kind, used_kind, url_text}
+use Rattle.feed_refs.specs.Kinds.{is_reference_remark, is_last_modified, is_of_kind, used_kind, url_text}
 use Rattle.feed_refs.specs.Urls.{url_read}
 
 -- the addresses of an `inetnum` are an IPv4 span, and those of an `inet6num` an IPv6 prefix
@@ -74,9 +71,9 @@ abbrev pub found_by : List ℕ → Ends → List Attribute → Attribute → Url
 found_by slot range parts a Refused = record { what = Nothing; notes = notes_on slot (used_kind parts) (Some P05) parts }
 found_by slot range parts a OtherScheme = record { what = Nothing; notes = notes_on slot (used_kind parts) (Some P06) parts }
 found_by slot range parts a (Https url) = record {
-    what = One (record { slot = slot; line = a.line; range = range; modified = modified_of parts; url = url });
-    notes = notes_on slot (used_kind parts) None parts;
-  }
+  what = One (record { slot = slot; line = a.line; range = range; modified = modified_of parts; url = url });
+  notes = notes_on slot (used_kind parts) None parts;
+}
 
 -- what the references of the used kind come to: one counts, and more are void
 abbrev pub found_among : List ℕ → Ends → List Attribute → List Attribute → FoundRef

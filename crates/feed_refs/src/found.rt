@@ -85,12 +85,7 @@ fn take_item(alloc: Global, slot: &Text, item: &Item, found: &mut Found) -> Resu
     }
 }
 
-fn take_object(
-    alloc: Global,
-    slot: &Text,
-    object: &Object,
-    found: &mut Found,
-) -> Result<(), Memory>
+fn take_object(alloc: Global, slot: &Text, object: &Object, found: &mut Found) -> Result<(), Memory>
     ensures refs { OnOk result (found.new.refs.items ≡ found.old.refs.items ++ reference_in (found_of slot.now object.now).what) }
     ensures notes { OnOk result (found.new.notes.items ≡ found.old.notes.items ++ (found_of slot.now object.now).notes) }
 {

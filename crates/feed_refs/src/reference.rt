@@ -12,9 +12,9 @@ ghost use Rattle.feed_refs.specs.Used.{IsUsed};
 use crate::feed_url::{UrlRead, read_url};
 use crate::kinds::{Kind, is_last_modified, is_of_kind, is_reference_remark, url_text, used_kind};
 use crate::modified::modified_in;
-use rpsl_reader::{Attribute, Object};
 use geo_addr::{List, Memory, Range, Text, parse_block, parse_span, range_of};
 use geo_terms::{Note, Origin, Reference, Rule};
+use rpsl_reader::{Attribute, Object};
 use std::alloc::Global;
 
 /// What an object says of feeds.

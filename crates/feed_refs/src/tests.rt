@@ -55,7 +55,9 @@ fn said(alloc: Global, attributes: &[(&str, &[u8])]) -> Result<String, Fail> {
 }
 
 const INETNUM: (&str, &[u8]) = ("inetnum", b"192.0.2.0 - 192.0.2.255");
+
 const GEOFEED: (&str, &[u8]) = ("geofeed", b"https://e.example/f.csv");
+
 const REMARK: (&str, &[u8]) = ("remarks", b"Geofeed https://e.example/g.csv");
 
 #[test]
@@ -153,8 +155,11 @@ fn addresses_by_class(rt: HostRuntime) -> Result<(), Fail> {
         ),
     ];
     for (class, value, wanted) in table {
-        let attributes: [(&str, &[u8]); 3] =
-            [(class, value), GEOFEED, ("last-modified", b"yesterday")];
+        let attributes: [(&str, &[u8]); 3] = [
+            (class, value),
+            GEOFEED,
+            ("last-modified", b"yesterday"),
+        ];
         let wanted_too = match wanted.starts_with("nothing") {
             true => "",
             false => "rpsl x 3 P07\n",
@@ -257,7 +262,9 @@ fn times_out_of_shape(rt: HostRuntime) -> Result<(), Fail> {
     ];
     for time in table {
         let told = said(alloc, &[INETNUM, GEOFEED, ("last-modified", time)])?;
-        assert!(rt; told.as_str() == "2 192.0.2.0-192.0.2.255 0 https://e.example/f.csv\nrpsl x 3 P07\n");
+        assert!(rt;
+            told.as_str() == "2 192.0.2.0-192.0.2.255 0 https://e.example/f.csv\nrpsl x 3 P07\n"
+        );
     }
     Ok(())
 }
@@ -280,9 +287,11 @@ fn read_in_two(alloc: Global, first: &[u8], second: &[u8]) -> Result<Dump, Sourc
     reader.finish()
 }
 
-const DUMP: &[u8] = b"\xEF\xBB\xBF% An extract.\r\n\r\ninetnum: 192.0.2.0 - 192.0.2.255\r\nfoo\r\nremarks: Geofeed\r\n+  https://e.example/a.csv\r\nlast-modified: 2023-05-04T10:11:12Z\r\n \r\nbar\ninet6num: 2001:db8::/126\ngeofeed: https://e.example/b.csv # see mail\nbaz\nremarks: Geofeed https://e.example/old.csv\n\naut-num: AS64496\ngeofeed: https://e.example/c.csv";
+const DUMP: &[u8] =
+    b"\xEF\xBB\xBF% An extract.\r\n\r\ninetnum: 192.0.2.0 - 192.0.2.255\r\nfoo\r\nremarks: Geofeed\r\n+  https://e.example/a.csv\r\nlast-modified: 2023-05-04T10:11:12Z\r\n \r\nbar\ninet6num: 2001:db8::/126\ngeofeed: https://e.example/b.csv # see mail\nbaz\nremarks: Geofeed https://e.example/old.csv\n\naut-num: AS64496\ngeofeed: https://e.example/c.csv";
 
-const DUMP_SAYS: &str = "5 192.0.2.0-192.0.2.255 20230504101112 https://e.example/a.csv\n11 2001:db8::-2001:db8::3 0 https://e.example/b.csv\nrpsl x 4 P02\nrpsl x 9 P02\nrpsl x 12 P02\nrpsl x 13 P10\n";
+const DUMP_SAYS: &str =
+    "5 192.0.2.0-192.0.2.255 20230504101112 https://e.example/a.csv\n11 2001:db8::-2001:db8::3 0 https://e.example/b.csv\nrpsl x 4 P02\nrpsl x 9 P02\nrpsl x 12 P02\nrpsl x 13 P10\n";
 
 #[test]
 fn a_dump_in_two_pieces(rt: HostRuntime) -> Result<(), Fail> {

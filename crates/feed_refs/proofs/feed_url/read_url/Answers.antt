@@ -2,7 +2,7 @@
 use Rattle.std.proofs.Common.{◌≡◌, None, ap, sym, subst, ◌∙◌}
 use Rattle.std.specs.Result.{IfOk}
 use Rattle.url.specs.Parser.{parse_url}
-use Rattle.feed_refs.specs.Urls.{parsed_read, url_read}
+use Rattle.feed_refs.specs.Urls.{parsed_read}
 use Rattle.feed_refs.proofs.UrlLemmas.{bytes_refused, text_read}
 use Rattle.feed_refs.proofs.feed_url.read_url.Goals as goal
 

@@ -1,5 +1,5 @@
 -- The reader stands for the text and the piece, by what the items of the piece say.
-use Rattle.std.proofs.Common.{◌≡◌, ◌+◌, ◌-◌, ◌<◌, ◌≤◌, ◌++◌, length, sym, ap, arith, ◌∙◌}
+use Rattle.std.proofs.Common.{◌≡◌, ◌+◌, ◌-◌, ◌<◌, ◌≤◌, ◌++◌, length, ap, arith, ◌∙◌}
 use Rattle.geo_terms.specs.declared.source.SourceFault.TheVariants.{TooLong, TooMany}
 use Rattle.rpsl_reader.specs.Reading.{Fed, given}
 use Rattle.feed_refs.specs.Dumps.{longest, most}
@@ -32,7 +32,8 @@ invariant_of-self c =
     let said = refs_are c.self.inside.slot c.items.result.now c.in_ok-progress.progress.found (given k.reader.state c.first_bytes-within.result.now) c.self.inside.selection c.items.ensures c.in_ok-progress.ensures.items c.self.invariant.asked c.in_ok-more.more.refs.items c.in_ok-more.ensures.refs in
     let over : most < length k.refs + length c.in_ok-more.more.refs.items = omega (arith, c.if-len-gt-MOST.true, c.len.ensures, c.len-2.ensures, c.self.inside.found.refs.ok, c.in_ok-more.more.refs.ok) in
     record {
-      asked = c.self.invariant.asked; counted = c.self.invariant.counted;
+      asked = c.self.invariant.asked;
+      counted = c.self.invariant.counted;
       fed = fault_held c.self.inside.slot k c.self.inside.fault c.in_default.is c.args.piece.now TooMany (leads_many c.self.inside.slot k c.args.piece.now c.first_bytes-within.result.now c.in_ok-more.more.refs.items is said over) c.self.invariant.fed;
     }
 
@@ -59,7 +60,8 @@ invariant_of-self-then-within-piece c =
     let said = refs_are c.self.inside.slot c.items.result.now c.in_ok-progress.progress.found (given k.reader.state c.first_bytes-within.result.now) c.self.inside.selection c.items.ensures c.in_ok-progress.ensures.items c.self.invariant.asked c.in_ok-more.more.refs.items c.in_ok-more.ensures.refs in
     let few : length k.refs + length c.in_ok-more.more.refs.items ≤ most = omega (arith, c.if-len-gt-MOST.false, c.len.ensures, c.len-2.ensures, c.self.inside.found.refs.ok, c.in_ok-more.more.refs.ok) in
     record {
-      asked = c.self.invariant.asked; counted = c.self.invariant.counted;
+      asked = c.self.invariant.asked;
+      counted = c.self.invariant.counted;
       fed = fault_held c.self.inside.slot k c.self.inside.fault c.in_default.is c.args.piece.now TooLong (leads_long c.self.inside.slot k c.args.piece.now c.first_bytes-within.result.now c.in_ok-more.more.refs.items is said few c.if-within-piece.true) c.self.invariant.fed;
     }
 
@@ -126,4 +128,3 @@ returns-clause-answer c = λ ne text h.
     c.in_ok-more.more.notes.items told next fed (ap (λ (r : Fed). r.state) c.in_ok-accept.ensures.ok ∙ c.in_ok-progress.ensures.state)
     (c.join.ensures.refs ∙ ap (λ t. t ++ c.in_ok-more.more.refs.items) c.reserve.ensures.refs) (c.join.ensures.notes ∙ ap (λ t. t ++ c.in_ok-more.more.notes.items) c.reserve.ensures.notes) in
     (read_on c.self.inside.slot k c.self.inside.fault c.in_default.is c.args.piece.now next leads c.args.self.now c.self.view_is text h).1
-

@@ -44,4 +44,3 @@ returns c = λ ne text h.
     let d : DumpParts = record { slot = c.self.inside.slot; refs = c.of-2.result; notes = c.of-3.result } in
     ends_read c.self.inside.slot k c.self.inside.fault c.in_default.is c.args.self c.self.view_is (Ok d)
     (ends_ok c.self.inside.slot k c.in_ok-more.more.refs.items said c.join.new.self.notes.items c.in_ok-notes.notes.items whole c.in_ok-notes.ensures few d refl (c.of-2.ensures ∙ refs) c.of-3.ensures) text h
-

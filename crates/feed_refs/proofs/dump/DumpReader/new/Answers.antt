@@ -1,7 +1,6 @@
 -- Before the first byte nothing was found.
-use Rattle.std.proofs.Common.{◌≡◌, [], Ok, ap, sym, ◌∙◌, refl}
-use Rattle.feed_refs.specs.Readings.{Kept, kept_if, kept_of}
-use Rattle.feed_refs.specs.Dumps.{so_far}
+use Rattle.std.proofs.Common.{[], ap, sym}
+use Rattle.feed_refs.specs.Readings.{Kept}
 use Rattle.feed_refs.proofs.ReadingLemmas.{first_reading}
 use Rattle.feed_refs.proofs.dump.DumpReader.new.Goals as goal
 
