@@ -6,7 +6,7 @@ ghost use Rattle.feed_refs.specs.Readings.{ours, reading};
 
 use crate::found::{Found, in_line_order};
 use geo_addr::{List, Memory, Text};
-use geo_terms::{Dump, SourceFault};
+use geo_terms::{Dump, SourceFault, Texts};
 use rpsl_reader::{Reader, Selection};
 use std::alloc::Global;
 use std::marker::Model;
@@ -21,7 +21,7 @@ const MOST: usize = 2_097_152;
 ///
 /// A dump has too many references over 2,097,152, counted in the objects that end within its first
 /// 2^40 bytes, and else is too long over 2^40 bytes. Contracts see what the text so far leaves.
-#[derive(Debug, Drop)]
+#[derive(Drop)]
 pub struct DumpReader {
     alloc: Global,
     slot: Text,
@@ -30,6 +30,8 @@ pub struct DumpReader {
     // The bytes that the reader was fed.
     fed: usize,
     found: Found,
+    // The URLs so far, which references share.
+    urls: Texts,
     fault: Option<SourceFault>,
 }
 
@@ -57,6 +59,7 @@ impl DumpReader {
             reader: Reader::new(alloc),
             fed: 0,
             found: Found::new(alloc),
+            urls: Texts::new(alloc),
             fault: None,
         })
     }
@@ -74,7 +77,7 @@ impl DumpReader {
         }
         let within = first_bytes(piece, LONGEST.saturating_sub(self.fed));
         let progress = self.reader.read(within, &self.selection)?;
-        let more = Found::of(self.alloc, &self.slot, progress.items())?;
+        let more = Found::of(self.alloc, &self.slot, progress.items(), &mut self.urls)?;
         if self.found.refs.len() + more.refs.len() > MOST {
             self.found = Found::new(self.alloc);
             self.fault = Some(SourceFault::TooMany);
@@ -100,7 +103,8 @@ impl DumpReader {
             return Err(fault);
         }
         let items = self.reader.read_end(&self.selection)?;
-        let more = Found::of(self.alloc, &self.slot, items.as_slice())?;
+        let mut urls = self.urls;
+        let more = Found::of(self.alloc, &self.slot, items.as_slice(), &mut urls)?;
         let mut whole = self.found;
         if whole.refs.len() + more.refs.len() > MOST {
             return Err(SourceFault::TooMany);

@@ -5,7 +5,7 @@ ghost use Rattle.feed_refs.specs.References.{found as found_of};
 
 use crate::reference::{What, found_of};
 use geo_addr::{Memory, Text};
-use geo_terms::{Note, Origin, Reference};
+use geo_terms::{Note, Origin, Reference, Texts};
 use rpsl_reader::{Item, Object};
 use std::alloc::Global;
 
@@ -28,15 +28,15 @@ impl Found {
         }
     }
 
-    /// What items say, in their order.
+    /// What items say, in their order. URLs that came before are given again.
     #[tactic(auto, unfolding(crate::specs::Dumps::noted, crate::specs::Dumps::references))]
-    pub fn of(alloc: Global, slot: &Text, items: &[Item]) -> Result<Found, Memory>
+    pub fn of(alloc: Global, slot: &Text, items: &[Item], urls: &mut Texts) -> Result<Found, Memory>
         ensures refs { IfOk result (λ found. found.refs.items ≡ references slot.now items.now) }
         ensures notes { IfOk result (λ found. found.notes.items ≡ noted slot.now items.now) }
     {
         let mut found = Found::new(alloc);
         for item in items {
-            take_item(alloc, slot, item, &mut found)?;
+            take_item(alloc, slot, item, urls, &mut found)?;
         }
         Ok(found)
     }
@@ -67,12 +67,18 @@ impl Found {
     }
 }
 
-fn take_item(alloc: Global, slot: &Text, item: &Item, found: &mut Found) -> Result<(), Memory>
+fn take_item(
+    alloc: Global,
+    slot: &Text,
+    item: &Item,
+    urls: &mut Texts,
+    found: &mut Found,
+) -> Result<(), Memory>
     ensures refs { OnOk result (found.new.refs.items ≡ found.old.refs.items ++ references_of slot.now item.now) }
     ensures notes { OnOk result (found.new.notes.items ≡ found.old.notes.items ++ notes_of slot.now item.now) }
 {
     match item {
-        Item::Whole(object) => take_object(alloc, slot, object, found),
+        Item::Whole(object) => take_object(alloc, slot, object, urls, found),
         Item::Passed { line, rule } => {
             let origin = Origin::Rpsl(slot.copied()?);
             let note = Note {
@@ -85,7 +91,13 @@ fn take_item(alloc: Global, slot: &Text, item: &Item, found: &mut Found) -> Resu
     }
 }
 
-fn take_object(alloc: Global, slot: &Text, object: &Object, found: &mut Found) -> Result<(), Memory>
+fn take_object(
+    alloc: Global,
+    slot: &Text,
+    object: &Object,
+    urls: &mut Texts,
+    found: &mut Found,
+) -> Result<(), Memory>
     ensures refs { OnOk result (found.new.refs.items ≡ found.old.refs.items ++ reference_in (found_of slot.now object.now).what) }
     ensures notes { OnOk result (found.new.notes.items ≡ found.old.notes.items ++ (found_of slot.now object.now).notes) }
 {
@@ -93,11 +105,28 @@ fn take_object(alloc: Global, slot: &Text, object: &Object, found: &mut Found) -
     let mut notes = told.notes.into_vec();
     found.notes.append(&mut notes)?;
     match told.what {
-        What::One(reference) => found.refs.push(reference).map_err(Memory::from),
+        What::One(reference) => {
+            let reference = with_shared_url(reference, urls)?;
+            found.refs.push(reference).map_err(Memory::from)
+        }
         What::NotInet => Ok(()),
         What::Nothing => Ok(()),
         What::Void => Ok(()),
     }
+}
+
+// The same reference, whose URL is the one that came before, if one did.
+fn with_shared_url(reference: Reference, urls: &mut Texts) -> Result<Reference, Memory>
+    ensures { IfOk result (λ shared. shared ≡ reference) }
+{
+    let url = urls.shared(reference.url.as_str())?;
+    Ok(Reference {
+        slot: reference.slot,
+        line: reference.line,
+        range: reference.range,
+        modified: reference.modified,
+        url,
+    })
 }
 
 /// Notes on distinct lines, in line order.
