@@ -5,6 +5,7 @@
 
 mod dump;
 mod emit;
+mod fan;
 mod order;
 mod paint;
 mod ranges;
@@ -34,6 +35,8 @@ fn main(rt: HostRuntime) -> anyhow::Result<()> {
         "emit" => emit::run(rt.alloc(), &rt, size, true),
         "prepare" => write::run(rt.alloc(), &rt, size, false),
         "write" => write::run(rt.alloc(), &rt, size, true),
+        "serial" => fan::run(rt.alloc(), &rt, size, false),
+        "parallel" => fan::run(rt.alloc(), &rt, size, true),
         _ => bail!("no case is called {case}"),
     }
 }

@@ -1,5 +1,6 @@
 pub mod AllSources
 pub mod Boundaries
+pub mod Covering
 pub mod Cuts
 pub mod DelegationForm
 pub mod Edges

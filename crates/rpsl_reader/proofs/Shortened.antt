@@ -36,10 +36,10 @@ blank_kept : (t : Bool) (z : ℕ) → list_all is_blank (cond t z 120 ∷ []) �
 blank_kept true z = refl
 blank_kept false z = refl
 
-front_taken : (xs ys : List ℕ) (n : ℕ) → length xs ≡ n → take n (xs ++ ys) ≡ xs
+pub front_taken : (xs ys : List ℕ) (n : ℕ) → length xs ≡ n → take n (xs ++ ys) ≡ xs
 front_taken xs ys n e = subst (λ (k : ℕ). take k (xs ++ ys) ≡ xs) e (take-append_seam xs ys)
 
-front_dropped : (xs ys : List ℕ) (n : ℕ) → length xs ≡ n → drop n (xs ++ ys) ≡ ys
+pub front_dropped : (xs ys : List ℕ) (n : ℕ) → length xs ≡ n → drop n (xs ++ ys) ≡ ys
 front_dropped xs ys n e = subst (λ (k : ℕ). drop k (xs ++ ys) ≡ ys) e (drop-append_seam xs ys)
 
 -- one more byte of a line of which a part is kept
@@ -66,7 +66,7 @@ grown_whole p q b same short =
     let room : length q ≤ most = subst (λ (t : List ℕ). length t ≤ most) same short in
     let is : p ++ (b ∷ []) ≡ grown q b = ap (λ t. t ++ (b ∷ [])) same ∙ sym (grown_short q b room) in
     elim (eq-or-lt_of_le short) [
-      inl full ↦ inr (record {
+      | inl full ↦ inr (record {
         front = p;
         middle = [];
         newest = b;
@@ -74,7 +74,7 @@ grown_whole p q b same short =
         whole = refl;
         kept = sym is;
       })
-    | inr less ↦ inl (is, omega (arith, length-append p (b ∷ [])))
+      | inr less ↦ inl (is, omega (arith, length-append p (b ∷ [])))
     ]
 
 pub grown_held : (p q : List ℕ) (b : ℕ) → IsHeld p q → IsHeld (p ++ (b ∷ [])) (grown q b)
@@ -131,15 +131,15 @@ marked-front n (x ∷ []) r h = absurd (omega arith)
 marked-front n (x ∷ y ∷ []) r h = absurd (omega arith)
 marked-front n (x ∷ y ∷ z ∷ front) r h =
     elim (eqb n 1) as (λ t. cond t (without_mark (x ∷ y ∷ z ∷ (front ++ r))) (x ∷ y ∷ z ∷ (front ++ r)) ≡ cond t (without_mark (x ∷ y ∷ z ∷ front)) (x ∷ y ∷ z ∷ front) ++ r) [
-      true ↦ elim (starts_with nat_eq (x ∷ y ∷ z ∷ []) byte_order_mark) as (λ t. cond t (front ++ r) (x ∷ y ∷ z ∷ (front ++ r)) ≡ cond t front (x ∷ y ∷ z ∷ front) ++ r) [ true ↦ refl | false ↦ refl ]
-    | false ↦ refl
+      | true ↦ elim (starts_with nat_eq (x ∷ y ∷ z ∷ []) byte_order_mark) as (λ t. cond t (front ++ r) (x ∷ y ∷ z ∷ (front ++ r)) ≡ cond t front (x ∷ y ∷ z ∷ front) ++ r) [ true ↦ refl | false ↦ refl ]
+      | false ↦ refl
     ]
 
 marked_long : (n : ℕ) (front : List ℕ) → length front ≤ length (marked n front) + 3
 marked_long n front =
     elim (eqb n 1) as (λ t. length front ≤ length (cond t (without_mark front) front) + 3) [
-      true ↦ elim (starts_with nat_eq front byte_order_mark) as (λ t. length front ≤ length (cond t (drop 3 front) front) + 3) [ true ↦ omega (arith, length-drop 3 front) | false ↦ omega arith ]
-    | false ↦ omega arith
+      | true ↦ elim (starts_with nat_eq front byte_order_mark) as (λ t. length front ≤ length (cond t (drop 3 front) front) + 3) [ true ↦ omega (arith, length-drop 3 front) | false ↦ omega arith ]
+      | false ↦ omega arith
     ]
 
 -- two lines of one number and one kind, which have the same bytes or are both longer than a group may be
@@ -159,8 +159,8 @@ end_front : (a m : List ℕ) (z : ℕ) → is_end (strip_carriage_return (a ++ (
 end_front a m z =
     let by : (t : Bool) → ((is_end a && t) && blank_last z) ≡ (is_end a && blank_last (cond t z 120)) =
     λ t. elim t as (λ b. ((is_end a && b) && blank_last z) ≡ (is_end a && blank_last (cond b z 120))) [
-      true ↦ ap (λ b. b && blank_last z) (and_true (is_end a))
-    | false ↦ ap (λ b. b && blank_last z) (and_false (is_end a)) ∙ sym (and_false (is_end a))
+      | true ↦ ap (λ b. b && blank_last z) (and_true (is_end a))
+      | false ↦ ap (λ b. b && blank_last z) (and_false (is_end a)) ∙ sym (and_false (is_end a))
     ] in
     ap (λ t. is_end (strip_carriage_return t)) (sym (append_assoc a m (z ∷ [])))
     ∙ end-push (a ++ m) z
@@ -183,8 +183,8 @@ cut_alike n p q c =
       ends = ap (λ t. is_end (strip_carriage_return t)) first ∙ end_front a c.middle c.newest ∙ sym (ap (λ t. is_end (strip_carriage_return t)) second);
       text = inr (
         subst (λ (t : List ℕ). longest < length (strip_carriage_return t)) (sym (first ∙ sym (append_assoc a c.middle (c.newest ∷ []))))
-          (omega (arith, long-push (a ++ c.middle) c.newest, length-append a c.middle)),
-        subst (λ (t : List ℕ). longest < length (strip_carriage_return t)) (sym second) (omega (arith, long-push a w))
+            (omega (arith, long-push (a ++ c.middle) c.newest, length-append a c.middle)),
+        subst (λ (t : List ℕ). longest < length (strip_carriage_return t)) (sym second) (omega (arith, long-push a w)),
       );
     }
 
@@ -204,13 +204,13 @@ with_alike : (g : Group) (l m : Numbered) → AlikeLine l m → with_line g l �
 unfolding with_line
 with_alike (over n) l m a = refl
 with_alike (within []) l m a = elim a.text [
-      inl e ↦ λ i. cond (ltb longest (size [] + length (e i))) (over (a.number i)) (within ([] ++ ((a.number i, e i) ∷ [])))
-    | inr h ↦ ap (λ t. cond t (over l.0) (within ([] ++ (l ∷ [])))) (long_line [] l h.0) ∙ ap over a.number ∙ sym (ap (λ t. cond t (over m.0) (within ([] ++ (m ∷ [])))) (long_line [] m h.1))
-    ]
+  | inl e ↦ λ i. cond (ltb longest (size [] + length (e i))) (over (a.number i)) (within ([] ++ ((a.number i, e i) ∷ [])))
+  | inr h ↦ ap (λ t. cond t (over l.0) (within ([] ++ (l ∷ [])))) (long_line [] l h.0) ∙ ap over a.number ∙ sym (ap (λ t. cond t (over m.0) (within ([] ++ (m ∷ [])))) (long_line [] m h.1))
+]
 with_alike (within (k ∷ ks)) l m a = elim a.text [
-      inl e ↦ λ i. cond (ltb longest (size (k ∷ ks) + length (e i))) (over k.0) (within ((k ∷ ks) ++ ((a.number i, e i) ∷ [])))
-    | inr h ↦ ap (λ t. cond t (over k.0) (within ((k ∷ ks) ++ (l ∷ [])))) (long_line (k ∷ ks) l h.0) ∙ sym (ap (λ t. cond t (over k.0) (within ((k ∷ ks) ++ (m ∷ [])))) (long_line (k ∷ ks) m h.1))
-    ]
+  | inl e ↦ λ i. cond (ltb longest (size (k ∷ ks) + length (e i))) (over k.0) (within ((k ∷ ks) ++ ((a.number i, e i) ∷ [])))
+  | inr h ↦ ap (λ t. cond t (over k.0) (within ((k ∷ ks) ++ (l ∷ [])))) (long_line (k ∷ ks) l h.0) ∙ sym (ap (λ t. cond t (over k.0) (within ((k ∷ ks) ++ (m ∷ [])))) (long_line (k ∷ ks) m h.1))
+]
 
 pub after_alike : (g : Group) (l m : Numbered) → AlikeLine l m → group_after g l ≡ group_after g m
 unfolding group_after

@@ -3,17 +3,17 @@ use Rattle.std.proofs.Common.{◌≡◌, ℕ, ◌+◌, ◌<◌, ◌≤◌, inl, 
 use Rattle.std.proofs.lemmas.Bool.{lt-ltb, ltb-true, ne_eqb}
 use Rattle.std.proofs.lemmas.Bool.Decides.{nat_tests}
 use Rattle.std.proofs.lemmas.List.Sums.{sum_by-append}
-use Rattle.std.specs.List.{enumerate_from, onto_first, slice_split, starts_with}
+use Rattle.std.specs.List.{concat, enumerate_from, onto_first, slice_split, starts_with}
 use Rattle.std.specs.Str.Lines.{strip_carriage_return}
 use Rattle.geo_addr.specs.Lines.{byte_order_mark, last_line, lines_of, lines_of_pieces, numbered_lines, pieces, without_mark}
 use Rattle.geo_terms.specs.declared.note.Rule.TheVariants.{P01}
 use Rattle.rpsl_reader.specs.declared.item.Item.{Item}
 use Rattle.rpsl_reader.specs.declared.item.Item.TheVariants.{Passed}
 use Rattle.rpsl_reader.specs.Attributes.{Numbered, is_comment, is_end}
-use Rattle.rpsl_reader.specs.Laws.{GivenIsWhole}
+use Rattle.rpsl_reader.specs.Laws.{AnyCutting, GivenIsWhole, given_in_pieces}
 use Rattle.rpsl_reader.specs.Objects.{group_items, groups, items, longest, objects, size, too_long}
 use Rattle.rpsl_reader.specs.Reading.{Group, State, after, ended_by, first_number, given, group_after, grown, last, line_of, none, over, said_by, start, with_line, within}
-use Rattle.rpsl_reader.proofs.Pieces.{given-append}
+use Rattle.rpsl_reader.proofs.Pieces.{after-append, given-append}
 use Rattle.rpsl_reader.proofs.Shortened.{AlikeLine, IsHeld, after_alike, ended_alike, grown_held, held_alike}
 
 -- what an open group and the lines behind it give, the end of the text included
@@ -46,9 +46,9 @@ module _ {X : Type 0} where
   unfolding onto
   onto-none p [] = refl
   onto-none p (x ∷ xs) = elim (p x) as (λ t. onto [] (cond t ([] ∷ slice_split p xs) (onto_first x (slice_split p xs))) ≡ cond t ([] ∷ slice_split p xs) (onto_first x (slice_split p xs))) [
-      true ↦ refl
+    | true ↦ refl
     | false ↦ onto-none_first x (slice_split p xs)
-    ]
+  ]
 
 -- a line, and what follows it, whether it is kept whole or in part
 from_line : (g : Group) (n : ℕ) (p q : List ℕ) (ls : List Numbered) → IsHeld p q
@@ -79,14 +79,14 @@ given_from [] n p q g h =
 given_from (b ∷ text) n p q g h =
     let more : List ℕ = text ++ (10 ∷ 10 ∷ []) in
     elim (eqb b 10) as (λ t. cond t (ended_by g (line_of (n + 1) q)) [] ++ given (cond t (record { lines = n + 1; pending = []; group = group_after g (line_of (n + 1) q) }) (record { lines = n; pending = grown q b; group = g })) more
-        ≡ from g (lined n (onto p (cond t ([] ∷ pieces 10 text) (onto_first b (pieces 10 text)))))) [
-      true ↦
-        ap (λ t. ended_by g (line_of (n + 1) q) ++ t) (given_from text (n + 1) [] [] (group_after g (line_of (n + 1) q)) (inl (refl, omega arith)) ∙ ap (λ t. from (group_after g (line_of (n + 1) q)) (lined (n + 1) t)) (onto-none (λ c. eqb c 10) text))
-        ∙ from_line g (n + 1) p q (lined (n + 1) (pieces 10 text)) h
-        ∙ ap (λ t. ended_by g (line_of (n + 1) t) ++ from (group_after g (line_of (n + 1) t)) (lined (n + 1) (pieces 10 text))) (sym (append-nil p))
-    | false ↦
-        given_from text n (p ++ (b ∷ [])) (grown q b) g (grown_held p q b h)
-        ∙ ap (λ t. from g (lined n t)) (sym (onto-onto_first p b (pieces 10 text)))
+    ≡ from g (lined n (onto p (cond t ([] ∷ pieces 10 text) (onto_first b (pieces 10 text)))))) [
+      | true ↦
+          ap (λ t. ended_by g (line_of (n + 1) q) ++ t) (given_from text (n + 1) [] [] (group_after g (line_of (n + 1) q)) (inl (refl, omega arith)) ∙ ap (λ t. from (group_after g (line_of (n + 1) q)) (lined (n + 1) t)) (onto-none (λ c. eqb c 10) text))
+          ∙ from_line g (n + 1) p q (lined (n + 1) (pieces 10 text)) h
+          ∙ ap (λ t. ended_by g (line_of (n + 1) t) ++ from (group_after g (line_of (n + 1) t)) (lined (n + 1) (pieces 10 text))) (sym (append-nil p))
+      | false ↦
+          given_from text n (p ++ (b ∷ [])) (grown q b) g (grown_held p q b h)
+          ∙ ap (λ t. from g (lined n t)) (sym (onto-onto_first p b (pieces 10 text)))
     ]
 
 -- an empty last piece is no line of the text, and as one it would end a group that the end of the text ends
@@ -130,8 +130,8 @@ parts_of [] = record { first = []; others = []; are = refl; rest = []; begins = 
 parts_of (b ∷ text) =
     let p : Parts text (pieces 10 text) = parts_of text in
     elim (eqb b 10) as (λ t. Parts (b ∷ text) (cond t ([] ∷ pieces 10 text) (onto_first b (pieces 10 text)))) [
-      true ↦ record { first = []; others = pieces 10 text; are = refl; rest = b ∷ text; begins = refl }
-    | false ↦ record { first = b ∷ p.first; others = p.others; are = ap (onto_first b) p.are; rest = p.rest; begins = ap (λ t. b ∷ t) p.begins }
+      | true ↦ record { first = []; others = pieces 10 text; are = refl; rest = b ∷ text; begins = refl }
+      | false ↦ record { first = b ∷ p.first; others = p.others; are = ap (onto_first b) p.are; rest = p.rest; begins = ap (λ t. b ∷ t) p.begins }
     ]
 
 and_false : (b : Bool) → (b && false) ≡ false
@@ -206,7 +206,7 @@ unfolding gathered group_items
 said_gathered [] = refl
 said_gathered (l ∷ ls) = elim (ltb longest (size (l ∷ ls))) as (λ t. said_by (cond t (over l.0) (within (l ∷ ls))) ≡ cond t (too_long (l ∷ ls)) (items (l ∷ ls))) [ true ↦ refl | false ↦ refl ]
 
-head-push : (ls : List Numbered) (l : Numbered) → head (ls ++ (l ∷ [])) ≡ first_number ls l
+head-push : (ls : List Numbered) (l : Numbered) → head (ls ++ (l ∷ [])) ≡ first_number ls l.0
 head-push [] l = refl
 head-push (m ∷ ls) l = refl
 
@@ -220,8 +220,8 @@ gathered-push (m ∷ ls) l =
     let both : size ((m ∷ ls) ++ (l ∷ [])) ≡ size (m ∷ ls) + length l.1 = size-push (m ∷ ls) l in
     let by : (t : Bool) → ltb longest (size (m ∷ ls)) ≡ t → with_line (cond t (over m.0) (within (m ∷ ls))) l ≡ gathered ((m ∷ ls) ++ (l ∷ [])) =
     λ t. elim t as (λ b. ltb longest (size (m ∷ ls)) ≡ b → with_line (cond b (over m.0) (within (m ∷ ls))) l ≡ gathered ((m ∷ ls) ++ (l ∷ []))) [
-      true ↦ λ e. sym (ap (λ b. cond b (over m.0) (within ((m ∷ ls) ++ (l ∷ [])))) (lt-ltb longest (size ((m ∷ ls) ++ (l ∷ []))) (omega (arith, both, ltb-true longest (size (m ∷ ls)) e))))
-    | false ↦ λ e. ap (λ k. cond (ltb longest k) (over m.0) (within ((m ∷ ls) ++ (l ∷ [])))) (sym both)
+      | true ↦ λ e. sym (ap (λ b. cond b (over m.0) (within ((m ∷ ls) ++ (l ∷ [])))) (lt-ltb longest (size ((m ∷ ls) ++ (l ∷ []))) (omega (arith, both, ltb-true longest (size (m ∷ ls)) e))))
+      | false ↦ λ e. ap (λ k. cond (ltb longest k) (over m.0) (within ((m ∷ ls) ++ (l ∷ [])))) (sym both)
     ] in
     by (ltb longest (size (m ∷ ls))) refl
 
@@ -239,13 +239,13 @@ unfolding from onto ended_by group_after
 from_groups [] acc = said_gathered acc ∙ ap group_items (sym (append-nil acc)) ∙ sym (append-nil (group_items (acc ++ [])))
 from_groups (l ∷ ls) acc =
     elim (is_comment l.1) as (λ c. cond c [] (cond (is_end l.1) (said_by (gathered acc)) []) ++ from (cond c (gathered acc) (cond (is_end l.1) none (with_line (gathered acc) l))) ls
-        ≡ flat_map group_items (onto acc (slice_split (λ k. is_end k.1) (cond (not c) (l ∷ filter (λ k. not (is_comment k.1)) ls) (filter (λ k. not (is_comment k.1)) ls))))) [
-      true ↦ from_groups ls acc
-    | false ↦ elim (is_end l.1) as (λ e. cond e (said_by (gathered acc)) [] ++ from (cond e none (with_line (gathered acc) l)) ls
-        ≡ flat_map group_items (onto acc (cond e ([] ∷ groups ls) (onto_first l (groups ls))))) [
-        true ↦ from_end ls acc (from_groups ls [])
-      | false ↦ ap (λ g. from g ls) (gathered-push acc l) ∙ from_groups ls (acc ++ (l ∷ [])) ∙ ap (λ t. flat_map group_items t) (sym (onto-onto_first acc l (groups ls)))
-      ]
+    ≡ flat_map group_items (onto acc (slice_split (λ k. is_end k.1) (cond (not c) (l ∷ filter (λ k. not (is_comment k.1)) ls) (filter (λ k. not (is_comment k.1)) ls))))) [
+      | true ↦ from_groups ls acc
+      | false ↦ elim (is_end l.1) as (λ e. cond e (said_by (gathered acc)) [] ++ from (cond e none (with_line (gathered acc) l)) ls
+          ≡ flat_map group_items (onto acc (cond e ([] ∷ groups ls) (onto_first l (groups ls))))) [
+            | true ↦ from_end ls acc (from_groups ls [])
+            | false ↦ ap (λ g. from g ls) (gathered-push acc l) ∙ from_groups ls (acc ++ (l ∷ [])) ∙ ap (λ t. flat_map group_items t) (sym (onto-onto_first acc l (groups ls)))
+          ]
     ]
 
 pub given_is_whole : GivenIsWhole
@@ -257,3 +257,14 @@ given_is_whole text =
     ∙ from_lines text
     ∙ from_groups (numbered_lines text) []
     ∙ ap (λ t. flat_map group_items t) (onto-none (λ (l : Numbered). is_end l.1) (filter (λ l. not (is_comment l.1)) (numbered_lines text)))
+
+pieces_from : (s : State) (ps : List (List ℕ)) → given_in_pieces s ps ≡ given s (concat ps) ++ last (after s (concat ps))
+unfolding after given
+pieces_from s [] = refl
+pieces_from s (p ∷ ps) =
+    ap (λ t. given s p ++ t) (pieces_from (after s p) ps)
+    ∙ sym (append_assoc (given s p) (given (after s p) (concat ps)) (last (after (after s p) (concat ps))))
+    ∙ sym (λ i. given-append s p (concat ps) i ++ last (after-append s p (concat ps) i))
+
+pub any_cutting : AnyCutting
+any_cutting ps = pieces_from start ps ∙ given_is_whole (concat ps)

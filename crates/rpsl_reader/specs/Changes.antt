@@ -1,9 +1,9 @@
 -- What a reader keeps in its fields, and what a piece that was read changes of it.
-use Rattle.std.specs.Prelude.{◌≡◌, ℕ, ◌^◌, ◌<◌, ◌≤◌, Bool, if◌then◌else◌, List, [], ◌++◌, fold, Option, None, Some}
+use Rattle.std.specs.Prelude.{◌≡◌, ℕ, ◌+◌, ◌^◌, ◌<◌, ◌≤◌, length, Bool, true, false, if◌then◌else◌, List, [], ◌++◌, fold, Option, None, Some}
 use Rattle.rpsl_reader.specs.declared.item.Item.{Item}
 use Rattle.rpsl_reader.specs.Attributes.{Numbered}
 use Rattle.rpsl_reader.specs.Objects.{longest, size}
-use Rattle.rpsl_reader.specs.Reading.{Fed, Group, grown, over, within}
+use Rattle.rpsl_reader.specs.Reading.{Fed, Group, grown, most, over, within}
 
 -- an open group: its lines, or the number of its first line where they are too long together
 abbrev pub group_of : Option ℕ → List Numbered → Group
@@ -26,6 +26,12 @@ pub record IsCounted (fed lines : ℕ) : Type 0 where
   pub fewer : lines ≤ fed
   pub fits : fed < 2 ^ 63
 
+-- what a reader keeps of its fields
+pub record IsReader (fed lines : ℕ) (pending : List ℕ) (first : Option ℕ) (bytes : ℕ) (ls : List Numbered) : Type 0 where
+  pub counts : IsCounted fed lines
+  pub bounded : length pending ≤ most + 1
+  pub group : IsOpen first bytes ls
+
 -- what a piece changes: the counts; whether a line ended in it, so that its tail begins a line; the open group, which keeps
 -- the lines from before or has only those of the piece; and the items that it gives
 pub record Change : Type 0 where
@@ -43,10 +49,12 @@ pub record Change : Type 0 where
 abbrev pub lines_after : Group → Change → List Numbered
 lines_after g c = (if c.keeps then lines_in g else []) ++ c.more
 
--- a change that a reader can take
+-- a change that a reader can take; where no line ended, the lines of the open group are as before
 pub record IsChange (r : Fed) (c : Change) : Type 0 where
   pub counts : IsCounted c.fed c.lines
   pub group : IsOpen c.first c.bytes (lines_after r.state.group c)
+  pub keeps : c.ended ≡ false → c.keeps ≡ true
+  pub no_more : c.ended ≡ false → c.more ≡ []
 
 -- the reader after a change
 unfoldable pub accepted : Fed → Change → Fed
@@ -58,3 +66,17 @@ accepted r c = record {
     group = group_of c.first (lines_after r.state.group c);
   };
 }
+
+-- the open group inside a piece: the lines that the reader holds, whether they are still in it, and those of the piece
+pub record Gathering : Type 0 where
+  pub held : List Numbered
+  pub keeps : Bool
+  pub first : Option ℕ
+  pub bytes : ℕ
+  pub lines : List Numbered
+
+abbrev pub open_lines : Gathering → List Numbered
+open_lines g = (if g.keeps then g.held else []) ++ g.lines
+
+abbrev pub open_group : Gathering → Group
+open_group g = group_of g.first (open_lines g)

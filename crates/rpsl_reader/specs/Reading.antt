@@ -20,6 +20,9 @@ pub record State : Type 0 where
   pub pending : List ℕ
   pub group : Group
 
+abbrev pub state_of : ℕ → List ℕ → Group → State
+state_of n p g = record { lines = n; pending = p; group = g }
+
 abbrev pub none : Group
 none = within []
 
@@ -31,7 +34,11 @@ start = record { lines = 0; pending = []; group = none }
 abbrev pub most : ℕ
 most = 1048580
 
--- one more byte of a line. Past `most` one byte stands for all the others: the newest while the ones before it are blanks, else an `x`
+-- the byte that stands for others, after one more: the newest while the ones before it are blanks, else an `x`
+abbrev pub newer : ℕ → ℕ → ℕ
+newer byte next = if is_blank byte then next else 120
+
+-- one more byte of a line; past `most` one byte stands for all the others
 unfoldable pub grown : List ℕ → ℕ → List ℕ
 grown line byte =
     if nat_le (length line) most then line ++ (byte ∷ [])
@@ -41,14 +48,14 @@ grown line byte =
 unfoldable pub line_of : ℕ → List ℕ → Numbered
 line_of n piece = (n, strip_carriage_return (if n == 1 then without_mark piece else piece))
 
--- the number of the first of some lines and one more
-abbrev pub first_number : List Numbered → Numbered → ℕ
-first_number [] l = l.0
-first_number (m ∷ ms) l = m.0
+-- the number of the first of some lines and one more, whose number is given
+abbrev pub first_number : List Numbered → ℕ → ℕ
+first_number [] n = n
+first_number (m ∷ ms) n = m.0
 
 -- a group with one more line
 unfoldable pub with_line : Group → Numbered → Group
-with_line (within ls) l = if nat_lt longest (size ls + length l.1) then over (first_number ls l) else within (ls ++ (l ∷ []))
+with_line (within ls) l = if nat_lt longest (size ls + length l.1) then over (first_number ls l.0) else within (ls ++ (l ∷ []))
 with_line (over n) l = over n
 
 -- the group after a line

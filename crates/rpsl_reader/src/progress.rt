@@ -1,8 +1,16 @@
-ghost use Rattle.std.specs.Prelude.{◌≡◌};
+ghost use Rattle.std.specs.Prelude.{◌≡◌, ◌++◌, [], OnOk, OnErr};
 
 use crate::item::Item;
 use crate::line::HeldLine;
+use geo_addr::Memory;
 use std::marker::Model;
+
+/// How many lines have ended, and what stands behind the last line feed.
+#[derive(Debug, Drop)]
+pub(crate) struct Ended<'a> {
+    pub lines: u64,
+    pub tail: &'a [u8],
+}
 
 /// What reading a piece gives and changes, before the reader takes it.
 #[derive(Debug, Drop)]
@@ -35,5 +43,15 @@ impl<'a> Progress<'a> {
         ensures { result.now ≡ self.now.found }
     {
         self.found.as_slice()
+    }
+
+    /// Moves the items to the end of `out`.
+    pub(crate) fn give(&mut self, out: &mut Vec<Item>) -> Result<(), Memory>
+        ensures items { OnOk result (out.new.items ≡ out.old.items ++ self.old.found) }
+        ensures rest { OnOk result (self.new ≡ record self.old { found = [] }) }
+        ensures err_items { OnErr result (out.new.items ≡ out.old.items) }
+    {
+        out.append(&mut self.found)?;
+        Ok(())
     }
 }

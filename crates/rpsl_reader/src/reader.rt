@@ -1,13 +1,16 @@
-ghost use Rattle.std.specs.Prelude.{◌≡◌, ◌+◌, ◌<◌, ◌^◌, ◌++◌, length, IfOk, OnOk, OnErr};
-ghost use Rattle.rpsl_reader.specs.Changes.{IsChange, accepted};
-ghost use Rattle.rpsl_reader.specs.Reading.{after, given, last, start};
+ghost use Rattle.std.specs.Prelude.{◌≡◌, ◌≢◌, ◌+◌, ◌<◌, ◌≤◌, ◌^◌, ◌∷◌, ◌++◌, [], All, length, fold, IfOk, OnOk, OnErr, Bool, if◌then◌else◌};
+ghost use Rattle.rpsl_reader.specs.Changes.{IsChange, IsCounted, accepted, lines_in, open_group};
+ghost use Rattle.rpsl_reader.specs.Reading.{after, given, grown, last, most, start};
 ghost use Rattle.rpsl_reader.specs.Selections.{wanted};
 
+use crate::gathered::Gathered;
 use crate::item::Item;
-use crate::line::HeldLine;
+use crate::line::{HeldLine, held_lines};
+use crate::pending::hold;
 use crate::progress::Progress;
+use crate::read::read_lines;
 use crate::selection::Selection;
-use geo_addr::Memory;
+use geo_addr::{Memory, cut_at};
 use std::alloc::Global;
 use std::marker::Model;
 
@@ -29,14 +32,14 @@ pub struct Reader {
 }
 
 impl Model for Reader {
-    ghost use Rattle.rpsl_reader.specs.Changes.{IsCounted, IsOpen, group_of};
+    ghost use Rattle.rpsl_reader.specs.Changes.{IsReader, group_of};
     ghost use Rattle.rpsl_reader.specs.Reading.{Fed};
 
     ghost Value = { Fed };
 
     ghost view = { λ r. record { fed = r.fed; state = record { lines = r.lines; pending = r.pending.items; group = group_of r.first r.group.items } } };
 
-    ghost invariant = { λ r. IsCounted r.fed r.lines × IsOpen r.first r.bytes r.group.items };
+    ghost invariant = { λ r. IsReader r.fed r.lines r.pending.items r.first r.bytes r.group.items };
 }
 
 impl Reader {
@@ -55,6 +58,13 @@ impl Reader {
         }
     }
 
+    /// How many bytes it was fed.
+    pub fn fed(&self) -> u64
+        ensures { result ≡ self.now.fed }
+    {
+        self.fed
+    }
+
     /// Reads one more piece of the text, and adds to `out` the items of the groups that end in it.
     pub fn feed(&mut self, piece: &[u8], out: &mut Vec<Item>) -> Result<(), Memory>
         requires { self.old.fed + length piece.now < 2 ^ 63 }
@@ -64,7 +74,17 @@ impl Reader {
         ensures err { OnErr result (self.new ≡ self.old) }
         ensures err_items { OnErr result (out.new.items ≡ out.old.items) }
     {
-        Err(Memory)
+        let selection = Selection::everything(self.alloc);
+        let mut progress = self.read(piece, &selection)?;
+        let before = out.len();
+        progress.give(out)?;
+        match self.accept(progress) {
+            Ok(()) => Ok(()),
+            Err(memory) => {
+                out.truncate(before);
+                Err(memory)
+            }
+        }
     }
 
     /// Ends the text, and adds to `out` the items of the group that the end ends.
@@ -72,7 +92,10 @@ impl Reader {
         ensures items { OnOk result (out.new.items ≡ out.old.items ++ last self.state) }
         ensures err_items { OnErr result (out.new.items ≡ out.old.items) }
     {
-        Err(Memory)
+        let selection = Selection::everything(self.alloc);
+        let mut found = self.read_end(&selection)?;
+        out.append(&mut found)?;
+        Ok(())
     }
 
     /// What one more piece gives, of what is wanted. The reader goes on as before until it accepts it.
@@ -83,7 +106,90 @@ impl Reader {
         ensures state { IfOk result (λ progress. (accepted self.now progress).state ≡ after self.now.state piece.now) }
         ensures items { IfOk result (λ progress. progress.found ≡ wanted selection.now (given self.now.state piece.now)) }
     {
-        Err(Memory)
+        let fed = self.fed + piece.len() as u64;
+        let (head, after) = cut_at(piece, b'\n');
+        match after {
+            None => Ok(self.part(fed, piece)),
+            Some(rest) => self.ended(selection, fed, head, rest),
+        }
+    }
+
+    // What a piece without a line feed changes.
+    fn part<'a>(&self, fed: u64, piece: &'a [u8]) -> Progress<'a>
+        requires counted { self.now.fed ≤ fed }
+        requires fits { fed < 2 ^ 63 }
+        requires free { All (λ b. b ≢ 10) piece.now }
+        ensures change { IsChange self.now result }
+        ensures after { accepted self.now result ≡ record { fed = fed; state = after self.now.state piece.now } }
+        ensures items { result.found ≡ [] }
+    {
+        Progress {
+            fed,
+            lines: self.lines,
+            ended: false,
+            tail: piece,
+            keeps: true,
+            first: self.first,
+            bytes: self.bytes,
+            more: Vec::new(self.alloc),
+            found: Vec::new(self.alloc),
+        }
+    }
+
+    // What a piece gives and changes whose first line feed stands behind `head`.
+    fn ended<'a>(
+        &self,
+        selection: &Selection,
+        fed: u64,
+        head: &[u8],
+        rest: &'a [u8],
+    ) -> Result<Progress<'a>, Memory>
+        requires counted { self.now.fed + length head.now + length rest.now + 1 ≡ fed }
+        requires fits { fed < 2 ^ 63 }
+        requires free { All (λ b. b ≢ 10) head.now }
+        ensures change { IfOk result (λ progress. IsChange self.now progress) }
+        ensures after { IfOk result (λ progress. accepted self.now progress ≡ record { fed = fed; state = after self.now.state (head.now ++ 10 ∷ rest.now) }) }
+        ensures items { IfOk result (λ progress. progress.found ≡ wanted selection.now (given self.now.state (head.now ++ 10 ∷ rest.now))) }
+    {
+        let first = self.first_line(head)?;
+        let mut gathered = self.gathered();
+        let mut found = Vec::new(self.alloc);
+        let ended = read_lines(
+            selection,
+            self.lines(),
+            &mut gathered,
+            first.as_slice(),
+            rest,
+            &mut found,
+        )?;
+        let progress = gathered.progress(fed, ended, found)?;
+        Ok(progress)
+    }
+
+    // The line that has not ended, with more of it.
+    fn first_line(&self, head: &[u8]) -> Result<Vec<u8>, Memory>
+        ensures { IfOk result (λ line. line.items ≡ fold grown self.now.state.pending head.now) }
+    {
+        let mut line = Vec::from_slice(self.alloc, self.pending.as_slice())?;
+        hold(&mut line, head)?;
+        Ok(line)
+    }
+
+    // The open group, before the next piece.
+    fn gathered(&self) -> Gathered<'_>
+        ensures held { result.held ≡ lines_in self.now.state.group }
+        ensures group { open_group result ≡ self.now.state.group }
+    {
+        let held = self.group.as_slice();
+        Gathered::of(self.alloc, held, self.first, self.bytes)
+    }
+
+    // How many lines have ended.
+    fn lines(&self) -> u64
+        ensures lines { result ≡ self.now.state.lines }
+        ensures counts { IsCounted self.now.fed self.now.state.lines }
+    {
+        self.lines
     }
 
     /// Goes on behind a piece that this reader read just before.
@@ -92,13 +198,90 @@ impl Reader {
         ensures ok { OnOk result (self.new ≡ accepted self.old progress.entry) }
         ensures err { OnErr result (self.new ≡ self.old) }
     {
-        Err(Memory)
+        let Progress {
+            fed,
+            lines,
+            ended,
+            tail,
+            keeps,
+            first,
+            bytes,
+            more,
+            found: _,
+        } = progress;
+        let alloc = self.alloc;
+        go_on(
+            alloc,
+            &mut self.pending,
+            &mut self.group,
+            ended,
+            tail,
+            keeps,
+            more,
+        )?;
+        self.fed = fed;
+        self.lines = lines;
+        self.first = first;
+        self.bytes = bytes;
+        Ok(())
     }
 
     /// What the end of the text gives, of what is wanted.
     pub fn read_end(&self, selection: &Selection) -> Result<Vec<Item>, Memory>
         ensures { IfOk result (λ found. found.items ≡ wanted selection.now (last self.now.state)) }
     {
-        Err(Memory)
+        let mut gathered = self.gathered();
+        let mut found = Vec::new(self.alloc);
+        let _ended = read_lines(
+            selection,
+            self.lines(),
+            &mut gathered,
+            self.pending.as_slice(),
+            b"\n".as_slice(),
+            &mut found,
+        )?;
+        Ok(found)
     }
+}
+
+// Goes on with the line that has not ended, and with the lines of the open group.
+fn go_on(
+    alloc: Global,
+    pending: &mut Vec<u8>,
+    group: &mut Vec<HeldLine>,
+    ended: bool,
+    tail: &[u8],
+    keeps: bool,
+    more: Vec<HeldLine>,
+) -> Result<(), Memory>
+    requires { length pending.old.items ≤ most + 1 }
+    ensures pending { OnOk result (pending.new.items ≡ fold grown (if ended then [] else pending.old.items) tail.now) }
+    ensures group { OnOk result (group.new.items ≡ (if ended then (if keeps then group.old.items else []) ++ more.items else group.old.items)) }
+    ensures bounded { length pending.new.items ≤ most + 1 }
+    ensures err_pending { OnErr result (pending.new.items ≡ pending.old.items) }
+    ensures err_group { OnErr result (group.new.items ≡ group.old.items) }
+{
+    if !ended {
+        hold(pending, tail)?;
+        return Ok(());
+    }
+    let mut line = Vec::new(alloc);
+    hold(&mut line, tail)?;
+    keep(group, keeps, more)?;
+    *pending = line;
+    Ok(())
+}
+
+// The lines of the open group after a piece: those from before, where it keeps them, and those of the piece.
+fn keep(group: &mut Vec<HeldLine>, keeps: bool, more: Vec<HeldLine>) -> Result<(), Memory>
+    ensures ok { OnOk result (group.new.items ≡ (if keeps then group.old.items else []) ++ more.items) }
+    ensures err { OnErr result (group.new.items ≡ group.old.items) }
+{
+    let mut more = more;
+    if keeps {
+        group.append(&mut more)?;
+    } else {
+        *group = more;
+    }
+    Ok(())
 }

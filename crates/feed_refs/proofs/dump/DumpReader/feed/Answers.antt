@@ -25,8 +25,8 @@ read-requires c =
     let short : length c.first_bytes-within.result.now ≤ longest - k.reader.fed = length-cut-le k.reader.fed c.args.piece.now c.first_bytes-within.result.now is in
     omega arith
 
-pub invariant_of-self : goal.invariant_of-self
-invariant_of-self c =
+pub invariant_of-self-then-len-gt-MOST : goal.invariant_of-self-then-len-gt-MOST
+invariant_of-self-then-len-gt-MOST c =
     let k : Kept = record { reader = c.self.inside.reader; refs = c.self.inside.found.refs.items; notes = c.self.inside.found.notes.items } in
     let is = cut_is k.reader.fed c.self.inside.fed c.saturating_sub.result c.args.piece.now c.first_bytes-within.result.now c.first_bytes-within.ensures c.saturating_sub.ensures c.self.invariant.counted in
     let said = refs_are c.self.inside.slot c.items.result.now c.in_ok-progress.progress.found (given k.reader.state c.first_bytes-within.result.now) c.self.inside.selection c.items.ensures c.in_ok-progress.ensures.items c.self.invariant.asked c.in_ok-more.more.refs.items c.in_ok-more.ensures.refs in

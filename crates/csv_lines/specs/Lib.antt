@@ -1,0 +1,4 @@
+pub mod Fields
+pub mod Repeats
+pub mod Rests
+pub mod Seen

@@ -1,0 +1,14 @@
+//! Lines of comma-separated fields with comments, as feeds and overrides have them.
+#![tactic(auto)]
+
+mod fate;
+mod fault;
+mod rest;
+mod rows;
+mod scan;
+
+pub use fate::{Accepted, Fate, Judged, RepeatRules, judge};
+pub use fault::Fault;
+pub use rest::{Content, content_of, rest_of};
+pub use rows::{all_handed, column, next_row, reader_of, said_in};
+pub use scan::has_fields;
