@@ -4,6 +4,7 @@
 
 mod emit;
 mod fan;
+mod lines;
 mod order;
 mod paint;
 mod ranges;
@@ -30,6 +31,8 @@ fn main(rt: HostRuntime) -> anyhow::Result<()> {
         "emit" => emit::run(rt.alloc(), &rt, size, true),
         "prepare" => write::run(rt.alloc(), &rt, size, false),
         "write" => write::run(rt.alloc(), &rt, size, true),
+        "paint-lines" => lines::run(rt.alloc(), &rt, size, false),
+        "lines" => lines::run(rt.alloc(), &rt, size, true),
         "serial" => fan::run(rt.alloc(), &rt, size, false),
         "parallel" => fan::run(rt.alloc(), &rt, size, true),
         _ => bail!("no case is called {case}"),
