@@ -22,7 +22,7 @@ impl Model for Sources {
     ghost use Rattle.std.specs.Prelude.{[], None};
     ghost use Rattle.geo_terms.specs.Sources.{InForce};
     ghost use Rattle.precedence.specs.Spots.{IsIndex};
-    ghost use Rattle.precedence.specs.SlotOrder.{AreInOrder};
+    ghost use Rattle.geo_terms.specs.SlotOrder.{AreInOrder};
 
     ghost Value = { InForce };
 
@@ -43,7 +43,7 @@ impl Sources {
     ghost use Rattle.geo_terms.specs.Sources.{no_sources};
     ghost use Rattle.precedence.specs.CutPlaces.{AreCutPlaces};
     ghost use Rattle.precedence.specs.Segments.{AreSegments};
-    ghost use Rattle.precedence.specs.SlotOrder.{AreInOrder, placed};
+    ghost use Rattle.geo_terms.specs.SlotOrder.{AreInOrder, placed};
 
     /// No sources.
     pub fn new(alloc: Global) -> Sources
