@@ -20,12 +20,8 @@ use Rattle.geo_terms.specs.declared.statement.Reference.{Reference}
 use Rattle.least_nodes.specs.Layout.{each_once}
 use Rattle.nro_stats.specs.File.{longest, most, rows, stats}
 use Rattle.precedence.specs.Segments.{is_touched}
-<<<<<<< HEAD
-use Rattle.precedence.specs.SlotOrder.{placed}
-use Rattle.update_session.specs.Standing.{Standing}
-=======
 use Rattle.geo_terms.specs.SlotOrder.{placed}
->>>>>>> 8762f2aca2d0b5d1ddd960847a3189b16e77bfa9
+use Rattle.update_session.specs.Standing.{Standing}
 use Rattle.update_session.specs.State.{State, with_stats}
 use Rattle.update_session.specs.Touch.{bound, touch, edges, edges_of}
 use Rattle.geofeed_cmd.specs.declared.job.Act.{Act}

@@ -19,14 +19,8 @@ use Rattle.geo_terms.specs.SourceForm.{StatsParts, IsStats}
 use Rattle.geo_terms.specs.Sources.{InForce}
 use Rattle.geo_terms.specs.declared.note.Note.{Note}
 use Rattle.geo_terms.specs.declared.note.Origin.TheVariants.{Stats}
-<<<<<<< HEAD
 use Rattle.geo_terms.proofs.RankLemmas.{Up, up_from}
-use Rattle.precedence.proofs.SlotLemmas.{Ascend, ascend}
-=======
-use Rattle.geo_terms.proofs.Members.{among_from_contains, contains_from_among}
-use Rattle.geo_terms.proofs.RankLemmas.{Up, up_from, same_members}
 use Rattle.geo_terms.proofs.SlotLemmas.{Ascend, ascend}
->>>>>>> 8762f2aca2d0b5d1ddd960847a3189b16e77bfa9
 use Rattle.geo_terms.specs.Boundaries.{told}
 use Rattle.precedence.specs.CutPlaces.{whole, AreSourceSegments, IsConstantBetween}
 use Rattle.precedence.specs.Spots.{delegation_of_place, IsIndex}

@@ -41,14 +41,8 @@ impl Sources {
     ghost use Rattle.geo_terms.specs.Precedence.{record_at};
     ghost use Rattle.geo_terms.specs.Report.{report};
     ghost use Rattle.geo_terms.specs.Sources.{no_sources};
-<<<<<<< HEAD
-    ghost use Rattle.precedence.specs.CutPlaces.{AreSourceSegments, IsConstantBetween, whole};
-    ghost use Rattle.precedence.specs.SlotOrder.{AreInOrder, placed};
-=======
-    ghost use Rattle.precedence.specs.CutPlaces.{AreCutPlaces};
-    ghost use Rattle.precedence.specs.Segments.{AreSegments};
     ghost use Rattle.geo_terms.specs.SlotOrder.{AreInOrder, placed};
->>>>>>> 8762f2aca2d0b5d1ddd960847a3189b16e77bfa9
+    ghost use Rattle.precedence.specs.CutPlaces.{AreSourceSegments, IsConstantBetween, whole};
 
     /// No sources.
     pub fn new(alloc: Global) -> Sources
