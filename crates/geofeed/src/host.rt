@@ -4,7 +4,7 @@ ghost use Rattle.std.specs.Prelude.{None};
 use crate::disk::{Disk, folder_of};
 use crate::limit::is_within_limit;
 use crate::whole::write_whole;
-use std::fs::{File, Files, Metadata, OpenOptions, Permissions};
+use std::fs::{File, Files, OpenOptions, Permissions};
 use std::io::ErrorKind;
 use std::os::unix::fs::{MetadataExt, OpenOptionsExt, PermissionsExt};
 use std::{fs, io};
