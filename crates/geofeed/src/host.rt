@@ -54,7 +54,7 @@ impl<R: Files<File = File>> Disk for HostDisk<'_, R> {
     }
 
     fn fill(&mut self, bytes: &[u8]) -> io::Result<()> {
-        if !is_within_limit(bytes.len() as u64) {
+        if !is_within_limit(self.rt, bytes.len() as u64) {
             return Err(io::Error::from(ErrorKind::FileTooLarge));
         }
         write_whole(self.file()?, bytes)
