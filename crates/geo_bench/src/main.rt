@@ -1,10 +1,13 @@
-//! Cases to be timed from outside: the first word picks a case, and the second says how large it is.
+//! Cases to be timed from outside: the first word picks a case, and the second says how large it is, or
+//! which file is read.
 //! What a case prints is counts and no times, so that its output is the same wherever it runs.
 #![tactic(auto)]
 
+mod dump;
 mod emit;
 mod fan;
 mod feed;
+mod lines;
 mod order;
 mod paint;
 mod ranges;
@@ -22,8 +25,11 @@ fn main(rt: HostRuntime) -> anyhow::Result<()> {
     let mut words = env::args(&rt)?;
     let _program = words.next();
     let case = words.next().context("the first word is to be a case")?;
-    let size = words.next().context("the second word is to be a size")?;
-    let size: u32 = size.parse().context("the size is to be a number")?;
+    let second = words.next().context("the second word is to be a size or a file")?;
+    if case.as_str() == "dump" {
+        return dump::run(&rt, second.as_str());
+    }
+    let size: u32 = second.parse().context("the size is to be a number")?;
     match case.as_str() {
         "paint" => paint::run(rt.alloc(), &rt, size),
         "fill" => order::run(rt.alloc(), &rt, size, 0),
@@ -41,6 +47,8 @@ fn main(rt: HostRuntime) -> anyhow::Result<()> {
                 .context("the third word is to be a file's name")?;
             wide::run(rt.alloc(), &rt, size, name.as_str())
         }
+        "paint-lines" => lines::run(rt.alloc(), &rt, size, false),
+        "lines" => lines::run(rt.alloc(), &rt, size, true),
         "serial" => fan::run(rt.alloc(), &rt, size, false),
         "parallel" => fan::run(rt.alloc(), &rt, size, true),
         _ => bail!("no case is called {case}"),

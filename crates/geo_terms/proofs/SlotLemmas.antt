@@ -1,6 +1,6 @@
 -- A source that is put among others in the order of names: by what a search by halving found.
-use Rattle.std.proofs.Common.{◌≡◌, ℕ, zero, suc, ◌+◌, ◌<◌, ◌≤◌, true, false, Less, Equal, Greater, List, [], ◌∷◌, length, get_or, set, Some, None, Ordering, Ok, Err, slice_get, refl, sym, ap, ◌∙◌, arith}
-use Rattle.std.specs.List.{AllByRecursion, find, insert}
+use Rattle.std.proofs.Common.{◌≡◌, ℕ, zero, suc, ◌+◌, ◌<◌, ◌≤◌, true, false, cond, not, Less, Equal, Greater, List, [], ◌∷◌, length, get_or, set, Some, None, Ordering, Ok, Err, slice_get, refl, sym, ap, ◌∙◌, arith}
+use Rattle.std.specs.List.{AllByRecursion, filter, find, insert, remove}
 use Rattle.std.specs.List.Sorted.{IsSortedBy, IsBinarySearchResult, IsPartitionPoint}
 use Rattle.std.specs.Cmp.Lexicographic.{texts_ties}
 use Rattle.std.specs.Ordering.{is_lt, is_eq, match_ordering, ordering_reverse}
@@ -9,7 +9,7 @@ use Rattle.std.proofs.lemmas.List.Elements.{All-from_recursion}
 use Rattle.std.proofs.lemmas.List.Sorted.{searchable_from_sorted}
 use Rattle.geo_terms.specs.PlaceForm.{same_text}
 use Rattle.geo_terms.specs.Precedence.{text_cmp}
-use Rattle.precedence.specs.SlotOrder.{AreInOrder, placed}
+use Rattle.geo_terms.specs.SlotOrder.{AreInOrder, placed, removed}
 
 module _ {X : Type 0} (name : X → List ℕ) where
   order : X → X → Ordering
@@ -141,3 +141,79 @@ module _ {X : Type 0} (name : X → List ℕ) where
   none_in_place x ys i h found =
       let at = searched x ys i h found in
       sym (find_none x ys (all_apart x ys i (λ k d lt below. at.0 k d (omega arith) lt) (λ k d le below. at.1 k d le below)))
+
+  found_here : (ys : List X) (i : ℕ) (d : X) → i < length ys → slice_get ys i ≡ Some (get_or ys i d)
+  found_here [] i d lt = absurd (omega arith)
+  found_here (z ∷ zs) zero d lt = refl
+  found_here (z ∷ zs) (suc j) d lt = found_here zs j d (omega arith)
+
+  -- the search for a name, without a source of that name at hand
+  module _ (n : List ℕ) where
+    differ : (y : X) (o : Ordering) → text_cmp (name y) n ≡ o → same_text (name y) n ≡ is_eq o
+    differ y o e = texts_ties (name y) n ∙ ap is_eq e
+
+    stays_all : (ys : List X) → AllByRecursion (λ y. same_text (name y) n ≡ false) ys → filter (λ y. not (same_text (name y) n)) ys ≡ ys
+    stays_all [] h = refl
+    stays_all (y ∷ ys) h = rw h.0 (ap (λ zs. y ∷ zs) (stays_all ys h.1))
+
+    none_named : (ys : List X) → AllByRecursion (λ y. same_text (name y) n ≡ false) ys → find (λ y. same_text (name y) n) ys ≡ None
+    none_named [] h = refl
+    none_named (y ∷ ys) h = rw h.0 (none_named ys h.1)
+
+    -- those behind a member of the name have other names
+    others_behind : (y : X) (ys : List X) → text_cmp (name y) n ≡ Ordering.Equal → AllByRecursion (λ z. text_cmp (name y) (name z) ≡ Ordering.Less) ys → AllByRecursion (λ z. same_text (name z) n ≡ false) ys
+    others_behind y [] e h = tt
+    others_behind y (z ∷ zs) e h =
+        let f : text_cmp n (name z) ≡ Ordering.Less = sym (nat_list_cmp_total.congr (name y) n (name z) e) ∙ h.0 in
+        let g : text_cmp (name z) n ≡ Ordering.Greater = nat_list_cmp_total.antisymm (name z) n ∙ ap ordering_reverse f in
+        (differ z Ordering.Greater g, others_behind y zs e h.1)
+
+    less_named : (y : X) (ys : List X) (i : ℕ) (d : X) → AllByRecursion (λ z. text_cmp (name y) (name z) ≡ Ordering.Less) ys → i < length ys → text_cmp (name (get_or ys i d)) n ≡ Ordering.Equal → text_cmp (name y) n ≡ Ordering.Less
+    less_named y ys i d h below e =
+        let l : text_cmp (name y) (name (get_or ys i d)) ≡ Ordering.Less = All-from_recursion (λ z. text_cmp (name y) (name z) ≡ Ordering.Less) ys h i d below in
+        let g : text_cmp (name (get_or ys i d)) (name y) ≡ Ordering.Greater = greater_back y (get_or ys i d) l in
+        let k : text_cmp n (name y) ≡ Ordering.Greater = sym (nat_list_cmp_total.congr (name (get_or ys i d)) n (name y) e) ∙ g in
+        nat_list_cmp_total.antisymm (name y) n ∙ ap ordering_reverse k
+
+    take_out : (ys : List X) (i : ℕ) (d : X) → Ascend ys → i < length ys → text_cmp (name (get_or ys i d)) n ≡ Ordering.Equal → (remove ys i ≡ removed name n ys) × (find (λ y. same_text (name y) n) ys ≡ Some (get_or ys i d))
+    take_out [] i d h below e = absurd (omega arith)
+    take_out (y ∷ ys) zero d h below e =
+        let f : same_text (name y) n ≡ true = differ y Ordering.Equal e in
+        (rw f (sym (stays_all ys (others_behind y ys e h.0))), rw f refl)
+    take_out (y ∷ ys) (suc i) d h below e =
+        let f : same_text (name y) n ≡ false = differ y Ordering.Less (less_named y ys i d h.0 (omega arith) e) in
+        let later = take_out ys i d h.1 (omega arith) e in
+        (rw f (ap (λ zs. y ∷ zs) later.0), rw f later.1)
+
+    -- the source at a place that a search by halving found is the one of the name, and the others are what is left
+    pub taken_out : (ys : List X) (i : ℕ) (d : X) → AreInOrder name ys → i < length ys → IsBinarySearchResult (λ y. text_cmp (name y) n) ys (Ok i) → (remove ys i ≡ removed name n ys) × (find (λ y. same_text (name y) n) ys ≡ Some (get_or ys i d))
+    taken_out ys i d h below found = take_out ys i d (ascend ys h) below (found d)
+
+    all_other : (ys : List X) (i : ℕ) → ((k : ℕ) (d : X) → k < i → k < length ys → text_cmp (name (get_or ys k d)) n ≡ Ordering.Less)
+        → ((k : ℕ) (d : X) → i ≤ k → k < length ys → text_cmp (name (get_or ys k d)) n ≡ Ordering.Greater) → AllByRecursion (λ y. same_text (name y) n ≡ false) ys
+    all_other [] i low high = tt
+    all_other (y ∷ ys) zero low high =
+        (differ y Ordering.Greater (high 0 y (omega arith) (omega arith)), all_other ys zero (λ k d lt below. absurd (omega arith)) (λ k d le below. high (suc k) d (omega arith) (omega arith)))
+    all_other (y ∷ ys) (suc i) low high =
+        (differ y Ordering.Less (low 0 y (omega arith) (omega arith)), all_other ys i (λ k d lt below. low (suc k) d (omega arith) (omega arith)) (λ k d le below. high (suc k) d (omega arith) (omega arith)))
+
+    -- where a search by halving found none, none has the name
+    pub not_there : (ys : List X) (i : ℕ) → AreInOrder name ys → IsBinarySearchResult (λ y. text_cmp (name y) n) ys (Err i) → find (λ y. same_text (name y) n) ys ≡ None
+    not_there ys i h found =
+        let at : IsPartitionPoint (λ y. text_cmp (name y) n ≡ Ordering.Less) (λ y. text_cmp (name y) n ≡ Ordering.Greater) ys i = found (searchable_from_sorted nat_list_cmp_total name ys n (adjacent ys h)) in
+        none_named ys (all_other ys i (λ k d lt below. at.0 k d (omega arith) lt) (λ k d le below. at.1 k d le below))
+
+    each_kept : (P : X → Type 0) (ys : List X) → AllByRecursion P ys → AllByRecursion P (removed name n ys)
+    each_kept P [] h = tt
+    each_kept P (y ∷ ys) h = elim (same_text (name y) n) as (λ b. AllByRecursion P (cond (not b) (y ∷ removed name n ys) (removed name n ys))) [ true ↦ each_kept P ys h.1 | false ↦ (h.0, each_kept P ys h.1) ]
+
+    ascend_removed : (ys : List X) → Ascend ys → Ascend (removed name n ys)
+    ascend_removed [] h = tt
+    ascend_removed (y ∷ ys) h =
+        elim (same_text (name y) n) as (λ b. Ascend (cond (not b) (y ∷ removed name n ys) (removed name n ys))) [
+          | true ↦ ascend_removed ys h.1
+          | false ↦ (each_kept (λ z. text_cmp (name y) (name z) ≡ Ordering.Less) ys h.0, ascend_removed ys h.1)
+        ]
+
+    pub removed_in_order : (ys : List X) → AreInOrder name ys → AreInOrder name (removed name n ys)
+    removed_in_order ys h = in_order (removed name n ys) (ascend_removed ys (ascend ys h))
