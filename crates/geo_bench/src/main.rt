@@ -25,7 +25,9 @@ fn main(rt: HostRuntime) -> anyhow::Result<()> {
     let mut words = env::args(&rt)?;
     let _program = words.next();
     let case = words.next().context("the first word is to be a case")?;
-    let second = words.next().context("the second word is to be a size or a file")?;
+    let second = words
+        .next()
+        .context("the second word is to be a size or a file")?;
     if case.as_str() == "dump" {
         return dump::run(&rt, second.as_str());
     }
