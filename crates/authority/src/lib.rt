@@ -6,6 +6,8 @@ mod entries;
 mod fault;
 mod refs;
 mod slots;
+#[cfg(test)]
+mod tests;
 
 pub use authority::Authority;
 pub use fault::DropFault;

@@ -42,22 +42,22 @@ state_of Within = st.InQuoted
 state_of Closed = st.AfterQuote
 
 -- the values, with bytes that were read before in front of the first
-grown : List ℕ → List (List ℕ) → List (List ℕ)
+unfoldable pub grown : List ℕ → List (List ℕ) → List (List ℕ)
 grown part [] = []
 grown part (v ∷ vs) = (part ++ v) ∷ vs
 
-grown_byte : (part : List ℕ) (b : ℕ) (fs : List Field) → grown (part ++ (b ∷ [])) (map value fs) ≡ grown part (map value (with_byte b fs))
+pub grown_byte : (part : List ℕ) (b : ℕ) (fs : List Field) → grown (part ++ (b ∷ [])) (map value fs) ≡ grown part (map value (with_byte b fs))
 unfolding grown
 grown_byte part b [] = refl
 grown_byte part b (Plain x ∷ more) = rw append_assoc refl
 grown_byte part b (Quoted x ∷ more) = rw append_assoc refl
 
-grown_none : (vs : List (List ℕ)) → grown [] vs ≡ vs
+pub grown_none : (vs : List (List ℕ)) → grown [] vs ≡ vs
 unfolding grown
 grown_none [] = refl
 grown_none (v ∷ vs) = refl
 
-map_some : {A B : Type 0} (f : A → B) (o : Option A) (y : B) → option_map f o ≡ Some y → (x : A) × (o ≡ Some x) × (f x ≡ y)
+pub map_some : {A B : Type 0} (f : A → B) (o : Option A) (y : B) → option_map f o ≡ Some y → (x : A) × (o ≡ Some x) × (f x ≡ y)
 map_some f None y e = absurd cc
 map_some f (Some x) y e = (x, refl, cc)
 

@@ -1,6 +1,7 @@
 -- What is kept of numbered lines, when each line gives a statement, a fault or nothing: it is in line order, and no line gives two things.
 use Rattle.std.proofs.Common.{inl, inr, ◌≡◌, ◌≢◌, ℕ, zero, suc, ◌+◌, ◌<◌, ◌≤◌, ◌⊎◌, ltb, Bool, true, false, cond, ◌&&◌, All, AllPairs, List, [], ◌∷◌, ◌++◌, length, map, filter, filter_map, drop, get_or, option_map, Option, Some, None, refl, sym, ap, ◌∙◌, subst, arith}
-use Rattle.std.specs.Prelude.{take_while}
+use Rattle.std.specs.Prelude.{take_while, option_to_list}
+use Rattle.std.proofs.lemmas.List.{append-nil, append_assoc}
 use Rattle.std.specs.List.{cons_option, enumerate_from, list_any, prefix_len}
 use Rattle.std.specs.List.Sorted.{IsStrictlyIncreasing}
 use Rattle.std.proofs.lemmas.Bool.{lt-ltb, le-ltb}
@@ -197,3 +198,8 @@ filter_map_agree h k same (x ∷ xs) = rw (same x, filter_map_agree h k same xs)
 pub all_members : {X : Type 0} (P : X → Type 0) (xs : List X) → ((x : X) → Member xs x → P x) → All P xs
 all_members P [] f = All-nil P
 all_members P (x ∷ xs) f = All-cons P x xs (f x (inl refl)) (all_members P xs (λ y m. f y (inr m)))
+
+-- one more thing of a line, and those of the lines after it
+pub one_more : {X : Type 0} (done : List X) (o : Option X) (later : List X) → (done ++ option_to_list o) ++ later ≡ done ++ cons_option o later
+one_more done None later = ap (λ t. t ++ later) (append-nil done)
+one_more done (Some x) later = append_assoc done (x ∷ []) later

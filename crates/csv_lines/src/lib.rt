@@ -3,9 +3,12 @@
 
 mod fate;
 mod fault;
+pub mod laws;
 mod rest;
 mod rows;
 mod scan;
+#[cfg(test)]
+mod tests;
 
 pub use fate::{Accepted, Fate, Judged, RepeatRules, judge};
 pub use fault::Fault;

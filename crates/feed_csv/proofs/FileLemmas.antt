@@ -111,7 +111,7 @@ module _ (file : List ℕ) where
       origins = All-map (λ n. n.origin ≡ Feed url) (note_of url) (faults file) (all_members (λ f. Feed url ≡ Feed url) (faults file) (λ f m. refl));
       ordered = rw (lines_of_notes url (faults file)) (increasing 1 (map (λ f. f.line) (faults file)) faults_rise);
     };
-    apart = All-map (λ x. All (λ y. x ≢ y) (map (λ n. n.line) (notes url file))) entry_line (entries file) (all_members _ (entries file) (λ e m.
+    apart = All-map (λ x. All (λ y. x ≢ y) (map (λ n. n.line) (notes url file))) entry_line (entries file) (all_members (λ e. All (λ y. entry_line e ≢ y) (map (λ n. n.line) (notes url file))) (entries file) (λ e m.
         rw (lines_of_notes url (faults file)) (All-map (λ y. entry_line e ≢ y) (λ (f : Fault). f.line) (faults file) (all_members (λ f. entry_line e ≢ f.line) (faults file) (λ f n. apart_lines e f m n)))));
   }
 

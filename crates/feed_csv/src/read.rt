@@ -82,7 +82,7 @@ fn take_line(
     found: &mut Found,
 ) -> Result<(), SourceFault>
     requires few { length found.old.entries.items ≤ most }
-    requires reads { CanRead (λ s. Some s.now) reader.old line.entry.text.now }
+    requires reads { CanRead (λ s. Some s.now) reader.old line.text.now }
     ensures entries { OnOk result (found.new.entries.items ≡ found.old.entries.items ++ option_to_list (entry_of (line.entry.number, line.entry.text.now))) }
     ensures faults { OnOk result (found.new.faults.items ≡ found.old.faults.items ++ option_to_list (fault_of (line.entry.number, line.entry.text.now))) }
     ensures within { OnOk result (length found.new.entries.items ≤ most) }

@@ -13,6 +13,7 @@ pub mod PlaceForm
 pub mod Precedence
 pub mod Report
 pub mod SaidOf
+pub mod SlotOrder
 pub mod SourceForm
 pub mod Sources
 pub mod TotalOrders

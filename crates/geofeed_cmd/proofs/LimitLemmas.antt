@@ -20,7 +20,7 @@ use Rattle.geo_terms.specs.declared.statement.Reference.{Reference}
 use Rattle.least_nodes.specs.Layout.{each_once}
 use Rattle.nro_stats.specs.File.{longest, most, rows, stats}
 use Rattle.precedence.specs.Segments.{is_touched}
-use Rattle.precedence.specs.SlotOrder.{placed}
+use Rattle.geo_terms.specs.SlotOrder.{placed}
 use Rattle.update_session.specs.Standing.{Standing}
 use Rattle.update_session.specs.State.{State, with_stats}
 use Rattle.update_session.specs.Touch.{bound, touch, edges, edges_of}

@@ -1,10 +1,10 @@
 -- From link to link: which references reach an address, and the first of them in the order of references.
-use Rattle.std.proofs.Common.{◌≡◌, ℕ, zero, suc, ◌+◌, ◌-◌, ◌<◌, ◌≤◌, ◌⊎◌, Bool, true, false, cond, not, ◌&&◌, ◌||◌, eqb, ltb, leb, min, max, List, [], ◌∷◌, ◌++◌, length, Option, Some, None, slice_get, refl, sym, ap, ◌∙◌, subst, inl, inr, arith}
+use Rattle.std.proofs.Common.{◌≡◌, ℕ, zero, suc, ◌+◌, ◌<◌, ◌≤◌, ◌⊎◌, Bool, true, false, cond, not, ◌&&◌, ◌||◌, eqb, ltb, leb, min, max, List, [], ◌∷◌, ◌++◌, length, Option, Some, None, slice_get, refl, sym, ap, ◌∙◌, subst, inl, inr, arith}
 use Rattle.std.specs.List.{All, AllByRecursion, filter, list_any}
 use Rattle.std.specs.List.Sorted.{IsPermutation}
 use Rattle.std.proofs.lemmas.Bool.Decides.{nat_tests}
 use Rattle.std.proofs.lemmas.List.Elements.{recursion_from_All}
-use Rattle.std.proofs.lemmas.List.Sorted.{All-permutation, IsPermutation-sym, list_any-IsPermutation}
+use Rattle.std.proofs.lemmas.List.Sorted.{list_any-IsPermutation}
 use Rattle.geo_addr.specs.Ranges.{Ends, Prefix, IsRange, holds, is_v4, range_of_block}
 use Rattle.geo_terms.specs.Covering.{covering}
 use Rattle.geo_terms.specs.First.{better, first_of}
@@ -15,10 +15,10 @@ use Rattle.geo_terms.specs.declared.statement.Reference.{Reference}
 use Rattle.geo_terms.proofs.Members.{Among, all_among, among_filter, all_filter, none_kept}
 use Rattle.inetnum_index.specs.Answers.{AnswerAlike}
 use Rattle.inetnum_index.specs.Links.{AreShelved, AreLinks, IsOuter, IsReach, IsLink, reaches, EndsAt, NoneReaches, IsNearest, IsFirstReaching, IsEnd, TellsSome}
-use Rattle.inetnum_index.specs.Shelf.{Key, family, key_of, is_of, same_group}
+use Rattle.inetnum_index.specs.Shelf.{Key, family, is_of, same_group}
 use Rattle.inetnum_index.specs.declared.links.Link.{Link}
 use Rattle.inetnum_index.proofs.FirstOf.{first_is, first_permuted}
-use Rattle.inetnum_index.proofs.ShelfLemmas.{reference_weak, and_left, and_right, exact_text, same_itself, url_of, family_of, is_of_both, group_back, group_on, group_itself, of_group, group_of, between_group, begins_before, begins_behind, tie}
+use Rattle.inetnum_index.proofs.ShelfLemmas.{reference_weak, and_left, and_right, group_back, group_on, group_itself, of_group, group_of, between_group, begins_before, begins_behind, tie}
 
 three : (j k : ℕ) → (j < k) ⊎ ((j ≡ k) ⊎ (k < j))
 three j k =
@@ -159,15 +159,17 @@ module _ (url : List ℕ) (f last : ℕ) where
       → Some b ≡ better reference_before first r → IsFirstReaching url f last rs place end (Some b)
   first_step rs None r b end left place so_far near le at is =
       let same : b ≡ r = cc in
-      subst (λ (z : Reference). IsFirstReaching url f last rs place end (Some z)) (sym same)
-      ((place, (at, (omega (arith, near.0), near.1.0 r at))), λ j y from lt at_j hits. elim (three j place) [
-        | inl less ↦ absurd (omega arith)
-        | inr (inl here) ↦ let e : r ≡ y = same_at rs place j r y at at_j (sym here) in subst (λ (z : Reference). reference_before z r ≡ false) e (not_itself r)
-        | inr (inr more) ↦ elim (three j left) [
-          | inl below ↦ let misses : reaches url f last y ≡ false = near.1.1 j y (omega arith) below at_j in absurd (let g : false ≡ true = sym misses ∙ hits in cc)
-          | inr rest ↦ let misses : reaches url f last y ≡ false = so_far j y (elim rest [ inl e ↦ omega arith | inr gt ↦ omega arith ]) lt at_j in absurd (let g : false ≡ true = sym misses ∙ hits in cc)
-        ]
-      ])
+      subst (λ (z : Reference). IsFirstReaching url f last rs place end (Some z)) (sym same) (
+        (place, (at, (omega (arith, near.0), near.1.0 r at))),
+        λ j y from lt at_j hits. elim (three j place) [
+          | inl less ↦ absurd (omega arith)
+          | inr (inl here) ↦ let e : r ≡ y = same_at rs place j r y at at_j (sym here) in subst (λ (z : Reference). reference_before z r ≡ false) e (not_itself r)
+          | inr (inr more) ↦ elim (three j left) [
+            | inl below ↦ let misses : reaches url f last y ≡ false = near.1.1 j y (omega arith) below at_j in absurd (let g : false ≡ true = sym misses ∙ hits in cc)
+            | inr rest ↦ let misses : reaches url f last y ≡ false = so_far j y (elim rest [ inl e ↦ omega arith | inr gt ↦ omega arith ]) lt at_j in absurd (let g : false ≡ true = sym misses ∙ hits in cc)
+          ]
+        ],
+      )
   first_step rs (Some w) r b end left place so_far near le at is =
       elim (reference_before r w) as (λ v. reference_before r w ≡ v → Some b ≡ Some (cond v r w) → IsFirstReaching url f last rs place end (Some b)) [
         | true ↦ λ e here. let same : b ≡ r = cc in
@@ -194,10 +196,13 @@ module _ (url : List ℕ) (f last : ℕ) where
     | inl below ↦ none j y (omega arith) below at
     | inr rest ↦ so_far j y (elim rest [ inl e ↦ omega arith | inr gt ↦ omega arith ]) lt at
   ]
-  first_end rs (Some w) end left so_far none = (so_far.0, λ j y from lt at hits. elim (three j left) [
-    | inl below ↦ let misses : reaches url f last y ≡ false = none j y (omega arith) below at in absurd (let g : false ≡ true = sym misses ∙ hits in cc)
-    | inr rest ↦ so_far.1 j y (elim rest [ inl e ↦ omega arith | inr gt ↦ omega arith ]) lt at hits
-  ])
+  first_end rs (Some w) end left so_far none = (
+    so_far.0,
+    λ j y from lt at hits. elim (three j left) [
+      | inl below ↦ let misses : reaches url f last y ≡ false = none j y (omega arith) below at in absurd (let g : false ≡ true = sym misses ∙ hits in cc)
+      | inr rest ↦ so_far.1 j y (elim rest [ inl e ↦ omega arith | inr gt ↦ omega arith ]) lt at hits
+    ],
+  )
 
   pub tells_some : (rs : List Reference) (ls : List Link) (r : Reference) (l : Link) (end place : ℕ) (found : Bool) → AreLinks rs ls → EndsAt url f rs end → end ≡ place + 1 → slice_get rs place ≡ Some r → slice_get ls place ≡ Some l
       → found ≡ (is_of url f r && leb last l.reach) → TellsSome url f last rs end found

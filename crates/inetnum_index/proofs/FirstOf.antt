@@ -1,7 +1,7 @@
 -- The first member in an order does not depend on how the list stands, where members that tie are equal.
-use Rattle.std.proofs.Common.{◌≡◌, zero, suc, Bool, true, false, cond, List, [], ◌∷◌, length, Option, Some, None, Ordering, MatchOption, refl, sym, ap, ◌∙◌, subst, inl, inr, arith}
+use Rattle.std.proofs.Common.{◌≡◌, Bool, true, false, cond, List, [], ◌∷◌, Some, None, refl, sym, ap, ◌∙◌, subst, inl, inr}
 use Rattle.std.specs.Cmp.{IsStrictWeakOrder}
-use Rattle.std.specs.List.{All, AllByRecursion, Contains, filter}
+use Rattle.std.specs.List.{AllByRecursion, filter}
 use Rattle.std.specs.List.Sorted.{IsPermutation}
 use Rattle.std.proofs.lemmas.List.Elements.{All-from_recursion, recursion_from_All}
 use Rattle.std.proofs.lemmas.List.Sorted.{All-permutation, Contains-permutation, IsPermutation-sym}

@@ -6,5 +6,7 @@ mod firsts;
 mod index;
 mod links;
 mod shelf;
+#[cfg(test)]
+mod tests;
 
 pub use index::Index;

@@ -80,7 +80,7 @@ fn take_line(
     found: &mut Found,
 ) -> Result<(), SourceFault>
     requires few { length found.old.rows.items ≤ most }
-    requires reads { CanRead (λ s. Some s.now) reader.old line.entry.text.now }
+    requires reads { CanRead (λ s. Some s.now) reader.old line.text.now }
     ensures rows { OnOk result (found.new.rows.items ≡ found.old.rows.items ++ option_to_list (row_of_line (line.entry.number, line.entry.text.now))) }
     ensures faults { OnOk result (found.new.faults.items ≡ found.old.faults.items ++ option_to_list (fault_of (line.entry.number, line.entry.text.now))) }
     ensures within { OnOk result (length found.new.rows.items ≤ most) }

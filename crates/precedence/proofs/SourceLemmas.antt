@@ -20,12 +20,12 @@ use Rattle.geo_terms.specs.Sources.{InForce}
 use Rattle.geo_terms.specs.declared.note.Note.{Note}
 use Rattle.geo_terms.specs.declared.note.Origin.TheVariants.{Stats}
 use Rattle.geo_terms.proofs.RankLemmas.{Up, up_from}
-use Rattle.precedence.proofs.SlotLemmas.{Ascend, ascend}
+use Rattle.geo_terms.proofs.SlotLemmas.{Ascend, ascend}
 use Rattle.geo_terms.specs.Boundaries.{told}
 use Rattle.precedence.specs.CutPlaces.{whole, AreSourceSegments, IsConstantBetween}
 use Rattle.precedence.specs.Spots.{delegation_of_place, IsIndex}
 use Rattle.precedence.specs.Segments.{AreSegments}
-use Rattle.precedence.specs.SlotOrder.{AreInOrder}
+use Rattle.geo_terms.specs.SlotOrder.{AreInOrder}
 use Rattle.precedence.specs.declared.delegations.DelegationIndex.{DelegationIndex}
 
 abbrev pub stats_alone : List StatsParts → InForce

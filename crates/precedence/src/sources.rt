@@ -22,7 +22,7 @@ impl Model for Sources {
     ghost use Rattle.std.specs.Prelude.{[], None};
     ghost use Rattle.geo_terms.specs.Sources.{InForce};
     ghost use Rattle.precedence.specs.Spots.{IsIndex};
-    ghost use Rattle.precedence.specs.SlotOrder.{AreInOrder};
+    ghost use Rattle.geo_terms.specs.SlotOrder.{AreInOrder};
 
     ghost Value = { InForce };
 
@@ -41,8 +41,8 @@ impl Sources {
     ghost use Rattle.geo_terms.specs.Precedence.{record_at};
     ghost use Rattle.geo_terms.specs.Report.{report};
     ghost use Rattle.geo_terms.specs.Sources.{no_sources};
+    ghost use Rattle.geo_terms.specs.SlotOrder.{AreInOrder, placed};
     ghost use Rattle.precedence.specs.CutPlaces.{AreSourceSegments, IsConstantBetween, whole};
-    ghost use Rattle.precedence.specs.SlotOrder.{AreInOrder, placed};
 
     /// No sources.
     pub fn new(alloc: Global) -> Sources

@@ -1,5 +1,4 @@
-use Rattle.std.proofs.Common.{◌≡◌, not, true, false, rules}
-use Rattle.std.specs.List.Sorted.{IsPartitionPoint}
+use Rattle.std.proofs.Common.{not, rules}
 use Rattle.std.specs.Ordering.{is_lt}
 use Rattle.std.proofs.lemmas.List.Sorted.{IsPartitionPoint-from_clause}
 use Rattle.geo_terms.specs.declared.statement.Reference.{Reference}

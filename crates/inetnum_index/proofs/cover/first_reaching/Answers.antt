@@ -1,4 +1,4 @@
-use Rattle.std.proofs.Common.{◌≡◌, ◌<◌, ◌≤◌, arith, length, refl}
+use Rattle.std.proofs.Common.{◌<◌, ◌≤◌, arith, length, refl}
 use Rattle.std.specs.Option.{option_copied}
 use Rattle.std.proofs.lemmas.Option.{slice_get_read}
 use Rattle.inetnum_index.proofs.CoverLemmas.{first_step}

@@ -1,8 +1,7 @@
-use Rattle.std.proofs.Common.{◌≡◌, ◌<◌, ◌≤◌, ◌∙◌, ◌+◌, true, Some, arith, get_or, length, slice_get, refl, sym, subst, min}
+use Rattle.std.proofs.Common.{◌≡◌, ◌<◌, ◌≤◌, ◌+◌, arith, get_or, length, refl, sym, subst, min}
 use Rattle.std.proofs.lemmas.Bool.Decides.{nat_tests}
 use Rattle.std.proofs.lemmas.Option.{slice_get_read, slice_get-get_or}
 use Rattle.inetnum_index.specs.Links.{NoneReaches}
-use Rattle.inetnum_index.specs.Shelf.{is_of}
 use Rattle.inetnum_index.specs.declared.links.Link.{Link}
 use Rattle.inetnum_index.proofs.CoverLemmas.{nearest_step}
 use Rattle.inetnum_index.proofs.cover.nearest.Goals as goal

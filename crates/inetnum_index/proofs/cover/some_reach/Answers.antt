@@ -1,7 +1,6 @@
-use Rattle.std.proofs.Common.{◌≡◌, ◌<◌, ◌≤◌, ◌∙◌, ◌+◌, ◌&&◌, Bool, true, false, leb, Some, arith, get_or, length, slice_get, refl, sym, ap}
+use Rattle.std.proofs.Common.{◌≡◌, ◌<◌, ◌≤◌, ◌∙◌, ◌+◌, ◌&&◌, Bool, false, leb, arith, get_or, length, refl, sym, ap}
 use Rattle.std.proofs.lemmas.Bool.Decides.{nat_tests}
 use Rattle.std.proofs.lemmas.Option.{slice_get_read, slice_get-get_or}
-use Rattle.inetnum_index.specs.Shelf.{is_of}
 use Rattle.inetnum_index.specs.declared.links.Link.{Link}
 use Rattle.inetnum_index.proofs.CoverLemmas.{tells_some}
 use Rattle.inetnum_index.proofs.cover.some_reach.Goals as goal

@@ -1,4 +1,4 @@
-use Rattle.std.proofs.Common.{◌≡◌, ◌<◌, List, arith, length, refl, sym, subst}
+use Rattle.std.proofs.Common.{◌<◌, List, arith, length, refl, sym, subst}
 use Rattle.std.proofs.lemmas.Grind.{common_steps}
 use Rattle.std.proofs.lemmas.Option.{slice_get_read}
 use Rattle.inetnum_index.specs.Links.{AreLinks}

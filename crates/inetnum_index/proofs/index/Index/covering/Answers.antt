@@ -4,7 +4,7 @@ use Rattle.geo_addr.specs.Ranges.{Ends, IsRange, range_of_block}
 use Rattle.geo_terms.specs.Covering.{covering}
 use Rattle.geo_terms.specs.declared.statement.Reference.{Reference}
 use Rattle.inetnum_index.specs.Links.{AreShelved}
-use Rattle.inetnum_index.specs.Shelf.{Key, family}
+use Rattle.inetnum_index.specs.Shelf.{family}
 use Rattle.inetnum_index.proofs.CoverLemmas.{covering_by}
 use Rattle.inetnum_index.proofs.ShelfLemmas.{ends_at}
 use Rattle.inetnum_index.proofs.index.Index.covering.Goals as goal

@@ -3,7 +3,7 @@ use Rattle.geo_addr.specs.Ranges.{Ends, range_of_block}
 use Rattle.geo_terms.specs.Report.{is_covered}
 use Rattle.geo_terms.specs.declared.statement.Reference.{Reference}
 use Rattle.inetnum_index.specs.Links.{AreShelved}
-use Rattle.inetnum_index.specs.Shelf.{Key, family}
+use Rattle.inetnum_index.specs.Shelf.{family}
 use Rattle.inetnum_index.proofs.CoverLemmas.{covered_by}
 use Rattle.inetnum_index.proofs.ShelfLemmas.{ends_at}
 use Rattle.inetnum_index.proofs.index.Index.covers.Goals as goal
