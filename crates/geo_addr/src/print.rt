@@ -44,7 +44,8 @@ pub fn addr_text(alloc: Global, at: Addr) -> Result<Text, Memory>
         six: at.0 >= 1 << 32,
         number: at.0,
     };
-    Ok(Text::from_string(format!(in alloc; "{shown}")?))
+    let text = Text::from_string(format!(in alloc; "{shown}")?)?;
+    Ok(text)
 }
 
 /// The text of a block: `FIRST/LENGTH`, in the form and in the bits of its family.
@@ -57,7 +58,8 @@ pub fn block_text(alloc: Global, block: Block) -> Result<Text, Memory>
         number: block.first,
     };
     let length = printed_length(block);
-    Ok(Text::from_string(format!(in alloc; "{first}/{length}")?))
+    let text = Text::from_string(format!(in alloc; "{first}/{length}")?)?;
+    Ok(text)
 }
 
 /// The length of a block in bits of its family.
@@ -86,7 +88,8 @@ pub fn range_text(alloc: Global, range: Range) -> Result<Text, Memory>
         six,
         number: range.last,
     };
-    Ok(Text::from_string(format!(in alloc; "{first}-{last}")?))
+    let text = Text::from_string(format!(in alloc; "{first}-{last}")?)?;
+    Ok(text)
 }
 
 /// The IPv4 address with this number, of which the lowest 32 bits count.

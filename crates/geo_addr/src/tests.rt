@@ -77,9 +77,9 @@ fn ranges_and_blocks(rt: HostRuntime) {
 #[test]
 fn small_types(rt: HostRuntime) -> Result<(), Fail> {
     let text = Text::of(rt.alloc(), "Zürich")?;
-    assert_eq!(rt; text.copied(rt.alloc())?, text);
+    assert_eq!(rt; text.copied()?, text);
     assert_eq!(rt; text.clone()?.as_str(), "Zürich");
-    assert!(rt; Text::from_string(String::new(rt.alloc())) < text);
+    assert!(rt; Text::from_string(String::new(rt.alloc()))? < text);
     let bytes = Bytes::of(rt.alloc(), b"\xFF")?;
     assert_eq!(rt; bytes.copied(rt.alloc())?, bytes);
     assert_eq!(rt; bytes.clone()?.as_slice(), b"\xFF".as_slice());

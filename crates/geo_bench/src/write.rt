@@ -6,7 +6,7 @@ use crate::ranges::{MOST, scattered};
 use anyhow::ensure;
 use geo_addr::Text;
 use geo_outside::Steps;
-use geo_terms::{Places, country_place};
+use geo_terms::{Places, Texts, country_place};
 use mmdb_file::{Emitted, Meta, write_file};
 use std::alloc::Global;
 use std::io::Print;
@@ -37,17 +37,18 @@ pub fn run(alloc: Global, rt: &impl Print, size: u32, is_written: bool) -> anyho
 
 // The places of the countries AA to JZ.
 fn countries(alloc: Global) -> anyhow::Result<Places> {
+    let mut texts = Texts::new(alloc);
     let mut places = Places::new(alloc);
     for first in b'A'..=b'J' {
-        add_countries(alloc, &mut places, first)?;
+        add_countries(&mut texts, &mut places, first)?;
     }
     Ok(places)
 }
 
 // Adds the places of the countries that begin with a letter.
-fn add_countries(alloc: Global, places: &mut Places, first: u8) -> anyhow::Result<()> {
+fn add_countries(texts: &mut Texts, places: &mut Places, first: u8) -> anyhow::Result<()> {
     for second in b'A'..=b'Z' {
-        if let Some(place) = country_place(alloc, &[first, second])? {
+        if let Some(place) = country_place(texts, &[first, second])? {
             places.intern(&place)?;
         }
     }
@@ -55,7 +56,7 @@ fn add_countries(alloc: Global, places: &mut Places, first: u8) -> anyhow::Resul
 }
 
 // The file of a store that has these parts, if it is wanted.
-fn written<L: Ledger>(
+pub(crate) fn written<L: Ledger>(
     alloc: Global,
     parts: &[Part],
     places: &Places,

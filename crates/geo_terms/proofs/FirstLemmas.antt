@@ -1,18 +1,11 @@
 -- The first of a list, found by one pass, is a member that none goes before.
 use Rattle.std.proofs.Common.{◌≡◌, zero, suc, Bool, true, false, cond, List, [], ◌∷◌, fold, All, Contains, Option, Some, refl, sym, subst, MatchOption, arith}
-use Rattle.std.specs.Cmp.{IsStrictWeakOrder, IsTotalOrder}
-use Rattle.std.specs.Cmp.Lexicographic.{nat_list_cmp_total}
-use Rattle.std.proofs.lemmas.Cmp.{back_total, nat_cmp_total, on_total, then_total}
+use Rattle.std.specs.Cmp.{IsStrictWeakOrder}
 use Rattle.std.proofs.lemmas.List.Elements.{All-cons, All-head, All-nil, All-tail}
 use Rattle.std.proofs.lemmas.List.MinMax.{ranks_by}
-use Rattle.geo_addr.specs.Ranges.{size}
-use Rattle.geo_terms.specs.DelegationForm.{DelegationParts}
 use Rattle.geo_terms.specs.First.{IsFirst, better, first_of}
 use Rattle.geo_terms.specs.Orders.{FirstsAreFirst}
-use Rattle.geo_terms.specs.Precedence.{delegation_cmp, entry_cmp, override_cmp, reference_cmp}
-use Rattle.geo_terms.specs.declared.statement.Entry.{Entry}
-use Rattle.geo_terms.specs.declared.statement.Override.{Override}
-use Rattle.geo_terms.specs.declared.statement.Reference.{Reference}
+use Rattle.geo_terms.specs.TotalOrders.{delegation_total, entry_total, override_total, reference_total}
 
 module _ {X : Type 0} (before : X → X → Bool) (order : IsStrictWeakOrder before) where
   not_before_itself : (x : X) (b : Bool) → before x x ≡ b → before x x ≡ false
@@ -49,31 +42,6 @@ module _ {X : Type 0} (before : X → X → Bool) (order : IsStrictWeakOrder bef
   first_is_first (x ∷ xs) =
       let found = first_from x xs in
       subst (λ (o : Option X). MatchOption o ((x ∷ xs) ≡ []) (λ r. Contains (x ∷ xs) r × All (λ t. before t r ≡ false) (x ∷ xs))) (sym found.1) (found.2, found.3)
-
-reference_total : IsTotalOrder reference_cmp
-unfolding reference_cmp
-reference_total =
-    then_total (on_total (λ (r : Reference). size r.range) nat_cmp_total)
-    (then_total (back_total (on_total (λ (r : Reference). r.modified) nat_cmp_total))
-    (then_total (on_total (λ (r : Reference). r.range.first) nat_cmp_total)
-    (then_total (on_total (λ (r : Reference). r.url) nat_list_cmp_total)
-    (then_total (on_total (λ (r : Reference). r.slot) nat_list_cmp_total) (on_total (λ (r : Reference). r.line) nat_cmp_total)))))
-
-delegation_total : IsTotalOrder delegation_cmp
-unfolding delegation_cmp
-delegation_total =
-    then_total (on_total (λ (d : DelegationParts). size d.range) nat_cmp_total)
-    (then_total (on_total (λ (d : DelegationParts). d.range.first) nat_cmp_total)
-    (then_total (on_total (λ (d : DelegationParts). d.place.country) nat_list_cmp_total)
-    (then_total (on_total (λ (d : DelegationParts). d.slot) nat_list_cmp_total) (on_total (λ (d : DelegationParts). d.line) nat_cmp_total))))
-
-override_total : IsTotalOrder override_cmp
-unfolding override_cmp
-override_total = then_total (on_total (λ (o : Override). size o.range) nat_cmp_total) (on_total (λ (o : Override). o.range.first) nat_cmp_total)
-
-entry_total : IsTotalOrder entry_cmp
-unfolding entry_cmp
-entry_total = back_total (on_total (λ (e : Entry). e.block.len) nat_cmp_total)
 
 pub firsts_are_first : FirstsAreFirst
 firsts_are_first = record {

@@ -1,5 +1,10 @@
-pub mod FirstLemmas
-pub mod LineOrder
-pub mod NumberLemmas
+pub mod BoundaryLemmas
 pub mod Constancy
+pub mod FirstLemmas
+pub mod IndexLemmas
+pub mod LineOrder
+pub mod Members
+pub mod NumberLemmas
 pub mod PlaceLemmas
+pub mod RankLemmas
+pub mod SlotLemmas

@@ -6,6 +6,7 @@ ghost use Rattle.geo_terms.specs.PlaceForm.{country_fits, country_of_region, is_
 ghost use Rattle.geo_terms.specs.SaidOf.{said_of, said_by};
 
 use crate::place::{Place, PlaceFault, Said};
+use crate::texts::Texts;
 use geo_addr::{Memory, Text};
 use std::alloc::Global;
 
@@ -29,6 +30,22 @@ pub fn place_of(
     ensures refused { IfErr (said_of country.now region.now city.now postal.now) (λ fault. result ≡ Err fault) }
     ensures otherwise { OnOk (said_of country.now region.now city.now postal.now) (IsOkUnless result PlaceFault.Memory) }
 {
+    place_in(&mut Texts::new(alloc), country, region, city, postal)
+}
+
+/// What `place_of` gives, with texts that came before in this source given again.
+#[tactic(auto, unfolding(crate::specs::SaidOf::said_of))]
+pub fn place_in(
+    texts: &mut Texts,
+    country: &str,
+    region: &str,
+    city: &str,
+    postal: &str,
+) -> Result<Said, PlaceFault>
+    ensures said { IfOk result (λ said. said_of country.now region.now city.now postal.now ≡ Ok said) }
+    ensures refused { IfErr (said_of country.now region.now city.now postal.now) (λ fault. result ≡ Err fault) }
+    ensures otherwise { OnOk (said_of country.now region.now city.now postal.now) (IsOkUnless result PlaceFault.Memory) }
+{
     if !country_fits(country) {
         return Err(PlaceFault::Country);
     }
@@ -38,14 +55,14 @@ pub fn place_of(
     if !lengths_fit(city, postal) {
         return Err(PlaceFault::TooLong);
     }
-    Ok(said_in_form(alloc, country, region, city, postal)?)
+    Ok(said_in_form(texts, country, region, city, postal)?)
 }
 
 /// The place that a country code alone names, or `None` where it is not two letters, or is `ZZ`.
 ///
 /// The code is read in either case and kept in upper case.
 #[tactic(auto, using(crate::proofs::PlaceLemmas::country_in_form), unfolding(crate::specs::PlaceForm::place_of_country))]
-pub fn country_place(alloc: Global, country: &[u8]) -> Result<Option<Place>, Memory>
+pub fn country_place(texts: &mut Texts, country: &[u8]) -> Result<Option<Place>, Memory>
     ensures { IfOk result (λ place. place ≡ place_of_country country.now) }
 {
     let [first, second] = country else {
@@ -54,13 +71,13 @@ pub fn country_place(alloc: Global, country: &[u8]) -> Result<Option<Place>, Mem
     if !first.is_ascii_alphabetic() || !second.is_ascii_alphabetic() {
         return Ok(None);
     }
-    let country = pair_text(alloc, *first, *second)?;
+    let country = pair_text(texts, *first, *second)?;
     if is_nowhere(&country) {
         return Ok(None);
     }
-    let region = Text::of(alloc, "")?;
-    let city = Text::of(alloc, "")?;
-    let postal = Text::of(alloc, "")?;
+    let region = texts.shared("")?;
+    let city = texts.shared("")?;
+    let postal = texts.shared("")?;
     Ok(Some(Place {
         country,
         region,
@@ -72,7 +89,7 @@ pub fn country_place(alloc: Global, country: &[u8]) -> Result<Option<Place>, Mem
 // What fields that are in form say.
 #[tactic(auto, using(crate::proofs::PlaceLemmas::place_in_form))]
 fn said_in_form(
-    alloc: Global,
+    texts: &mut Texts,
     country: &str,
     region: &str,
     city: &str,
@@ -83,13 +100,13 @@ fn said_in_form(
     requires lengths { IsTrue (lengths_fit city.now postal.now) }
     ensures { IfOk result (λ said. said ≡ said_by (parts_of country.now region.now city.now postal.now)) }
 {
-    let country = country_text(alloc, country, region)?;
-    let region = upper_text(alloc, region)?;
+    let country = country_text(texts, country, region)?;
+    let region = upper_text(texts, region)?;
     if says_nothing(&country, &region, city, postal) {
         return Ok(Said::Nothing);
     }
-    let city = Text::of(alloc, city)?;
-    let postal = Text::of(alloc, postal)?;
+    let city = texts.shared(city)?;
+    let postal = texts.shared(postal)?;
     Ok(Said::At(Place {
         country,
         region,
@@ -120,37 +137,43 @@ fn is_nowhere(country: &Text) -> bool
 
 // The country in upper case: the field's own, or that of the region.
 #[tactic(auto, using(crate::proofs::PlaceLemmas::letters_of_region))]
-fn country_text(alloc: Global, country: &str, region: &str) -> Result<Text, Memory>
+fn country_text(texts: &mut Texts, country: &str, region: &str) -> Result<Text, Memory>
     requires { IsTrue (region_fits region.now) }
     ensures { IfOk result (λ text. text ≡ (parts_of country.now region.now [] []).country) }
 {
     if !country.is_empty() {
-        return upper_text(alloc, country);
+        return upper_text(texts, country);
     }
     match region.as_bytes() {
-        [first, second, ..] => pair_text(alloc, *first, *second),
-        _ => Text::of(alloc, ""),
+        [first, second, ..] => pair_text(texts, *first, *second),
+        _ => texts.shared(""),
     }
 }
 
 // Two ASCII letters as a text in upper case.
-fn pair_text(alloc: Global, first: u8, second: u8) -> Result<Text, Memory>
+fn pair_text(texts: &mut Texts, first: u8, second: u8) -> Result<Text, Memory>
     requires first { first < 128 }
     requires second { second < 128 }
     ensures { IfOk result (λ text. text ≡ upper (first ∷ second ∷ [])) }
 {
-    let mut pair = String::new(alloc);
-    pair.push(first.to_ascii_uppercase() as char)?;
-    pair.push(second.to_ascii_uppercase() as char)?;
-    Ok(Text::from_string(pair))
+    let first = first.to_ascii_uppercase();
+    let second = second.to_ascii_uppercase();
+    if let Some(found) = texts.known(&[first, second])? {
+        return Ok(found);
+    }
+    let mut pair = String::new(texts.alloc());
+    pair.push(first as char)?;
+    pair.push(second as char)?;
+    let text = Text::from_string(pair)?;
+    texts.kept(text)
 }
 
-fn upper_text(alloc: Global, text: &str) -> Result<Text, Memory>
+fn upper_text(texts: &mut Texts, text: &str) -> Result<Text, Memory>
     ensures { IfOk result (λ copy. copy ≡ upper text.now) }
 {
-    let mut copy = String::from_str(alloc, text)?;
+    let mut copy = String::from_str(texts.alloc(), text)?;
     copy.make_ascii_uppercase();
-    Ok(Text::from_string(copy))
+    texts.shared(copy.as_str())
 }
 
 #[tactic(auto, unfolding(crate::specs::PlaceForm::country_fits))]

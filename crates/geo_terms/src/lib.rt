@@ -1,7 +1,9 @@
 //! Places, statements, notes and sources: what the readers make, and the definitions of who speaks for an address.
 #![tactic(auto)]
 
+mod boundaries;
 mod fields;
+mod first_index;
 pub mod laws;
 mod note;
 mod order;
@@ -12,11 +14,14 @@ mod source;
 mod statement;
 #[cfg(test)]
 mod tests;
+mod texts;
 
-pub use fields::{country_place, place_of};
+pub use fields::{country_place, place_in, place_of};
+pub use first_index::FirstIndex;
 pub use note::{Note, Origin, Rule, note_text};
 pub use order::Statement;
 pub use place::{Place, PlaceFault, Said};
 pub use places::{Places, PlacesFault};
 pub use source::{Dump, Feed, Overrides, SourceFault, Stats};
 pub use statement::{Delegation, Entry, Override, Reference};
+pub use texts::Texts;

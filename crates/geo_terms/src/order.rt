@@ -1,10 +1,11 @@
 //! The orders of precedence among statements that hold one address.
 ghost use Rattle.std.specs.Prelude.{◌≡◌};
+ghost use Rattle.std.specs.Cmp.{IsTotalOrder};
 ghost use Rattle.std.specs.declared.cmp.Ordering.{Ordering};
 ghost use Rattle.geo_addr.specs.Ranges.{Ends};
 
-use crate::statement::{Delegation, Override, Reference};
-use geo_addr::Range;
+use crate::statement::{Delegation, Entry, Override, Reference};
+use geo_addr::{Block, Range, range_of};
 use std::cmp::Ordering;
 
 /// A statement about a range, with its order of precedence among its kind.
@@ -13,24 +14,37 @@ pub trait Statement {
 
     ghost order: { Self → Self → Ordering };
 
+    // what every statement of the kind keeps
+    ghost kept: { Self → Type 0 };
+
     /// The addresses that the statement is about.
     fn range(&self) -> Range
-        ensures { result ≡ range self.now };
+        ensures range { result ≡ range self.now }
+        ensures kept { kept self.now };
 
     /// How the statement stands to another one of its kind: the lesser one goes first.
     fn order(&self, other: &Self) -> Ordering
         ensures { result ≡ order self.now other.now };
+
+    ghost total: { IsTotalOrder order };
 }
 
 impl Statement for Reference {
+    ghost use Rattle.geo_addr.specs.Ranges.{IsRange};
     ghost use Rattle.geo_terms.specs.Precedence.{reference_cmp};
+    ghost use Rattle.geo_terms.specs.TotalOrders.{reference_total};
 
     ghost range = { λ r. r.range };
 
     ghost order = { reference_cmp };
 
+    ghost kept = { λ r. IsRange r.range };
+
+    ghost total = { reference_total };
+
     fn range(&self) -> Range {
-        self.range
+        let Range { first, last } = self.range;
+        Range { first, last }
     }
 
     #[tactic(auto, unfolding(crate::specs::Precedence::reference_cmp))]
@@ -45,14 +59,21 @@ impl Statement for Reference {
 }
 
 impl Statement for Delegation {
+    ghost use Rattle.geo_terms.specs.DelegationForm.{IsDelegation};
     ghost use Rattle.geo_terms.specs.Precedence.{delegation_cmp};
+    ghost use Rattle.geo_terms.specs.TotalOrders.{delegation_total};
 
     ghost range = { λ d. d.range };
 
     ghost order = { delegation_cmp };
 
+    ghost kept = { IsDelegation };
+
+    ghost total = { delegation_total };
+
     fn range(&self) -> Range {
-        self.range
+        let Range { first, last } = self.range;
+        Range { first, last }
     }
 
     #[tactic(auto, unfolding(crate::specs::Precedence::delegation_cmp))]
@@ -66,18 +87,49 @@ impl Statement for Delegation {
 }
 
 impl Statement for Override {
+    ghost use Rattle.geo_addr.specs.Ranges.{IsRange};
     ghost use Rattle.geo_terms.specs.Precedence.{override_cmp};
+    ghost use Rattle.geo_terms.specs.TotalOrders.{override_total};
 
     ghost range = { λ o. o.range };
 
     ghost order = { override_cmp };
 
+    ghost kept = { λ o. IsRange o.range };
+
+    ghost total = { override_total };
+
     fn range(&self) -> Range {
-        self.range
+        let Range { first, last } = self.range;
+        Range { first, last }
     }
 
     #[tactic(auto, unfolding(crate::specs::Precedence::override_cmp))]
     fn order(&self, other: &Override) -> Ordering {
         (self.range.size().cmp(&other.range.size())).then(self.range.first.cmp(&other.range.first))
+    }
+}
+
+impl Statement for Entry {
+    ghost use Rattle.geo_addr.specs.Ranges.{IsBlock, range_of_block};
+    ghost use Rattle.geo_terms.specs.Precedence.{entry_cmp};
+    ghost use Rattle.geo_terms.specs.TotalOrders.{entry_total};
+
+    ghost range = { λ e. range_of_block e.block };
+
+    ghost order = { entry_cmp };
+
+    ghost kept = { λ e. IsBlock e.block };
+
+    ghost total = { entry_total };
+
+    fn range(&self) -> Range {
+        let Block { first, len } = self.block;
+        range_of(Block { first, len })
+    }
+
+    #[tactic(auto, unfolding(crate::specs::Precedence::entry_cmp))]
+    fn order(&self, other: &Entry) -> Ordering {
+        other.block.len.cmp(&self.block.len)
     }
 }

@@ -1,5 +1,4 @@
 use geo_addr::{Memory, Text};
-use std::alloc::Global;
 use std::marker::Model;
 use thiserror::Error;
 
@@ -30,15 +29,15 @@ impl Model for Place {
 impl Place {
     ghost use Rattle.std.specs.Prelude.{◌≡◌, IfOk};
 
-    /// A second copy of this place.
-    pub fn copied(&self, alloc: Global) -> Result<Place, Memory>
+    /// A second place of the same four texts.
+    pub fn copied(&self) -> Result<Place, Memory>
         ensures { IfOk result (λ place. place ≡ self.now) }
     {
         Ok(Place {
-            country: self.country.copied(alloc)?,
-            region: self.region.copied(alloc)?,
-            city: self.city.copied(alloc)?,
-            postal: self.postal.copied(alloc)?,
+            country: self.country.copied()?,
+            region: self.region.copied()?,
+            city: self.city.copied()?,
+            postal: self.postal.copied()?,
         })
     }
 }

@@ -16,7 +16,6 @@ use thiserror::Error;
 /// The first place has number 1; a number that was given is never changed.
 #[derive(Drop)]
 pub struct Places {
-    alloc: Global,
     places: IndexSet<Place>,
 }
 
@@ -48,7 +47,6 @@ impl Places {
         ensures { result ≡ [] }
     {
         Places {
-            alloc,
             places: IndexSet::new(alloc),
         }
     }
@@ -69,7 +67,7 @@ impl Places {
         if self.places.len() >= u32::MAX as usize {
             return Err(PlacesFault::Full);
         }
-        let Ok(copy) = place.copied(self.alloc) else {
+        let Ok(copy) = place.copied() else {
             return Err(PlacesFault::Memory);
         };
         let Ok((index, _)) = self.places.insert_full(copy) else {

@@ -1,4 +1,6 @@
-use crate::{Note, Origin, PlaceFault, Places, Rule, Said, country_place, note_text, place_of};
+use crate::{
+    Note, Origin, PlaceFault, Places, Rule, Said, Texts, country_place, note_text, place_of,
+};
 use geo_addr::{Memory, Text};
 use std::alloc::Global;
 use std::test::Fail;
@@ -75,8 +77,8 @@ fn notes_have_lines(rt: HostRuntime) -> Result<(), Fail> {
 }
 
 // The number that the place of a country gets.
-fn number(alloc: Global, places: &mut Places, country: &[u8]) -> Result<u32, Fail> {
-    match country_place(alloc, country)? {
+fn number(texts: &mut Texts, places: &mut Places, country: &[u8]) -> Result<u32, Fail> {
+    match country_place(texts, country)? {
         Some(place) => Ok(places.intern(&place)?),
         None => Ok(0),
     }
@@ -93,12 +95,22 @@ fn country_at(places: &Places, number: u32) -> &str {
 #[test]
 fn equal_places_have_one_number(rt: HostRuntime) -> Result<(), Fail> {
     let alloc = rt.alloc();
+    let mut texts = Texts::new(alloc);
     let mut places = Places::new(alloc);
-    assert!(rt; number(alloc, &mut places, b"de")? == 1);
-    assert!(rt; number(alloc, &mut places, b"AT")? == 2);
-    assert!(rt; number(alloc, &mut places, b"DE")? == 1);
+    assert!(rt; number(&mut texts, &mut places, b"de")? == 1);
+    assert!(rt; number(&mut texts, &mut places, b"AT")? == 2);
+    assert!(rt; number(&mut texts, &mut places, b"DE")? == 1);
     assert!(rt; country_at(&places, 2) == "AT");
     assert!(rt; country_at(&places, 0).is_empty());
     assert!(rt; country_at(&places, 3).is_empty());
+    Ok(())
+}
+
+#[test]
+fn texts_come_again(rt: HostRuntime) -> Result<(), Fail> {
+    let mut texts = Texts::new(rt.alloc());
+    for text in ["Zürich", "", "ZH", "Zürich", "", "ZH"] {
+        assert!(rt; texts.shared(text)?.as_str() == text);
+    }
     Ok(())
 }

@@ -5,13 +5,13 @@ use Rattle.std.specs.List.{filter_map, list_all, cons_option}
 use Rattle.geo_addr.specs.Decimals.{decimal}
 use Rattle.geo_addr.specs.Lines.{numbered_lines}
 use Rattle.geo_terms.specs.PlaceForm.{same_text}
-use Rattle.geofeed_cmd.specs.declared.form.Form.{Form}
-use Rattle.geofeed_cmd.specs.declared.form.Form.TheVariants.{Epoch, TypeName, Do}
+use Rattle.geofeed_cmd.specs.declared.job.form.Form.{Form}
+use Rattle.geofeed_cmd.specs.declared.job.form.Form.TheVariants.{Epoch, TypeName, Do}
 use Rattle.geofeed_cmd.specs.declared.job.Act.TheVariants.{Stats, Emit, Report}
 use Rattle.geofeed_cmd.specs.declared.job.Job.{Job}
-use Rattle.geofeed_cmd.specs.Forms.{form_of, form_of_one, form_of_two, form_of_three, type_form, epoch_form, epoch_of, emit_form, stats_form, is_passed_over, words}
-use Rattle.geofeed_cmd.specs.Names.{is_type_name, is_name, is_slot, is_visible}
-use Rattle.geofeed_cmd.specs.Said.{SaysItsLines, form_said, is_only, name_in, name_said}
+use Rattle.geofeed_cmd.specs.Job.Forms.{form_of, form_of_one, form_of_two, form_of_three, type_form, epoch_form, epoch_of, emit_form, stats_form, is_passed_over, words}
+use Rattle.geofeed_cmd.specs.Job.Names.{is_type_name, is_name, is_slot, is_visible}
+use Rattle.geofeed_cmd.specs.Job.Said.{SaysItsLines, form_said, is_only, name_in, name_said}
 
 -- the name that a form gives, if it gives one, is short
 abbrev IsShort : Option Form → Type 0

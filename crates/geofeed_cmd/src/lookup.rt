@@ -1,13 +1,23 @@
 //! What a file says of an address.
+pub(crate) mod command;
+#[cfg(test)]
+mod command_tests;
+#[cfg(test)]
+mod json_tests;
+pub(crate) mod laws;
+#[cfg(test)]
+mod tests;
+pub(crate) mod value_json;
+
 ghost use Rattle.std.specs.Prelude.{◌≡◌, ◌++◌, ◌∷◌, [], IfOk, codes, decimal, Option, option_map};
 ghost use Rattle.geo_addr.specs.Bits.{bits_of};
 ghost use Rattle.mmdb_data.specs.View.{tree};
 ghost use Rattle.mmdb_data.specs.Reading.{reads};
 ghost use Rattle.mmdb_file.specs.Walk.{value_at as value_behind, value_read, place_at};
-ghost use Rattle.geofeed_cmd.specs.Json.{json};
+ghost use Rattle.geofeed_cmd.specs.Lookup.Json.{json};
 ghost use Rattle.geofeed_cmd.specs.Lookup.{answer, answer_of, answer_text, cause_name, file_line, Gives, open_fault};
 
-use crate::value_json::json_text;
+use crate::lookup::value_json::json_text;
 use geo_addr::{Addr, Memory, Text};
 use mmdb_data::{DataCause, DataFault, Value, decode};
 use mmdb_file::{Mmdb, OpenFault, WalkFault};
@@ -86,7 +96,8 @@ fn json_line(alloc: Global, value: &Value) -> Result<Text, Memory>
 {
     let json = json_text(alloc, value)?;
     let line = format!(in alloc; "{}\n", json.as_str())?;
-    Ok(Text::from_string(line))
+    let line = Text::from_string(line)?;
+    Ok(line)
 }
 
 fn no_record(alloc: Global) -> Result<Text, LookupFault>
@@ -132,7 +143,8 @@ fn value_line(alloc: Global, at: u64, cause: DataCause) -> Result<Text, Memory>
 {
     let name = cause_name(cause);
     let text = format!(in alloc; "stop file {name} {at}\n")?;
-    Ok(Text::from_string(text))
+    let text = Text::from_string(text)?;
+    Ok(text)
 }
 
 /// A cause as it is printed.

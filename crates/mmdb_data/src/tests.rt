@@ -119,7 +119,7 @@ fn text_lengths(rt: HostRuntime) -> Result<(), Fail> {
         let text = String::from_utf8(vec![in alloc; b'x'; len]?)
             .ok()
             .ok_or("no text")?;
-        let value = Value::Text(Text::from_string(text));
+        let value = Value::Text(Text::from_string(text)?);
         assert!(rt; fits(&value));
         let mut out = Vec::new(alloc);
         assert!(rt; encode(alloc, &value, &mut out).is_ok());

@@ -4,7 +4,7 @@ ghost use Rattle.nro_stats.specs.File.{longest, most, note_of, notes, row_of, ro
 
 use crate::verdict::{Verdict, read_line};
 use geo_addr::{Line, Lines, List, Memory, Text};
-use geo_terms::{Delegation, Note, Origin, SourceFault, Stats};
+use geo_terms::{Delegation, Note, Origin, SourceFault, Stats, Texts};
 use std::alloc::Global;
 
 /// The most bytes of a file.
@@ -25,8 +25,8 @@ pub fn read_stats(alloc: Global, slot: &str, bytes: &[u8]) -> Result<Stats, Sour
     if bytes.len() > LONGEST {
         return Err(SourceFault::TooLong);
     }
-    let found = read_lines(alloc, slot, bytes)?;
     let slot = Text::of(alloc, slot)?;
+    let found = read_lines(alloc, &slot, bytes)?;
     Ok(Stats {
         slot,
         rows: List::of(found.rows),
@@ -39,9 +39,10 @@ pub fn read_stats(alloc: Global, slot: &str, bytes: &[u8]) -> Result<Stats, Sour
 struct Found {
     rows: Vec<Delegation>,
     notes: Vec<Note>,
+    texts: Texts,
 }
 
-fn read_lines(alloc: Global, slot: &str, bytes: &[u8]) -> Result<Found, SourceFault>
+fn read_lines(alloc: Global, slot: &Text, bytes: &[u8]) -> Result<Found, SourceFault>
     ensures rows { IfOk result (λ found. found.rows.items ≡ rows slot.now bytes.now) }
     ensures notes { IfOk result (λ found. found.notes.items ≡ notes slot.now bytes.now) }
     ensures within { IfOk result (λ found. length found.rows.items ≤ most) }
@@ -51,15 +52,16 @@ fn read_lines(alloc: Global, slot: &str, bytes: &[u8]) -> Result<Found, SourceFa
     let mut found = Found {
         rows: Vec::new(alloc),
         notes: Vec::new(alloc),
+        texts: Texts::new(alloc),
     };
     for line in Lines::of(bytes) {
-        take_line(alloc, slot, line, &mut found)?;
+        take_line(slot, line, &mut found)?;
     }
     Ok(found)
 }
 
 // Adds what one more line says.
-fn take_line(alloc: Global, slot: &str, line: Line, found: &mut Found) -> Result<(), SourceFault>
+fn take_line(slot: &Text, line: Line, found: &mut Found) -> Result<(), SourceFault>
     requires { length found.old.rows.items ≤ most }
     ensures rows { OnOk result (found.new.rows.items ≡ found.old.rows.items ++ option_to_list (row_of slot.now (line.entry.number, line.entry.text.now))) }
     ensures notes { OnOk result (found.new.notes.items ≡ found.old.notes.items ++ option_to_list (note_of slot.now (line.entry.number, line.entry.text.now))) }
@@ -67,10 +69,10 @@ fn take_line(alloc: Global, slot: &str, line: Line, found: &mut Found) -> Result
     ensures too_many { result ≡ Err SourceFault.TooMany → IsSome (row_of slot.now (line.entry.number, line.entry.text.now)) × (length found.old.rows.items ≡ most) }
     ensures too_long { result ≢ Err SourceFault.TooLong }
 {
-    match read_line(alloc, line.text)? {
+    match read_line(&mut found.texts, line.text)? {
         Verdict::Silent => {}
         Verdict::Broken(rule) => {
-            let origin = Origin::Stats(Text::of(alloc, slot)?);
+            let origin = Origin::Stats(slot.copied()?);
             let note = Note {
                 origin,
                 line: line.number,
@@ -82,7 +84,7 @@ fn take_line(alloc: Global, slot: &str, line: Line, found: &mut Found) -> Result
             if found.rows.len() == MOST {
                 return Err(SourceFault::TooMany);
             }
-            let slot = Text::of(alloc, slot)?;
+            let slot = slot.copied()?;
             let row = Delegation {
                 slot,
                 line: line.number,

@@ -6,8 +6,7 @@ ghost use Rattle.nro_stats.specs.Verdicts.{PlacesCountryAlone, is_kind, is_silen
 
 use crate::record::{Record, is_skipped, is_summary_line, is_version_line};
 use geo_addr::{Block, Memory, Range, decimal, parse_addr, range_of};
-use geo_terms::{Place, Rule, country_place};
-use std::alloc::Global;
+use geo_terms::{Place, Rule, Texts, country_place};
 
 /// What a line says: nothing, a rule that it breaks, or that a range is delegated to a country.
 #[derive(Debug, Drop)]
@@ -19,7 +18,7 @@ pub(crate) enum Verdict {
 
 /// What a line says.
 #[tactic(auto, unfolding(crate::specs::Verdicts::verdict))]
-pub(crate) fn read_line(alloc: Global, line: &[u8]) -> Result<Verdict, Memory>
+pub(crate) fn read_line(texts: &mut Texts, line: &[u8]) -> Result<Verdict, Memory>
     ensures verdict { IfOk result (λ found. found ≡ verdict line.now) }
     ensures alone { IfOk result PlacesCountryAlone }
 {
@@ -27,14 +26,14 @@ pub(crate) fn read_line(alloc: Global, line: &[u8]) -> Result<Verdict, Memory>
         return Ok(Verdict::Silent);
     }
     match Record::of(line) {
-        Some(found) => judged(alloc, &found),
+        Some(found) => judged(texts, &found),
         None => Ok(Verdict::Broken(Rule::S01)),
     }
 }
 
 // What a record says: the first rule that holds of it, else nothing, else a delegation.
 #[tactic(auto, unfolding(crate::specs::Verdicts::judged))]
-fn judged(alloc: Global, found: &Record) -> Result<Verdict, Memory>
+fn judged(texts: &mut Texts, found: &Record) -> Result<Verdict, Memory>
     ensures verdict { IfOk result (λ said. said ≡ judged found.now.country.now found.now.kind.now found.now.start.now found.now.value.now found.now.status.now) }
     ensures alone { IfOk result PlacesCountryAlone }
 {
@@ -48,7 +47,7 @@ fn judged(alloc: Global, found: &Record) -> Result<Verdict, Memory>
         return Ok(Verdict::Silent);
     }
     match range_in(found.kind, found.start, found.value) {
-        Ok(range) => placed(alloc, range, found.country),
+        Ok(range) => placed(texts, range, found.country),
         Err(rule) => Ok(Verdict::Broken(rule)),
     }
 }
@@ -180,11 +179,11 @@ fn has_colon(text: &[u8]) -> bool
 
 // A delegation of a range to a country, where that is one.
 #[tactic(auto, using(crate::proofs::CountryLemmas::country_alone))]
-fn placed(alloc: Global, range: Range, country: &[u8]) -> Result<Verdict, Memory>
+fn placed(texts: &mut Texts, range: Range, country: &[u8]) -> Result<Verdict, Memory>
     ensures verdict { IfOk result (λ said. said ≡ placed range country.now) }
     ensures alone { IfOk result PlacesCountryAlone }
 {
-    match country_place(alloc, country)? {
+    match country_place(texts, country)? {
         Some(place) => Ok(Verdict::Delegated(range, place)),
         None => Ok(Verdict::Broken(Rule::S06)),
     }

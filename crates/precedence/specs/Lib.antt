@@ -1,7 +1,4 @@
-pub mod Boundaries
 pub mod CutPlaces
-pub mod Edges
 pub mod Marks
-pub mod Ranking
 pub mod Segments
-pub mod SlotOrder
+pub mod Spots

@@ -1,15 +1,12 @@
 //! The first delegation that holds an address.
-ghost use Rattle.std.specs.Prelude.{◌≡◌, ◌++◌, ◌<◌, ◌^◌, All, IfOk, OnOk, None, [], option_and_then, flat_map, map};
-ghost use Rattle.std.specs.List.Sorted.{IsNonDecreasingBy};
+ghost use Rattle.std.specs.Prelude.{◌≡◌, ◌++◌, ◌<◌, ◌^◌, IfOk, OnOk, None, [], option_and_then, flat_map, map};
 ghost use Rattle.std.specs.Option.{option_copied};
-ghost use Rattle.precedence.specs.Boundaries.{told};
-ghost use Rattle.precedence.specs.Ranking.{seen, ranked, ranked_rows, ranked_files, ranked_cmp, delegation_at, delegation_of_rank, IsDelegation, IsIndex};
+ghost use Rattle.geo_terms.specs.Boundaries.{told};
+ghost use Rattle.precedence.specs.Spots.{spots_of_rows, spots_of_files, delegation_at, delegation_of_place, IsIndex};
 
-use crate::boundaries::{Boundary, boundaries_of, told};
-use geo_addr::{Memory, Range};
-use geo_terms::{Delegation, Statement, Stats};
+use geo_addr::{Addr, Memory};
+use geo_terms::{Delegation, FirstIndex, Stats};
 use std::alloc::Global;
-use std::cmp::Ordering;
 
 // Where a delegation stands: its file among the files, and its row in there.
 #[derive(Clone, Copy, Debug)]
@@ -18,20 +15,11 @@ struct Spot {
     row: usize,
 }
 
-// A delegation, with what its order begins with.
-#[derive(Clone, Copy)]
-struct Candidate<'a> {
-    size: u128,
-    first: u128,
-    spot: Spot,
-    delegation: &'a Delegation,
-}
-
-/// The delegations of several files in their order, and the boundaries at which the first one changes.
+/// The delegations of several files, file by file, with the index of the first one at each address.
 #[derive(Debug, Drop)]
 pub struct DelegationIndex {
     spots: Vec<Spot>,
-    boundaries: Vec<Boundary>,
+    firsts: FirstIndex,
 }
 
 /// The index of no files.
@@ -40,7 +28,7 @@ pub fn no_delegations(alloc: Global) -> DelegationIndex
 {
     DelegationIndex {
         spots: Vec::new(alloc),
-        boundaries: Vec::new(alloc),
+        firsts: FirstIndex::new(alloc),
     }
 }
 
@@ -48,12 +36,10 @@ pub fn no_delegations(alloc: Global) -> DelegationIndex
 pub fn index_of(alloc: Global, stats: &[Stats]) -> Result<DelegationIndex, Memory>
     ensures { IfOk result (λ index. IsIndex stats.now index) }
 {
-    let mut candidates = candidates_of(alloc, stats)?;
-    candidates.sort_unstable_by(|x, y| order(x, y));
-    let ranges = ranges_of(alloc, candidates.as_slice())?;
-    let spots = spots_of(alloc, candidates.as_slice())?;
-    let boundaries = boundaries_of(alloc, ranges.as_slice())?;
-    Ok(DelegationIndex { spots, boundaries })
+    let rows = rows_of(alloc, stats)?;
+    let firsts = FirstIndex::of(alloc, rows.as_slice())?;
+    let spots = spots_of(alloc, stats)?;
+    Ok(DelegationIndex { spots, firsts })
 }
 
 /// The first delegation that holds an address, by an index of the files.
@@ -62,12 +48,11 @@ pub fn first_delegation<'a>(
     stats: &'a [Stats],
     at: u128,
 ) -> Option<&'a Delegation>
-    requires { IsNonDecreasingBy (λ b. b.at) index.now.boundaries.items }
-    ensures found { option_copied result ≡ option_and_then (delegation_of_rank stats.entry.now index.entry.now.spots.items) (told None index.entry.now.boundaries.items at) }
+    ensures found { option_copied result ≡ option_and_then (delegation_of_place stats.entry.now index.entry.now.spots.items) (told None index.entry.now.firsts at) }
     ensures within { at < 2 ^ 128 }
 {
-    let rank = told(index.boundaries.as_slice(), at)?;
-    let spot = index.spots.as_slice().get(rank)?;
+    let place = index.firsts.place_at(Addr(at))?;
+    let spot = index.spots.as_slice().get(place)?;
     row_at(stats, *spot)
 }
 
@@ -78,68 +63,42 @@ fn row_at<'a>(stats: &'a [Stats], spot: Spot) -> Option<&'a Delegation>
     file.rows.as_slice().get(spot.row)
 }
 
-fn candidates_of<'a>(alloc: Global, stats: &'a [Stats]) -> Result<Vec<Candidate<'a>>, Memory>
-    ensures found { IfOk result (λ candidates. map seen candidates.items ≡ ranked_files 0 stats.entry.now) }
-    ensures rows { OnOk result (All (λ t. All IsDelegation t.rows) stats.entry.now) }
+// The delegations of all files, borrowed.
+fn rows_of<'a>(alloc: Global, stats: &'a [Stats]) -> Result<Vec<&'a Delegation>, Memory>
+    ensures { IfOk result (λ rows. map (λ d. d.now) rows.items ≡ flat_map (λ t. t.rows) stats.entry.now) }
 {
-    let mut candidates = Vec::new(alloc);
-    for (file, source) in stats.iter().enumerate() {
-        push_rows(&mut candidates, file, source.rows.as_slice())?;
+    let mut rows = Vec::new(alloc);
+    for file in stats {
+        push_rows(&mut rows, file.rows.as_slice())?;
     }
-    Ok(candidates)
+    Ok(rows)
 }
 
-fn push_rows<'a>(
-    candidates: &mut Vec<Candidate<'a>>,
-    file: usize,
-    rows: &'a [Delegation],
-) -> Result<(), Memory>
-    ensures found { OnOk result (map seen candidates.new.items ≡ map seen candidates.old.items ++ ranked_rows file 0 rows.entry.now) }
-    ensures rows { OnOk result (All IsDelegation rows.entry.now) }
+fn push_rows<'a>(rows: &mut Vec<&'a Delegation>, more: &'a [Delegation]) -> Result<(), Memory>
+    ensures { OnOk result (map (λ d. d.now) rows.new.items ≡ map (λ d. d.now) rows.old.items ++ more.entry.now) }
 {
-    for (row, delegation) in rows.iter().enumerate() {
-        candidates.push(make_candidate(Spot { file, row }, delegation))?;
+    for row in more {
+        rows.push(row)?;
     }
     Ok(())
 }
 
-fn make_candidate<'a>(spot: Spot, delegation: &'a Delegation) -> Candidate<'a>
-    ensures seen { seen result ≡ ranked spot delegation.entry.now }
-    ensures delegation { IsDelegation delegation.entry.now }
+// Where the delegations of all files stand, in the same order.
+fn spots_of(alloc: Global, stats: &[Stats]) -> Result<Vec<Spot>, Memory>
+    ensures { IfOk result (λ spots. spots.items ≡ spots_of_files 0 stats.now) }
 {
-    Candidate {
-        size: delegation.range.size(),
-        first: delegation.range.first,
-        spot,
-        delegation,
+    let mut spots = Vec::new(alloc);
+    for (file, source) in stats.iter().enumerate() {
+        push_spots(&mut spots, file, source.rows.as_slice())?;
     }
-}
-
-#[tactic(auto, unfolding(crate::specs::Ranking::ranked_cmp))]
-fn order(x: &Candidate, y: &Candidate) -> Ordering
-    ensures { result ≡ ranked_cmp (seen x.entry.now) (seen y.entry.now) }
-{
-    (x.size.cmp(&y.size))
-        .then(x.first.cmp(&y.first))
-        .then_with(|| x.delegation.order(y.delegation))
-}
-
-fn ranges_of(alloc: Global, candidates: &[Candidate]) -> Result<Vec<Range>, Memory>
-    ensures { IfOk result (λ ranges. ranges.items ≡ map (λ c. c.delegation.now.range) candidates.entry.now) }
-{
-    let ranges = candidates
-        .iter()
-        .map(|candidate| candidate.delegation.range())
-        .collect(alloc)?;
-    Ok(ranges)
-}
-
-fn spots_of(alloc: Global, candidates: &[Candidate]) -> Result<Vec<Spot>, Memory>
-    ensures { IfOk result (λ spots. spots.items ≡ map (λ c. c.spot) candidates.entry.now) }
-{
-    let spots = candidates
-        .iter()
-        .map(|candidate| candidate.spot)
-        .collect(alloc)?;
     Ok(spots)
+}
+
+fn push_spots(spots: &mut Vec<Spot>, file: usize, rows: &[Delegation]) -> Result<(), Memory>
+    ensures { OnOk result (spots.new.items ≡ spots.old.items ++ spots_of_rows file 0 rows.now) }
+{
+    for (row, _) in rows.iter().enumerate() {
+        spots.push(Spot { file, row })?;
+    }
+    Ok(())
 }

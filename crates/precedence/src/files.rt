@@ -3,7 +3,7 @@ ghost use Rattle.std.specs.Prelude.{◌≡◌, ◌<◌, ◌≤◌, ◌++◌, [],
 ghost use Rattle.std.specs.declared.cmp.Ordering.{Ordering};
 ghost use Rattle.std.specs.List.Sorted.{IsBinarySearchResult, IsSearchInRange};
 ghost use Rattle.geo_terms.specs.Precedence.{text_cmp};
-ghost use Rattle.precedence.specs.Ranking.{IsIndex};
+ghost use Rattle.precedence.specs.Spots.{IsIndex};
 
 use crate::delegations::{DelegationIndex, index_of};
 use geo_addr::{Memory, Range, Text};

@@ -1,7 +1,6 @@
 //! All sources in force: the record of an address, the report, cut points and segments.
 #![tactic(auto)]
 
-mod boundaries;
 mod delegations;
 mod files;
 mod notes;

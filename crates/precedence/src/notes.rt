@@ -13,38 +13,38 @@ pub fn notes_of(alloc: Global, files: &[Stats]) -> Result<Vec<Note>, Memory>
 {
     let mut notes = Vec::new(alloc);
     for file in files {
-        push_notes(alloc, &mut notes, file)?;
+        push_notes(&mut notes, file)?;
     }
     Ok(notes)
 }
 
-fn push_notes(alloc: Global, notes: &mut Vec<Note>, file: &Stats) -> Result<(), Memory>
+fn push_notes(notes: &mut Vec<Note>, file: &Stats) -> Result<(), Memory>
     ensures notes { OnOk result (notes.new.items ≡ notes.old.items ++ file.now.notes) }
     ensures file { OnOk result (IsStats file.now) }
 {
     for note in file.notes.as_slice() {
-        notes.push(copied(alloc, note)?)?;
+        notes.push(copied(note)?)?;
     }
     Ok(())
 }
 
-fn copied(alloc: Global, note: &Note) -> Result<Note, Memory>
+fn copied(note: &Note) -> Result<Note, Memory>
     ensures { IfOk result (λ copy. copy ≡ note.now) }
 {
     Ok(Note {
-        origin: same_origin(alloc, &note.origin)?,
+        origin: same_origin(&note.origin)?,
         line: note.line,
         rule: note.rule,
     })
 }
 
-fn same_origin(alloc: Global, origin: &Origin) -> Result<Origin, Memory>
+fn same_origin(origin: &Origin) -> Result<Origin, Memory>
     ensures { IfOk result (λ copy. copy ≡ origin.now) }
 {
     match origin {
-        Origin::Rpsl(slot) => Ok(Origin::Rpsl(slot.copied(alloc)?)),
-        Origin::Feed(url) => Ok(Origin::Feed(url.copied(alloc)?)),
-        Origin::Stats(slot) => Ok(Origin::Stats(slot.copied(alloc)?)),
+        Origin::Rpsl(slot) => Ok(Origin::Rpsl(slot.copied()?)),
+        Origin::Feed(url) => Ok(Origin::Feed(url.copied()?)),
+        Origin::Stats(slot) => Ok(Origin::Stats(slot.copied()?)),
         Origin::Overrides => Ok(Origin::Overrides),
     }
 }

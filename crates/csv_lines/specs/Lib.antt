@@ -1,0 +1,6 @@
+pub mod Clean
+pub mod Fields
+pub mod FieldsLaw
+pub mod Repeats
+pub mod Rests
+pub mod Seen

@@ -1,0 +1,71 @@
+-- What is left of a line without its comment, and how `csv` reads it (RFC 8805 section 2, RFC 4180 section 2).
+use Rattle.std.specs.Prelude.{◌≡◌, ℕ, ◌+◌, Result, Bool, true, false, not, is_some, List, [], ◌∷◌, ◌++◌, flat_map, Option, Some, None, unwrap_or, get_or, if◌then◌else◌}
+use Rattle.std.specs.Str.{is_utf8}
+use Rattle.geo_addr.specs.Lines.{pieces, trimmed}
+use Rattle.geo_terms.specs.PlaceForm.{is_empty}
+use Rattle.csv.specs.Machine.{next_record}
+use Rattle.csv.specs.Reading.{Ready, default_config, reader_config, reader_state, reader_trim, source_of}
+use Rattle.csv.specs.declared.parser.State.TheVariants as st
+use Rattle.csv.specs.declared.reader.Reader.{Reader}
+use Rattle.csv.specs.declared.reader.Trim.TheVariants as trim
+use Rattle.geo_terms.specs.SaidOf.{said_of}
+use Rattle.geo_terms.specs.declared.place.PlaceFault.{PlaceFault}
+use Rattle.geo_terms.specs.declared.place.Said.{Said}
+use Rattle.csv_lines.specs.Fields.{values_of}
+use Rattle.csv_lines.specs.declared.rest.Content.{Content}
+use Rattle.csv_lines.specs.declared.rest.Content.TheVariants.{Blank, NotText, NoFields, Fields}
+
+abbrev pub first_piece : List (List ℕ) → List ℕ
+first_piece [] = []
+first_piece (piece ∷ more) = piece
+
+-- a line up to its first `#`, which also counts between quotes, without the blanks around what is left
+abbrev pub rest_of : List ℕ → List ℕ
+rest_of line = trimmed (first_piece (pieces 35 line))
+
+-- what a rest has: nothing, no UTF-8, no fields, or fields
+abbrev pub content_of : List ℕ → Content
+content_of rest =
+    if is_empty rest then Blank
+    else (if not (is_utf8 rest) then NotText
+    else (if is_some (values_of rest) then Fields else NoFields))
+
+-- the fields of a rest, with their quotes taken off
+abbrev pub row_of : List ℕ → List (List ℕ)
+row_of rest = unwrap_or (values_of rest) []
+
+-- a field without the blanks around it; missing fields are empty
+abbrev pub column : ℕ → List (List ℕ) → List ℕ
+column i row = trimmed (get_or row i [])
+
+-- what of a rest is handed to `csv`: one that has fields, as a line of its own
+abbrev pub handed_by : Content → List ℕ → List ℕ
+handed_by Blank rest = []
+handed_by NotText rest = []
+handed_by NoFields rest = []
+handed_by Fields rest = rest ++ (10 ∷ [])
+
+unfoldable pub handed : List ℕ → List ℕ
+handed line = handed_by (content_of (rest_of line)) (rest_of line)
+
+-- what of numbered lines is handed to `csv`
+abbrev pub all_handed : List (ℕ × List ℕ) → List ℕ
+all_handed lines = flat_map (λ l. handed l.1) lines
+
+-- a `csv` reader with its defaults at the start of a record, of which what it has left reads as these bytes
+pub record Stands {R : Type 0} (source : R → Option (List ℕ)) (reader : Reader R) (left : List ℕ) : Type 0 where
+  pub ready : Ready reader
+  pub trim : reader_trim reader ≡ trim.None
+  pub config : reader_config reader ≡ default_config
+  pub state : reader_state reader ≡ st.StartRecord
+  pub bytes : List ℕ
+  pub held : source_of source reader ≡ Some bytes
+  pub reads : next_record default_config st.StartRecord [] [] bytes ≡ next_record default_config st.StartRecord [] [] left
+
+-- a reader stands where the rest of a line, and of those after it, was handed over
+abbrev pub CanRead : {R : Type 0} → (R → Option (List ℕ)) → Reader R → List ℕ → Type 0
+CanRead source reader line = (left : List ℕ) × Stands source reader (handed line ++ left)
+
+-- what four fields from a place on say of a location: country, region, city and postal code
+abbrev pub said_in : ℕ → List (List ℕ) → Result Said PlaceFault
+said_in place row = said_of (column place row) (column (place + 1) row) (column (place + 2) row) (column (place + 3) row)

@@ -1,0 +1,32 @@
+-- How lines of the same range are found: by the first line of each range.
+use Rattle.std.specs.Prelude.{◌≡◌, ℕ, ◌<◌, ◌⊎◌, Bool, true, false, not, ◌&&◌, ◌||◌, nat_lt, List, fold, Option, Some, None, if◌then◌else◌}
+use Rattle.geo_addr.specs.Ranges.{Ends}
+use Rattle.geo_terms.specs.Report.{same_ends}
+use Rattle.geo_terms.specs.declared.place.Said.{Said}
+use Rattle.csv_lines.specs.Repeats.{same_said}
+use Rattle.csv_lines.specs.declared.fate.Seen.{Seen}
+use Rattle.csv_lines.specs.declared.fate.Fate.{Fate}
+use Rattle.csv_lines.specs.declared.fate.Fate.TheVariants.{Kept, Repeats, Differs}
+
+-- a range begins above another, or where it does and ends above it
+abbrev pub IsBelow : Ends → Ends → Type 0
+IsBelow a b = (a.first < b.first) ⊎ ((a.first ≡ b.first) × (a.last < b.last))
+
+-- what becomes of a line whose range shows this
+abbrev pub fate_by : Option Seen → ℕ → Fate
+fate_by None line = Kept
+fate_by (Some s) line = if s.differs then Differs else (if nat_lt s.line line then Repeats else Kept)
+
+module _ {X : Type 0} (line : X → ℕ) (range : X → Ends) (said : X → Said) where
+  -- what is shown with one more line of the range
+  abbrev pub more : Option Seen → X → Seen
+  more None x = record { line = line x; said = said x; differs = false }
+  more (Some s) x = record { line = s.line; said = s.said; differs = s.differs || not (same_said (said x) s.said) }
+
+  -- what is shown of a range with one more line
+  abbrev pub with_row : Option Seen → X → Ends → Option Seen
+  with_row s x k = if same_ends (range x) k then Some (more s x) else s
+
+  -- what lines show of a range
+  abbrev pub shown : List X → Ends → Option Seen
+  shown rows k = fold (λ s x. with_row s x k) None rows

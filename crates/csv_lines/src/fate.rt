@@ -1,0 +1,334 @@
+//! Lines about the same range.
+ghost use Rattle.std.specs.Prelude.{◌≡◌, ℕ, IfOk, IsTrue, AllPairs, filter, filter_map, length, map, OnOk, MatchOption, ◌++◌, option_to_list};
+ghost use Rattle.std.specs.Option.{option_copied};
+ghost use Rattle.geo_addr.specs.Ranges.{Ends};
+ghost use Rattle.geo_terms.specs.Report.{same_ends};
+ghost use Rattle.geo_terms.specs.declared.place.Said.{Said};
+ghost use Rattle.indexmap.specs.IndexMap.{get};
+ghost use Rattle.csv_lines.specs.Repeats.{Rises, fate, fault_by, is_kept_by, kept, merged, repeat_faults, same_said};
+ghost use Rattle.csv_lines.specs.Seen.{IsBelow, fate_by, shown, with_row};
+ghost use Rattle.csv_lines.specs.declared.fate.Fate.{Fate};
+
+use crate::fault::{Fault, merged};
+use geo_addr::{Memory, Range, range_of};
+use geo_terms::{Entry, Override, Rule, Said};
+use indexmap::IndexMap;
+use std::alloc::Global;
+
+/// A line that was accepted: what it is about and what it says.
+pub trait Accepted {
+    ghost line: { Self → ℕ };
+
+    ghost range: { Self → Ends };
+
+    ghost said: { Self → Said };
+
+    fn line(&self) -> u64
+        ensures { result ≡ line self.now };
+
+    /// The addresses that the line is about.
+    fn range(&self) -> Range
+        ensures { result ≡ range self.now };
+
+    fn said(&self) -> &Said
+        ensures { result.now ≡ said self.now };
+}
+
+impl Accepted for Entry {
+    ghost use Rattle.geo_addr.specs.Ranges.{range_of_block};
+
+    ghost line = { λ e. e.line };
+
+    ghost range = { λ e. range_of_block e.block };
+
+    ghost said = { λ e. e.said };
+
+    fn line(&self) -> u64 {
+        self.line
+    }
+
+    fn range(&self) -> Range {
+        range_of(self.block)
+    }
+
+    fn said(&self) -> &Said {
+        &self.said
+    }
+}
+
+impl Accepted for Override {
+    ghost line = { λ o. o.line };
+
+    ghost range = { λ o. o.range };
+
+    ghost said = { λ o. o.said };
+
+    fn line(&self) -> u64 {
+        self.line
+    }
+
+    fn range(&self) -> Range {
+        self.range
+    }
+
+    fn said(&self) -> &Said {
+        &self.said
+    }
+}
+
+/// What becomes of an accepted line among those of the same range.
+#[derive(Clone, Copy, Debug, PartialEq, Eq)]
+pub enum Fate {
+    /// It is the first, and all say the same.
+    Kept,
+    /// An earlier one says the same.
+    Repeats,
+    /// Two of them differ.
+    Differs,
+}
+
+/// The rules that repeated lines break.
+#[derive(Clone, Copy, Debug)]
+pub struct RepeatRules {
+    /// A line that repeats an earlier one.
+    pub repeats: Rule,
+    /// A line of a range of which two lines differ.
+    pub differs: Rule,
+}
+
+/// Lines in line order of which those that speak are left, and the faults.
+#[derive(Debug, Drop)]
+pub struct Judged<T> {
+    pub rows: Vec<T>,
+    pub faults: Vec<Fault>,
+}
+
+/// Leaves of the accepted lines those that speak, and puts the faults of the others to those of the
+/// refused lines.
+///
+/// Both lists are in line order, and share no line.
+pub fn judge<T: Accepted + Drop>(
+    alloc: Global,
+    rows: Vec<T>,
+    faults: Vec<Fault>,
+    rules: RepeatRules,
+) -> Result<Judged<T>, Memory>
+    requires { Rises 0 (map T.line rows.items) }
+    ensures rows { IfOk result (λ judged. judged.rows.items ≡ kept T.line T.range T.said rows.items) }
+    ensures faults { IfOk result (λ judged. judged.faults.items ≡ merged (repeat_faults T.line T.range T.said rules rows.items) faults.items) }
+{
+    if rises(rows.as_slice()) {
+        return Ok(Judged { rows, faults });
+    }
+    let mut rows = rows;
+    let fates = fates(alloc, rows.as_slice())?;
+    let repeated = repeat_faults(alloc, rows.as_slice(), fates.as_slice(), rules)?;
+    let faults = merged(alloc, repeated.as_slice(), faults.as_slice())?;
+    keep(&mut rows, fates.as_slice());
+    Ok(Judged { rows, faults })
+}
+
+// Whether each range is above the one before: then no two are the same.
+fn rises<T: Accepted>(rows: &[T]) -> bool
+    ensures { IsTrue result → AllPairs (λ x y. IsBelow (T.range x) (T.range y)) rows.now }
+{
+    let mut before: Option<Range> = None;
+    for row in rows {
+        let range = row.range();
+        if !follows(before, range) {
+            return false;
+        }
+        before = Some(range);
+    }
+    true
+}
+
+// Whether a range is above the one before, if there is one.
+fn follows(before: Option<Range>, range: Range) -> bool
+    ensures { IsTrue result → MatchOption before (Unit {0}) (λ b. IsBelow b range) }
+{
+    match before {
+        Some(before) => is_below(before, range),
+        None => true,
+    }
+}
+
+fn is_below(one: Range, other: Range) -> bool
+    ensures { IsTrue result → IsBelow one other }
+{
+    if one.first == other.first {
+        one.last < other.last
+    } else {
+        one.first < other.first
+    }
+}
+
+// What becomes of each line.
+fn fates<T: Accepted>(alloc: Global, rows: &[T]) -> Result<Vec<Fate>, Memory>
+    requires { Rises 0 (map T.line rows.now) }
+    ensures { IfOk result (λ fates. fates.items ≡ map (fate T.line T.range T.said rows.now) rows.now) }
+{
+    let seen = seen_in(alloc, rows)?;
+    let mut fates = Vec::with_capacity(alloc, rows.len())?;
+    for row in rows {
+        fates.push(fate_in(&seen, row)).map_err(Memory::from)?;
+    }
+    Ok(fates)
+}
+
+// The first line of a range, and whether a later one differs from it.
+#[derive(Debug, Drop)]
+struct Seen {
+    line: u64,
+    said: Said,
+    differs: bool,
+}
+
+// What the lines show, by their ranges.
+fn seen_in<T: Accepted>(alloc: Global, rows: &[T]) -> Result<IndexMap<Range, Seen>, Memory>
+    ensures { IfOk result (λ seen. (k : Ends) → get same_ends seen k ≡ shown T.line T.range T.said rows.now k) }
+{
+    let mut seen: IndexMap<Range, Seen> = IndexMap::new(alloc);
+    for row in rows {
+        see(&mut seen, row)?;
+    }
+    Ok(seen)
+}
+
+// Takes one more line.
+fn see<T: Accepted>(seen: &mut IndexMap<Range, Seen>, row: &T) -> Result<(), Memory>
+    ensures { (k : Ends) → OnOk result (get same_ends seen.new k ≡ with_row T.line T.range T.said (get same_ends seen.old k) row.now k) }
+{
+    let range = row.range();
+    if let Some(found) = seen.get_mut(&range) {
+        if !says_same(row.said(), &found.said) {
+            found.differs = true;
+        }
+        return Ok(());
+    }
+    let first = Seen {
+        line: row.line(),
+        said: said_again(row.said())?,
+        differs: false,
+    };
+    let Ok(_) = seen.insert(range, first) else {
+        return Err(Memory);
+    };
+    Ok(())
+}
+
+// A second copy of what a line says.
+fn said_again(said: &Said) -> Result<Said, Memory>
+    ensures { IfOk result (λ copy. copy ≡ said.now) }
+{
+    match said {
+        Said::Nothing => Ok(Said::Nothing),
+        Said::At(place) => {
+            let place = place.copied()?;
+            Ok(Said::At(place))
+        }
+    }
+}
+
+fn says_same(one: &Said, other: &Said) -> bool
+    ensures { result ≡ same_said one.now other.now }
+{
+    match one {
+        Said::Nothing => match other {
+            Said::Nothing => true,
+            Said::At(_) => false,
+        },
+        Said::At(place) => match other {
+            Said::Nothing => false,
+            Said::At(other) => place == other,
+        },
+    }
+}
+
+fn fate_in<T: Accepted>(seen: &IndexMap<Range, Seen>, row: &T) -> Fate
+    ensures { result ≡ fate_by (get same_ends seen.now (T.range row.now)) (T.line row.now) }
+{
+    fate_of(seen.get(&row.range()), row.line())
+}
+
+fn fate_of(seen: Option<&Seen>, line: u64) -> Fate
+    ensures { result ≡ fate_by (option_copied seen.entry) line }
+{
+    let Some(seen) = seen else {
+        return Fate::Kept;
+    };
+    if seen.differs {
+        Fate::Differs
+    } else if seen.line < line {
+        Fate::Repeats
+    } else {
+        Fate::Kept
+    }
+}
+
+// The faults of the lines that do not speak.
+fn repeat_faults<T: Accepted>(
+    alloc: Global,
+    rows: &[T],
+    fates: &[Fate],
+    rules: RepeatRules,
+) -> Result<Vec<Fault>, Memory>
+    requires { length fates.now ≡ length rows.now }
+    ensures { (f : T → Fate) → fates.now ≡ map f rows.now → IfOk result (λ faults. faults.items ≡ filter_map (λ x. fault_by rules (T.line x) (f x)) rows.now) }
+{
+    let mut faults = Vec::new(alloc);
+    for (at, row) in rows.iter().enumerate() {
+        push_some(&mut faults, fault_of(rules, row.line(), fates[at]))?;
+    }
+    Ok(faults)
+}
+
+fn push_some(faults: &mut Vec<Fault>, fault: Option<Fault>) -> Result<(), Memory>
+    ensures { OnOk result (faults.new.items ≡ faults.old.items ++ option_to_list fault) }
+{
+    if let Some(fault) = fault {
+        faults.push(fault).map_err(Memory::from)?;
+    }
+    Ok(())
+}
+
+fn fault_of(rules: RepeatRules, line: u64, fate: Fate) -> Option<Fault>
+    ensures { result ≡ fault_by rules line fate }
+{
+    match fate {
+        Fate::Kept => None,
+        Fate::Repeats => Some(Fault {
+            line,
+            rule: rules.repeats,
+        }),
+        Fate::Differs => Some(Fault {
+            line,
+            rule: rules.differs,
+        }),
+    }
+}
+
+// Leaves the lines that are kept.
+fn keep<T: Drop>(rows: &mut Vec<T>, fates: &[Fate])
+    requires { length fates.now ≡ length rows.old.items }
+    ensures { (f : T → Fate) → fates.now ≡ map f rows.old.items → rows.new.items ≡ filter (λ x. is_kept_by (f x)) rows.old.items }
+{
+    let mut count = 0;
+    for at in 0..fates.len() {
+        if is_kept(fates[at]) {
+            rows.swap(count, at);
+            count += 1;
+        }
+    }
+    rows.truncate(count);
+}
+
+fn is_kept(fate: Fate) -> bool
+    ensures { result ≡ is_kept_by fate }
+{
+    match fate {
+        Fate::Kept => true,
+        Fate::Repeats => false,
+        Fate::Differs => false,
+    }
+}

@@ -1,0 +1,17 @@
+//! Lines of comma-separated fields with comments, as feeds and overrides have them.
+#![tactic(auto)]
+
+mod fate;
+mod fault;
+pub mod laws;
+mod rest;
+mod rows;
+mod scan;
+#[cfg(test)]
+mod tests;
+
+pub use fate::{Accepted, Fate, Judged, RepeatRules, judge};
+pub use fault::Fault;
+pub use rest::{Content, content_of, rest_of};
+pub use rows::{all_handed, column, next_row, reader_of, said_in};
+pub use scan::has_fields;

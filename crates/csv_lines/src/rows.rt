@@ -1,0 +1,135 @@
+//! The fields of all lines that have any, read by one `csv` reader.
+ghost use Rattle.std.specs.Prelude.{◌≡◌, ◌≢◌, [], ◌∷◌, ◌++◌, ◌<◌, ℕ, List, Some, IfOk, OnOk};
+ghost use Rattle.geo_addr.specs.Lines.{numbered_lines};
+ghost use Rattle.csv.specs.Records.{fields_of};
+ghost use Rattle.csv_lines.specs.Fields.{values_of};
+ghost use Rattle.csv_lines.specs.Rests.{CanRead, Stands, all_handed, column, content_of, handed, rest_of, row_of, said_in};
+ghost use Rattle.csv_lines.specs.declared.rest.Content.{Content};
+
+use crate::rest::{Content, content_of, rest_of};
+use csv::{ByteRecord, Reader, ReaderBuilder};
+use geo_addr::{Lines, Memory, trim_blanks};
+use geo_terms::{PlaceFault, Said, Texts, place_in};
+use std::alloc::Global;
+use std::str;
+
+/// What is handed to `csv` of a file: a line feed, and the rest of each line that has fields, each as
+/// a line of its own.
+///
+/// The line feed in front keeps `csv` from taking a byte order mark off the first rest.
+pub fn all_handed(alloc: Global, file: &[u8]) -> Result<Vec<u8>, Memory>
+    ensures { IfOk result (λ handed. handed.items ≡ 10 ∷ all_handed (numbered_lines file.now)) }
+{
+    let mut handed = Vec::with_capacity(alloc, file.len())?;
+    handed.push(b'\n').map_err(Memory::from)?;
+    for line in Lines::of(file) {
+        hand(line.text, &mut handed)?;
+    }
+    Ok(handed)
+}
+
+// Hands over the rest of a line where it has fields.
+#[tactic(auto, unfolding(crate::specs::Rests::handed))]
+fn hand(line: &[u8], all: &mut Vec<u8>) -> Result<(), Memory>
+    ensures { OnOk result (all.new.items ≡ all.old.items ++ handed line.now) }
+{
+    let rest = rest_of(line);
+    match content_of(rest) {
+        Content::Blank => {}
+        Content::NotText => {}
+        Content::NoFields => {}
+        Content::Fields => {
+            all.extend_from_slice(rest)?;
+            all.push(b'\n').map_err(Memory::from)?;
+        }
+    }
+    Ok(())
+}
+
+/// The reader of what was handed over.
+pub fn reader_of(alloc: Global, handed: &[u8]) -> Reader<&[u8]>
+    ensures { (left : List ℕ) → handed.now ≡ 10 ∷ left → Stands (λ s. Some s.now) result left }
+{
+    ReaderBuilder::new()
+        .has_headers(false)
+        .flexible(true)
+        .from_reader(alloc, handed)
+}
+
+/// What the rest of a line has; where it has fields, the reader's next row is read.
+///
+/// The reader is that of the file of the line, and its lines are taken one after another.
+pub fn next_row(
+    reader: &mut Reader<&[u8]>,
+    line: &[u8],
+    row: &mut ByteRecord,
+) -> Result<Content, Memory>
+    requires { CanRead (λ s. Some s.now) reader.old line.now }
+    ensures content { IfOk result (λ content. content ≡ content_of (rest_of line.now)) }
+    ensures row { IfOk result (λ content. content ≡ Content.Fields → fields_of row.new ≡ row_of (rest_of line.now)) }
+    ensures stands { (left : List ℕ) → Stands (λ s. Some s.now) reader.old (handed line.now ++ left) → OnOk result (Stands (λ s. Some s.now) reader.new left) }
+{
+    let content = content_of(rest_of(line));
+    match content {
+        Content::Blank => {}
+        Content::NotText => {}
+        Content::NoFields => {}
+        Content::Fields => read_row(reader, row)?,
+    }
+    Ok(content)
+}
+
+// Reads the next row.
+fn read_row(reader: &mut Reader<&[u8]>, row: &mut ByteRecord) -> Result<(), Memory>
+    ensures { (text left : List ℕ) → (values : List (List ℕ)) → text ≢ [] → values_of text ≡ Some values → Stands (λ s. Some s.now) reader.old (text ++ (10 ∷ left))
+        → OnOk result ((fields_of row.new ≡ values) × Stands (λ s. Some s.now) reader.new left) }
+{
+    match reader.read_byte_record(row) {
+        Ok(_) => Ok(()),
+        Err(_) => Err(Memory),
+    }
+}
+
+/// A field of a row by its place from 0, without the blanks around it; a missing one is empty.
+pub fn column(row: &ByteRecord, place: usize) -> &[u8]
+    ensures { result.now ≡ column place (fields_of row.now) }
+{
+    match row.get(place) {
+        Some(field) => trim_blanks(field),
+        None => &[],
+    }
+}
+
+/// What four fields from a place on say of a location, or the first of their faults: country, region,
+/// city and postal code.
+#[tactic(auto, using(crate::proofs::RestLemmas::fault_told))]
+pub fn said_in(
+    texts: &mut Texts,
+    row: &ByteRecord,
+    place: usize,
+) -> Result<Result<Said, PlaceFault>, Memory>
+    requires { place < 8 }
+    ensures { IfOk result (λ said. said ≡ said_in place (fields_of row.now)) }
+{
+    let country = text_column(row, place)?;
+    let region = text_column(row, place + 1)?;
+    let city = text_column(row, place + 2)?;
+    let postal = text_column(row, place + 3)?;
+    match place_in(texts, country, region, city, postal) {
+        Ok(said) => Ok(Ok(said)),
+        Err(PlaceFault::Country) => Ok(Err(PlaceFault::Country)),
+        Err(PlaceFault::Region) => Ok(Err(PlaceFault::Region)),
+        Err(PlaceFault::TooLong) => Ok(Err(PlaceFault::TooLong)),
+        Err(PlaceFault::Memory) => Err(Memory),
+    }
+}
+
+// A field of a row by its place, as a text.
+fn text_column(row: &ByteRecord, place: usize) -> Result<&str, Memory>
+    ensures { IfOk result (λ text. text.now ≡ column place (fields_of row.now)) }
+{
+    match str::from_utf8(column(row, place)) {
+        Ok(text) => Ok(text),
+        Err(_) => Err(Memory),
+    }
+}

@@ -1,0 +1,131 @@
+//! A feed.
+ghost use Rattle.std.specs.Prelude.{◌≡◌, ◌≢◌, ◌<◌, ◌≤◌, ◌↔◌, ◌++◌, ℕ, List, Some, length, map, IfOk, IsSome, OnOk, option_to_list};
+ghost use Rattle.csv_lines.specs.Rests.{CanRead, Stands, handed};
+ghost use Rattle.feed_csv.specs.File.{accepted, refused, entry_of, fault_of, feed, longest, most, note_of};
+
+use crate::verdict::{Verdict, read_line};
+use csv::{ByteRecord, Reader};
+use csv_lines::{Fault, RepeatRules, all_handed, judge, reader_of};
+use geo_addr::{Line, Lines, List, Memory, Text};
+use geo_terms::{Entry, Feed, Note, Origin, Rule, SourceFault, Texts};
+use std::alloc::Global;
+
+/// The most bytes of a file.
+const LONGEST: usize = 67_108_864;
+
+/// The most lines that pass the line rules.
+const MOST: usize = 2_097_152;
+
+/// Reads a geofeed (RFC 8805): the entries and the notes of its lines.
+///
+/// A file is too long over 67,108,864 bytes, and has too many statements where over 2,097,152 lines
+/// pass the rules of a line by itself.
+pub fn read_feed(alloc: Global, url: &str, bytes: &[u8]) -> Result<Feed, SourceFault>
+    ensures read { IfOk result (λ found. found ≡ feed url.now bytes.now) }
+    ensures within { OnOk result (length (accepted bytes.now) ≤ most) }
+    ensures too_long { (result ≡ Err SourceFault.TooLong) ↔ (longest < length bytes.now) }
+    ensures too_many { result ≡ Err SourceFault.TooMany → most < length (accepted bytes.now) }
+{
+    if bytes.len() > LONGEST {
+        return Err(SourceFault::TooLong);
+    }
+    let found = read_lines(alloc, bytes)?;
+    let rules = RepeatRules {
+        repeats: Rule::F07,
+        differs: Rule::F08,
+    };
+    let judged = judge(alloc, found.entries, found.faults, rules)?;
+    let url = Text::of(alloc, url)?;
+    let notes = notes_of(alloc, &url, judged.faults.as_slice())?;
+    Ok(Feed {
+        url,
+        entries: List::of(judged.rows),
+        notes: List::of(notes),
+    })
+}
+
+// What is found in the lines so far.
+#[derive(Drop)]
+struct Found {
+    entries: Vec<Entry>,
+    faults: Vec<Fault>,
+    texts: Texts,
+    row: ByteRecord,
+}
+
+// The entries and the faults of the lines by themselves.
+fn read_lines(alloc: Global, bytes: &[u8]) -> Result<Found, SourceFault>
+    ensures entries { IfOk result (λ found. found.entries.items ≡ accepted bytes.now) }
+    ensures faults { IfOk result (λ found. found.faults.items ≡ refused bytes.now) }
+    ensures within { IfOk result (λ found. length found.entries.items ≤ most) }
+    ensures too_many { result ≡ Err SourceFault.TooMany → most < length (accepted bytes.now) }
+    ensures too_long { result ≢ Err SourceFault.TooLong }
+{
+    let handed = all_handed(alloc, bytes)?;
+    let mut reader = reader_of(alloc, handed.as_slice());
+    let mut found = Found {
+        entries: Vec::new(alloc),
+        faults: Vec::new(alloc),
+        texts: Texts::new(alloc),
+        row: ByteRecord::new(alloc),
+    };
+    for line in Lines::of(bytes) {
+        take_line(line, &mut reader, &mut found)?;
+    }
+    Ok(found)
+}
+
+// Adds what one more line says.
+fn take_line(
+    line: Line,
+    reader: &mut Reader<&[u8]>,
+    found: &mut Found,
+) -> Result<(), SourceFault>
+    requires few { length found.old.entries.items ≤ most }
+    requires reads { CanRead (λ s. Some s.now) reader.old line.text.now }
+    ensures entries { OnOk result (found.new.entries.items ≡ found.old.entries.items ++ option_to_list (entry_of (line.entry.number, line.entry.text.now))) }
+    ensures faults { OnOk result (found.new.faults.items ≡ found.old.faults.items ++ option_to_list (fault_of (line.entry.number, line.entry.text.now))) }
+    ensures within { OnOk result (length found.new.entries.items ≤ most) }
+    ensures stands { (left : List ℕ) → Stands (λ s. Some s.now) reader.old (handed line.entry.text.now ++ left) → OnOk result (Stands (λ s. Some s.now) reader.new left) }
+    ensures too_many { result ≡ Err SourceFault.TooMany → IsSome (entry_of (line.entry.number, line.entry.text.now)) × (length found.old.entries.items ≡ most) }
+    ensures too_long { result ≢ Err SourceFault.TooLong }
+{
+    match read_line(reader, line.text, &mut found.row, &mut found.texts)? {
+        Verdict::Silent => {}
+        Verdict::Broken(rule) => {
+            let fault = Fault {
+                line: line.number,
+                rule,
+            };
+            found.faults.push(fault).map_err(Memory::from)?;
+        }
+        Verdict::Accepted(block, said) => {
+            if found.entries.len() == MOST {
+                return Err(SourceFault::TooMany);
+            }
+            let entry = Entry {
+                line: line.number,
+                block,
+                said,
+            };
+            found.entries.push(entry).map_err(Memory::from)?;
+        }
+    }
+    Ok(())
+}
+
+// The notes on the lines that have faults.
+fn notes_of(alloc: Global, url: &Text, faults: &[Fault]) -> Result<Vec<Note>, Memory>
+    ensures { IfOk result (λ notes. notes.items ≡ map (note_of url.now) faults.now) }
+{
+    let mut notes = Vec::with_capacity(alloc, faults.len())?;
+    for fault in faults {
+        let note = Note {
+            origin: Origin::Feed(url.copied()?),
+            line: fault.line,
+            rule: fault.rule,
+        };
+        notes.push(note).map_err(Memory::from)?;
+    }
+    Ok(notes)
+}

@@ -1,0 +1,84 @@
+//! What a line says by itself.
+ghost use Rattle.std.specs.Prelude.{◌≡◌, ◌++◌, ℕ, List, Some, IfOk, OnOk};
+ghost use Rattle.csv.specs.Records.{fields_of};
+ghost use Rattle.csv_lines.specs.Rests.{CanRead, Stands, handed, said_in};
+ghost use Rattle.feed_csv.specs.Verdicts.{accepted_at, block_rule, place_rule, row_verdict, verdict};
+
+use csv::{ByteRecord, Reader};
+use csv_lines::{Content, column, next_row, said_in};
+use geo_addr::{Block, BlockFault, Memory, parse_block};
+use geo_terms::{PlaceFault, Rule, Said, Texts};
+
+/// What a line says: nothing, a rule that it breaks, or what is said of a block.
+#[derive(Debug, Drop)]
+pub(crate) enum Verdict {
+    Silent,
+    Broken(Rule),
+    Accepted(Block, Said),
+}
+
+/// What the next line of the reader's file says.
+#[tactic(auto, unfolding(crate::specs::Verdicts::verdict))]
+pub(crate) fn read_line(
+    reader: &mut Reader<&[u8]>,
+    line: &[u8],
+    row: &mut ByteRecord,
+    texts: &mut Texts,
+) -> Result<Verdict, Memory>
+    requires { CanRead (λ s. Some s.now) reader.old line.now }
+    ensures verdict { IfOk result (λ found. found ≡ verdict line.now) }
+    ensures stands { (left : List ℕ) → Stands (λ s. Some s.now) reader.old (handed line.now ++ left) → OnOk result (Stands (λ s. Some s.now) reader.new left) }
+{
+    match next_row(reader, line, row)? {
+        Content::Blank => Ok(Verdict::Silent),
+        Content::NotText => Ok(Verdict::Broken(Rule::F01)),
+        Content::NoFields => Ok(Verdict::Broken(Rule::F02)),
+        Content::Fields => row_verdict(texts, row),
+    }
+}
+
+// What fields say: the first rule that they break, else an entry.
+fn row_verdict(texts: &mut Texts, row: &ByteRecord) -> Result<Verdict, Memory>
+    ensures { IfOk result (λ found. found ≡ row_verdict (fields_of row.now)) }
+{
+    let prefix = column(row, 0);
+    if prefix.is_empty() {
+        return Ok(Verdict::Broken(Rule::F03));
+    }
+    match parse_block(prefix) {
+        Ok(block) => accepted_at(texts, block, row),
+        Err(fault) => Ok(Verdict::Broken(block_rule(fault))),
+    }
+}
+
+fn accepted_at(texts: &mut Texts, block: Block, row: &ByteRecord) -> Result<Verdict, Memory>
+    ensures { IfOk result (λ found. found ≡ accepted_at block (said_in 1 (fields_of row.now))) }
+{
+    match said_in(texts, row, 1)? {
+        Ok(said) => Ok(Verdict::Accepted(block, said)),
+        Err(fault) => Ok(Verdict::Broken(place_rule(fault))),
+    }
+}
+
+fn block_rule(fault: BlockFault) -> Rule
+    ensures { result ≡ block_rule fault }
+{
+    match fault {
+        BlockFault::Address => Rule::F04,
+        BlockFault::Length => Rule::F04,
+        BlockFault::HostBits => Rule::F04,
+        BlockFault::InV4Space => Rule::F11,
+        BlockFault::Reversed => Rule::F04,
+    }
+}
+
+fn place_rule(fault: PlaceFault) -> Rule
+    ensures { result ≡ place_rule fault }
+{
+    match fault {
+        PlaceFault::Country => Rule::F05,
+        PlaceFault::Region => Rule::F06,
+        PlaceFault::TooLong => Rule::F10,
+        PlaceFault::Memory => Rule::F10,
+    }
+}
