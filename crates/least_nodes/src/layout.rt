@@ -7,17 +7,18 @@ ghost use Rattle.least_nodes.specs.Laws.{IsFewest};
 ghost use Rattle.least_nodes.specs.Order.{trees_of, AreOf, nodes_after, places_after, IsDoneBelow};
 
 use crate::seen::Seen;
-use geo_addr::{List, Memory};
+use geo_addr::Memory;
+use indexmap::IndexSet;
 use std::alloc::Global;
-use trie_core::{NodeId, Rec, Root, Store};
+use trie_core::{Near, NodeId, Rec, Root, Store};
 
 /// The different nodes under a root, and the numbers of the different places among their leaves, each in
 /// the order in which a walk first comes to them that takes a node before its children and the left
 /// child before the right one.
-#[derive(Debug, PartialEq, Eq, Drop)]
+#[derive(Drop)]
 pub struct Layout {
-    pub nodes: List<NodeId>,
-    pub leaves: List<u32>,
+    pub nodes: IndexSet<NodeId, Near>,
+    pub leaves: IndexSet<u32>,
 }
 
 /// The layout of the tree that the root means. A root that is a leaf has no nodes. The work follows the
@@ -25,31 +26,21 @@ pub struct Layout {
 pub fn order(alloc: Global, store: &Store, root: Root) -> Result<Layout, Memory>
     requires { IsRootOf store.now root }
     ensures nodes { IfOk result
-        (λ layout. trees_of store.now layout.nodes ≡ inner nat_eq (tree_of store.now root)) }
-    ensures of { IfOk result (λ layout. AreOf store.now layout.nodes) }
-    ensures leaves { IfOk result (λ layout. layout.leaves ≡ place_order (tree_of store.now root)) }
+        (λ layout. trees_of store.now layout.nodes.keys ≡ inner nat_eq (tree_of store.now root)) }
+    ensures of { IfOk result (λ layout. AreOf store.now layout.nodes.keys) }
+    ensures leaves { IfOk result (λ layout. layout.leaves.keys ≡ place_order (tree_of store.now root)) }
 
     // No list of nodes that answers as the tree does is shorter.
     ensures least { IfOk result
-        (λ layout. IsFewest 128 (tree_of store.now root) (length layout.nodes)) }
-    ensures few { IfOk result (λ layout. length layout.nodes ≤ length store.now) }
+        (λ layout. IsFewest 128 (tree_of store.now root) (length layout.nodes.keys)) }
+    ensures few { IfOk result (λ layout. length layout.nodes.keys ≤ length store.now) }
 {
     let rec = store.rec_of(root);
     let mut seen = Seen::new(alloc);
     visit(store, rec, &mut seen)?;
-    listed(alloc, &seen)
-}
-
-// What was seen, in order.
-fn listed(alloc: Global, seen: &Seen) -> Result<Layout, Memory>
-    ensures nodes { IfOk result (λ layout. layout.nodes ≡ seen.now.nodes.keys) }
-    ensures leaves { IfOk result (λ layout. layout.leaves ≡ seen.now.places.keys) }
-{
-    let nodes = seen.nodes.as_slice().to_vec(alloc)?;
-    let leaves = seen.places.as_slice().to_vec(alloc)?;
     Ok(Layout {
-        nodes: List::of(nodes),
-        leaves: List::of(leaves),
+        nodes: seen.nodes,
+        leaves: seen.places,
     })
 }
 

@@ -6,12 +6,12 @@ ghost use Rattle.least_nodes.specs.Order.{places_after, IsNoted};
 use geo_addr::Memory;
 use indexmap::IndexSet;
 use std::alloc::Global;
-use trie_core::NodeId;
+use trie_core::{Near, NodeId};
 
 /// The nodes and the places that a walk has come to, each once, in the order of the first visits.
 #[derive(Drop)]
 pub(crate) struct Seen {
-    pub(crate) nodes: IndexSet<NodeId>,
+    pub(crate) nodes: IndexSet<NodeId, Near>,
     pub(crate) places: IndexSet<u32>,
 }
 
@@ -22,7 +22,7 @@ impl Seen {
         ensures places { result.places.keys ≡ [] }
     {
         Seen {
-            nodes: IndexSet::new(alloc),
+            nodes: IndexSet::with_hasher(alloc, Near::new()),
             places: IndexSet::new(alloc),
         }
     }

@@ -1,13 +1,9 @@
 //! The numbers that stand for the records of a store.
 ghost use Rattle.std.specs.Prelude.{◌≡◌, ◌+◌, ◌^◌, ◌<◌, ◌≤◌, ℕ, [], length, slice_index, IfOk};
-ghost use Rattle.least_nodes.specs.Layout.{each_once};
 ghost use Rattle.mmdb_file.specs.Writing.{record_number};
 
-use geo_addr::Memory;
 use indexmap::IndexSet;
-use std::alloc::Global;
-use std::hash::Hash;
-use trie_core::{NodeId, Rec};
+use trie_core::{Near, NodeId, Rec};
 
 /// The bytes between the search tree and the data section.
 pub(crate) const GAP: u64 = 16;
@@ -16,7 +12,7 @@ pub(crate) const GAP: u64 = 16;
 #[derive(Drop)]
 pub(crate) struct Numbers {
     pub(crate) count: u32,
-    pub(crate) nodes: IndexSet<NodeId>,
+    pub(crate) nodes: IndexSet<NodeId, Near>,
     pub(crate) places: IndexSet<u32>,
     pub(crate) starts: Vec<u64>,
 }
@@ -62,15 +58,4 @@ fn start_at(starts: &[u64], index: usize) -> u64
         Some(start) => *start,
         None => 0,
     }
-}
-
-/// The set of these items, in their order.
-pub(crate) fn set_of<T: Eq + Hash + Copy>(alloc: Global, items: &[T]) -> Result<IndexSet<T>, Memory>
-    ensures { IfOk result (λ set. set.keys ≡ each_once T.eq [] items.now) }
-{
-    let mut set = IndexSet::with_capacity(alloc, items.len())?;
-    for item in items {
-        set.insert(*item)?;
-    }
-    Ok(set)
 }

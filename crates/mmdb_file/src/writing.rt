@@ -8,9 +8,8 @@ ghost use Rattle.geo_terms.specs.Numbers.{place_at};
 ghost use Rattle.trie_core.specs.Tree.{tree};
 ghost use Rattle.trie_core.specs.Store.{IsOf, IsRootOf, leaf_at, tree_of};
 ghost use Rattle.geo_terms.specs.PlaceForm.{PlaceParts};
-ghost use Rattle.least_nodes.specs.Layout.{each_once};
 ghost use Rattle.least_nodes.specs.Order.{AreOf};
-ghost use Rattle.mmdb_file.specs.Writing.{nodes_from, number_of, same_id, place_tree, count_for, section_for, end_for, AnswersPlaces, FindsPlaces};
+ghost use Rattle.mmdb_file.specs.Writing.{nodes_from, number_of, place_tree, count_for, section_for, end_for, AnswersPlaces, FindsPlaces};
 ghost use Rattle.least_nodes.specs.NodeList.{Member};
 ghost use Rattle.mmdb_tree.specs.Laws.{NodeFits};
 ghost use Rattle.mmdb_tree.specs.Nodes.{limit, smallest, record_size, tree_bytes};
@@ -23,10 +22,10 @@ use crate::laws::written_file_is_walked;
 use crate::marker::MARKER;
 use crate::metadata::{Meta, metadata_of};
 use crate::nodes::{nodes_of, put_nodes};
-use crate::numbers::{Numbers, set_of};
+use crate::numbers::Numbers;
 use geo_addr::Memory;
 use geo_terms::Places;
-use least_nodes::order;
+use least_nodes::{Layout, order};
 use mmdb_data::encode;
 use mmdb_tree::{Bits, record_bits};
 use std::alloc::Global;
@@ -85,14 +84,15 @@ pub fn write_file(
     numbers_to_places(store, root, places);
     let tree = store.rec_of(root);
     let layout = order(alloc, store, root)?;
-    let (ids, leaves) = (layout.nodes.as_slice(), layout.leaves.as_slice());
+    let leaves = layout.leaves.as_slice();
     let section = data_of(alloc, places, leaves)?;
-    let count = ids.len().max(1);
+    let count = layout.nodes.len().max(1);
     let len = section.bytes.len();
     let Some(bits) = bits_for(count, len) else {
         return Err(FileFault::TooLarge);
     };
-    let numbers = numbers_of(alloc, count as u32, ids, leaves, section.starts)?;
+    let numbers = numbers_of(count as u32, layout, section.starts);
+    let ids = numbers.nodes.as_slice();
     let bytes = written(
         alloc,
         store,
@@ -129,26 +129,18 @@ fn numbers_to_places(store: &Store, root: Root, places: &Places)
     let _ = places.len();
 }
 
-fn numbers_of(
-    alloc: Global,
-    count: u32,
-    ids: &[NodeId],
-    leaves: &[u32],
-    starts: Vec<u64>,
-) -> Result<Numbers, Memory>
-    ensures count { IfOk result (λ numbers. numbers.count ≡ count) }
-    ensures nodes { IfOk result (λ numbers. numbers.nodes.keys ≡ each_once same_id [] ids.now) }
-    ensures places { IfOk result (λ numbers. numbers.places.keys ≡ each_once nat_eq [] leaves.now) }
-    ensures starts { IfOk result (λ numbers. numbers.starts.items ≡ starts.items) }
+fn numbers_of(count: u32, layout: Layout, starts: Vec<u64>) -> Numbers
+    ensures count { result.count ≡ count }
+    ensures nodes { result.nodes.keys ≡ layout.nodes.keys }
+    ensures places { result.places.keys ≡ layout.leaves.keys }
+    ensures starts { result.starts.items ≡ starts.items }
 {
-    let nodes = set_of(alloc, ids)?;
-    let places = set_of(alloc, leaves)?;
-    Ok(Numbers {
+    Numbers {
         count,
-        nodes,
-        places,
+        nodes: layout.nodes,
+        places: layout.leaves,
         starts,
-    })
+    }
 }
 
 fn written(

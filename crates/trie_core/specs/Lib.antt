@@ -1,6 +1,7 @@
 pub mod Compact
 pub mod Graft
 pub mod Laws
+pub mod NearHash
 pub mod Paint
 pub mod Store
 pub mod Tree

@@ -4,6 +4,7 @@ ghost use Rattle.trie_core.specs.declared.node.Root.{Root};
 ghost use Rattle.trie_core.specs.Store.{meaning, tree_of, IsOf, IsRootOf, IsKept, AddedUnder, IsSound};
 ghost use Rattle.trie_core.specs.Compact.{AreRootsOf, trees_of_roots, HoldsExactly, AreTaken, AreRootsTaken, IsNumbered};
 
+use crate::near::Near;
 use crate::node::{NodeId, Pair, Rec, Root};
 use crate::store::Store;
 use geo_addr::Memory;
@@ -13,8 +14,8 @@ use std::alloc::Global;
 /// The nodes that were taken along, in the order in which they came, and their pairs in the new store.
 #[derive(Drop)]
 struct Taken {
-    nodes: IndexSet<NodeId>,
-    pairs: IndexSet<Pair>,
+    nodes: IndexSet<NodeId, Near>,
+    pairs: IndexSet<Pair, Near>,
 }
 
 impl Store {
@@ -87,8 +88,8 @@ impl Taken {
         ensures pairs { result.pairs.keys ≡ [] }
     {
         Taken {
-            nodes: IndexSet::new(alloc),
-            pairs: IndexSet::new(alloc),
+            nodes: IndexSet::with_hasher(alloc, Near::new()),
+            pairs: IndexSet::with_hasher(alloc, Near::new()),
         }
     }
 

@@ -5,11 +5,13 @@ mod compact;
 mod fault;
 mod graft;
 pub mod laws;
+mod near;
 mod node;
 mod paint;
 mod store;
 
 pub use fault::StoreFault;
+pub use near::{Near, NearHasher};
 pub use node::{NodeId, Pair, Rec, Root};
 pub use paint::Part;
 pub use store::Store;

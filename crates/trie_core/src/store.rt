@@ -4,6 +4,7 @@ ghost use Rattle.trie_core.specs.Tree.{leaf, node, height, join};
 ghost use Rattle.trie_core.specs.Store.{meaning, tree_of, leaf_at, record_of, pair_of, node_number, IsOf, IsRootOf, GrowsBy, IsKept, NeedsNew, AddedUnder, IsAdded, IsSound};
 
 use crate::fault::StoreFault;
+use crate::near::Near;
 use crate::node::{NodeId, Pair, Rec, Root};
 use geo_addr::Addr;
 use geo_outside::Steps;
@@ -22,7 +23,7 @@ const MOST_NODES: usize = 0xffff_ffff;
 /// records and roots of this store: those that it gave, before or after whatever refusals.
 #[derive(Drop)]
 pub struct Store {
-    pub(crate) pairs: IndexSet<Pair>,
+    pub(crate) pairs: IndexSet<Pair, Near>,
 }
 
 impl Model for Store {
@@ -43,7 +44,7 @@ impl Store {
         ensures { result ≡ [] }
     {
         Store {
-            pairs: IndexSet::new(alloc),
+            pairs: IndexSet::with_hasher(alloc, Near::new()),
         }
     }
 
@@ -166,7 +167,7 @@ fn same_leaf(left: Rec, right: Rec) -> Option<u32>
 }
 
 // The number of the pair in the set, into which it goes where it is not yet there.
-fn place(pairs: &mut IndexSet<Pair>, pair: Pair) -> Result<u32, StoreFault>
+fn place(pairs: &mut IndexSet<Pair, Near>, pair: Pair) -> Result<u32, StoreFault>
     requires { length pairs.old.keys < 2 ^ 32 }
     ensures at { IfOk result (λ k. slice_get pairs.new.keys k ≡ Some pair) }
     ensures ok { IfOk result (λ k. IsAdded pairs.old.keys pairs.new.keys pair) }
