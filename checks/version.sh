@@ -1,18 +1,46 @@
 #!/usr/bin/env bash
-# The toolchain's line that the program and the README name is that of the toolchain which proves them.
+# The toolchain's line that the program and the README name is that of the toolchain which proves them; and what the
+# program prints of itself, where it is built: its version, its help, and how it is used.
 set -u
 cd "$(dirname "${BASH_SOURCE[0]}")/.." || exit 1
-failed=0
-if ! command -v rt >/dev/null; then
-    echo "checks/version.sh: skipped: there is no rt"
-    exit 0
+source=$PWD/crates/geofeed/src/main.rt
+if command -v rt > /dev/null; then
+    line=$(rt version)
+    for file in README.md "$source"; do
+        if ! grep -qF "$line" "$file"; then
+            echo "checks/version.sh: $file does not name '$line'"
+            exit 1
+        fi
+    done
+else
+    echo "checks/version.sh: the toolchain's line is not looked at: there is no rt"
 fi
-line=$(rt version)
-for file in README.md crates/geofeed/src/main.rt; do
-    if ! grep -qF "$line" "$file"; then
-        echo "checks/version.sh: $file does not name '$line'"
-        failed=1
-    fi
+. checks/with_program.bash
+
+# says STATUS WORDS..: the program ends so, with what it prints in `printed` and what it says in `told`.
+says() {
+    local wanted=$1
+    shift
+    "$program" "$@" > printed 2> told
+    local status=$?
+    [ "$status" -eq "$wanted" ] || fail "'$*' ends with status $status, and not $wanted"
+}
+
+wanted=$(sed -n 's/^const VERSION: &str = "\(.*\)\\n";$/\1/p' "$source")
+for word in --version -V; do
+    says 0 "$word"
+    [ -n "$wanted" ] && [ "$(cat printed)" = "$wanted" ] && [ ! -s told ] || fail "$word prints '$(cat printed)'"
 done
-[ "$failed" -eq 0 ] && echo "checks/version.sh: passed"
-exit "$failed"
+for word in --help -h; do
+    says 0 "$word"
+    grep -q '^  geofeed build JOB ' printed && [ ! -s told ] || fail "$word prints '$(cat printed)'"
+done
+usage=$(sed -n 's/^const USAGE: &str = "\(.*\)";$/\1/p' "$source")
+for words in '' 'build' 'build job more' '-v' '--version more' 'lookup file 192.0.2.1.5'; do
+    # shellcheck disable=SC2086
+    says 2 $words
+    [ "$(cat printed)" = 'stop words' ] || fail "'$words' prints '$(cat printed)'"
+    [ -n "$usage" ] && [ "$(cat told)" = "$usage" ] || fail "'$words' says '$(cat told)'"
+done
+
+verdict

@@ -1,13 +1,18 @@
-//! Cases to be timed from outside: the first word picks a case, and the second says how large it is.
+//! Cases to be timed from outside: the first word picks a case, and the second says how large it is, or
+//! which file is read.
 //! What a case prints is counts and no times, so that its output is the same wherever it runs.
 #![tactic(auto)]
 
+mod dump;
 mod emit;
+mod fan;
 mod feed;
 mod order;
 mod paint;
+mod publish;
 mod ranges;
 mod registries;
+mod wide;
 mod write;
 
 use anyhow::{Context, bail};
@@ -20,8 +25,13 @@ fn main(rt: HostRuntime) -> anyhow::Result<()> {
     let mut words = env::args(&rt)?;
     let _program = words.next();
     let case = words.next().context("the first word is to be a case")?;
-    let size = words.next().context("the second word is to be a size")?;
-    let size: u32 = size.parse().context("the size is to be a number")?;
+    let second = words
+        .next()
+        .context("the second word is to be a size or a file")?;
+    if case.as_str() == "dump" {
+        return dump::run(&rt, second.as_str());
+    }
+    let size: u32 = second.parse().context("the size is to be a number")?;
     match case.as_str() {
         "paint" => paint::run(rt.alloc(), &rt, size),
         "fill" => order::run(rt.alloc(), &rt, size, 0),
@@ -33,6 +43,16 @@ fn main(rt: HostRuntime) -> anyhow::Result<()> {
         "scattered" => feed::run(rt.alloc(), &rt, size, true, true),
         "prepare" => write::run(rt.alloc(), &rt, size, false),
         "write" => write::run(rt.alloc(), &rt, size, true),
+        "wide" => {
+            let name = words
+                .next()
+                .context("the third word is to be a file's name")?;
+            wide::run(rt.alloc(), &rt, size, name.as_str())
+        }
+        "leaves" => publish::run(rt.alloc(), &rt, size, false),
+        "publish" => publish::run(rt.alloc(), &rt, size, true),
+        "serial" => fan::run(rt.alloc(), &rt, size, false),
+        "parallel" => fan::run(rt.alloc(), &rt, size, true),
         _ => bail!("no case is called {case}"),
     }
 }

@@ -56,7 +56,7 @@ fn add_countries(texts: &mut Texts, places: &mut Places, first: u8) -> anyhow::R
 }
 
 // The file of a store that has these parts, if it is wanted.
-fn written<L: Ledger>(
+pub(crate) fn written<L: Ledger>(
     alloc: Global,
     parts: &[Part],
     places: &Places,

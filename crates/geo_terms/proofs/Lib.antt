@@ -7,3 +7,4 @@ pub mod Members
 pub mod NumberLemmas
 pub mod PlaceLemmas
 pub mod RankLemmas
+pub mod SlotLemmas

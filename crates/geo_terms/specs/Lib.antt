@@ -1,5 +1,6 @@
 pub mod AllSources
 pub mod Boundaries
+pub mod Covering
 pub mod Cuts
 pub mod DelegationForm
 pub mod Edges
@@ -12,6 +13,7 @@ pub mod PlaceForm
 pub mod Precedence
 pub mod Report
 pub mod SaidOf
+pub mod SlotOrder
 pub mod SourceForm
 pub mod Sources
 pub mod TotalOrders

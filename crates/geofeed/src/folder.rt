@@ -1,21 +1,20 @@
 //! The current folder as the program's folder.
 ghost use Rattle.std.specs.Prelude.{◌≡◌, ◌≤◌, None, IfOk, length};
 
-use crate::whole::write_whole;
+use crate::disk::replace;
+use crate::host::HostDisk;
 use geo_addr::Text;
 use geo_outside::{Folder, FolderErr, OutErr};
-use std::fs::{File, Files, OpenFile, Permissions};
+use std::fs::{File, Files};
 use std::io::{ErrorKind, Read, Seek, SeekFrom};
 use std::{fs, io};
 
-/// How many names are tried for a new file. Only runs that were killed in mid-write leave any behind.
-const TRIES: u32 = 100;
-
 /// The files of the current folder and of those below it. It tells nothing of what they hold.
 #[derive(Drop)]
-pub(crate) struct DirFolder<'a, R: Files + AllocGlobal> {
+pub(crate) struct DirFolder<'a, R: Files<File = File> + AllocGlobal> {
     rt: &'a R,
-    open: Option<Open<R::File>>,
+    open: Option<Open>,
+    why: Option<io::Error>,
     read_faults: u64,
     put_faults: u64,
     misses: u64,
@@ -23,24 +22,30 @@ pub(crate) struct DirFolder<'a, R: Files + AllocGlobal> {
 
 /// The file that was read last. It stays open, so that all pieces of one reading are of one file.
 #[derive(Drop)]
-struct Open<F> {
+struct Open {
     name: Text,
-    file: F,
+    file: File,
 }
 
-impl<'a, R: Files + AllocGlobal> DirFolder<'a, R> {
+impl<'a, R: Files<File = File> + AllocGlobal> DirFolder<'a, R> {
     pub(crate) fn new(rt: &'a R) -> DirFolder<'a, R> {
         DirFolder {
             rt,
             open: None,
+            why: None,
             read_faults: 0,
             put_faults: 0,
             misses: 0,
         }
     }
+
+    /// Why the last call that failed did so, as the system says it.
+    pub(crate) fn why(&self) -> Option<io::Error> {
+        self.why
+    }
 }
 
-impl<R: Files + AllocGlobal> Folder for DirFolder<'_, R> {
+impl<R: Files<File = File> + AllocGlobal> Folder for DirFolder<'_, R> {
     ghost told = { λ _. None };
 
     ghost read_faults = { λ folder. folder.read_faults };
@@ -58,7 +63,8 @@ impl<R: Files + AllocGlobal> Folder for DirFolder<'_, R> {
                 self.misses = self.misses.saturating_add(1);
                 Err(FolderErr::Missing)
             }
-            Err(_) => {
+            Err(why) => {
+                self.why = Some(why);
                 self.read_faults = self.read_faults.saturating_add(1);
                 Err(FolderErr::Failed)
             }
@@ -67,9 +73,10 @@ impl<R: Files + AllocGlobal> Folder for DirFolder<'_, R> {
 
     fn put(&mut self, name: &str, bytes: &[u8]) -> Result<(), OutErr> {
         self.open = None;
-        match replace(self.rt, name, bytes) {
+        match replace(&mut HostDisk::new(self.rt), self.rt.alloc(), name, bytes) {
             Ok(()) => Ok(()),
-            Err(_) => {
+            Err(why) => {
+                self.why = Some(why);
                 self.put_faults = self.put_faults.saturating_add(1);
                 Err(OutErr::Failed)
             }
@@ -78,9 +85,9 @@ impl<R: Files + AllocGlobal> Folder for DirFolder<'_, R> {
 }
 
 // Reads once. A reading that begins, at 0 or of another name, opens the file anew.
-fn read<R: Files + AllocGlobal>(
+fn read<R: Files<File = File> + AllocGlobal>(
     rt: &R,
-    open: &mut Option<Open<R::File>>,
+    open: &mut Option<Open>,
     name: &str,
     from: u64,
     into: &mut [u8],
@@ -93,7 +100,7 @@ fn read<R: Files + AllocGlobal>(
     {
         return read_from(&mut last.file, from, into);
     }
-    let mut file = File::open(rt, name)?;
+    let mut file = opened(rt, name)?;
     let answer = read_from(&mut file, from, into);
     *open = Text::of(rt.alloc(), name)
         .ok()
@@ -101,61 +108,21 @@ fn read<R: Files + AllocGlobal>(
     answer
 }
 
+// Opens a regular file. A pipe or a terminal would have the program wait, so nothing else is opened at all.
+fn opened<R: Files<File = File>>(rt: &R, name: &str) -> io::Result<File> {
+    let there = fs::metadata(rt, name)?;
+    if there.is_dir() {
+        return Err(io::Error::from(ErrorKind::IsADirectory));
+    }
+    if !there.is_file() {
+        return Err(io::Error::new(ErrorKind::InvalidInput, "not a regular file"));
+    }
+    File::open(rt, name)
+}
+
 fn read_from<F: Read + Seek>(file: &mut F, from: u64, into: &mut [u8]) -> io::Result<usize>
     ensures { IfOk result (λ n. n ≤ length into.old) }
 {
     file.seek(SeekFrom::Start(from))?;
     file.read(into)
-}
-
-// Writes a new file beside the old one and renames it over that, so that who has the old one open or
-// mapped never sees half of the new one. The old one's mode is kept.
-fn replace<R: Files + AllocGlobal>(rt: &R, name: &str, bytes: &[u8]) -> io::Result<()> {
-    let mode = mode_of(rt, name)?;
-    let (new_name, file) = new_beside(rt, name)?;
-    let answer = match fill(file, mode, bytes) {
-        Ok(()) => fs::rename(rt, new_name.as_str(), name),
-        Err(why) => Err(why),
-    };
-    if answer.is_err() {
-        let _removed = fs::remove_file(rt, new_name.as_str());
-    }
-    answer
-}
-
-fn mode_of<R: Files>(rt: &R, name: &str) -> io::Result<Option<Permissions>> {
-    match fs::metadata(rt, name) {
-        Ok(old) => Ok(Some(old.permissions())),
-        Err(why) if why.kind() == ErrorKind::NotFound => Ok(None),
-        Err(why) => Err(why),
-    }
-}
-
-// A new file in the folder of `name`. Its own name has a blank, so no job can name it.
-fn new_beside<R: Files + AllocGlobal>(rt: &R, name: &str) -> io::Result<(String, R::File)> {
-    let folder = match name.rsplit_once('/') {
-        Some((folder, _)) => folder,
-        None => ".",
-    };
-    for number in 0..TRIES {
-        let new_name = format!(in rt.alloc(); "{folder}/.geofeed new {number}")?;
-        match File::create_new(rt, new_name.as_str()) {
-            Ok(file) => return Ok((new_name, file)),
-            Err(why) if why.kind() == ErrorKind::AlreadyExists => {}
-            Err(why) => return Err(why),
-        }
-    }
-    Err(io::Error::from(ErrorKind::AlreadyExists))
-}
-
-fn fill<F: io::Write + OpenFile + Drop>(
-    mut file: F,
-    mode: Option<Permissions>,
-    bytes: &[u8],
-) -> io::Result<()> {
-    if let Some(mode) = mode {
-        file.set_permissions(mode)?;
-    }
-    write_whole(&mut file, bytes)?;
-    file.sync_all()
 }

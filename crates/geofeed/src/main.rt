@@ -3,18 +3,23 @@
 
 ghost use Rattle.std.specs.Prelude.{◌≡◌, ◌<◌};
 
+mod disk;
 mod folder;
+mod host;
+mod limit;
+mod output;
 mod sink;
 #[cfg(test)]
 mod tests;
 mod whole;
 
 use crate::folder::DirFolder;
+use crate::output::Output;
 use crate::sink::StdSink;
 use geo_outside::{OpenGate, Sink, Steps};
 use geofeed_cmd::{Status, run};
 use std::env::Env;
-use std::fs::Files;
+use std::fs::{File, Files};
 use std::io::{Eprint, ErrorKind, Print};
 use std::marker::Brand;
 use std::process::ExitCode;
@@ -22,8 +27,7 @@ use std::sync::ledger::{Blank, Ledger};
 use std::thread::Threads;
 use std::{env, io};
 
-const USAGE: &str =
-    "usage: geofeed build JOB | geofeed lookup FILE ADDR | geofeed --help | geofeed --version";
+const USAGE: &str = "usage: geofeed build JOB | geofeed lookup FILE ADDR | geofeed -h | geofeed -V";
 
 /// What `--version` prints: the program, and the toolchain that it is proved and built with.
 const VERSION: &str = "geofeed 0.1.0 (rattle-kit-13f logic dac8208d650f15bf)\n";
@@ -34,8 +38,8 @@ geofeed compiles the location of IP addresses into MaxMind DB files.
 usage:
   geofeed build JOB          does the job's lines in order
   geofeed lookup FILE ADDR   prints the record of one address in a file
-  geofeed --help             prints this
-  geofeed --version          prints the version and the toolchain's line
+  geofeed -h, --help         prints this
+  geofeed -V, --version      prints the version and the toolchain's line
 
 JOB and FILE are names at or below the current folder, without blanks, with no part `.` or `..`.
 The exit status is 0 where all was done; docs/stops.md and geofeed(1) say what each other one means.
@@ -61,7 +65,7 @@ fn words_of<R: Env + AllocGlobal>(rt: &R) -> io::Result<Vec<String>> {
     Ok(words)
 }
 
-fn answer<R: Threads + Files + Print + Eprint + AllocGlobal, L: Ledger>(
+fn answer<R: Threads + Files<File = File> + Print + Eprint + AllocGlobal, L: Ledger>(
     rt: &R,
     words: &[String],
     blank: Blank,
@@ -70,11 +74,11 @@ fn answer<R: Threads + Files + Print + Eprint + AllocGlobal, L: Ledger>(
     requires parts { blank.parts ≡ L.parts }
     requires some { 0 < blank.parts }
 {
-    let mut out = StdSink::new(io::writer(rt));
+    let mut out = StdSink::new(Output::new(rt));
     if let [word] = words {
         match word.as_str() {
-            "--help" => return printed(&mut out, HELP),
-            "--version" => return printed(&mut out, VERSION),
+            "-h" | "--help" => return printed(&mut out, HELP),
+            "-V" | "--version" => return printed(&mut out, VERSION),
             _ => {}
         }
     }
@@ -89,10 +93,22 @@ fn answer<R: Threads + Files + Print + Eprint + AllocGlobal, L: Ledger>(
         &OpenGate,
         &mut steps,
     );
-    if status == Status::Words {
-        let _told = rt.eprintln(USAGE);
-    }
+    let _told = match status {
+        Status::Words => rt.eprintln(USAGE),
+        Status::ReadFault => tell(rt, "", folder.why()),
+        Status::WriteFault if out.why().is_some() => tell(rt, "standard output: ", out.why()),
+        Status::WriteFault => tell(rt, "", folder.why()),
+        _ => Ok(()),
+    };
     status
+}
+
+// What the system says of a call that failed, on standard error.
+fn tell(rt: &impl Eprint, what: &str, why: Option<io::Error>) -> io::Result<()> {
+    match why {
+        Some(why) => eprintln!(rt; "geofeed: {what}{why}"),
+        None => Ok(()),
+    }
 }
 
 fn printed(out: &mut impl Sink, text: &str) -> Status {

@@ -3,18 +3,29 @@ ghost use Rattle.std.specs.Prelude.{◌≡◌, None};
 
 use crate::whole::write_whole;
 use geo_outside::{OutErr, Sink};
+use std::io;
 use std::io::Write;
 
 /// A sink over a writer, which `main` gives as standard output. It tells nothing of what was written.
 #[derive(Drop)]
 pub(crate) struct StdSink<W: Write> {
     out: W,
+    why: Option<io::Error>,
     faults: u64,
 }
 
 impl<W: Write> StdSink<W> {
     pub(crate) fn new(out: W) -> StdSink<W> {
-        StdSink { out, faults: 0 }
+        StdSink {
+            out,
+            why: None,
+            faults: 0,
+        }
+    }
+
+    /// Why the last write that failed did so, as the system says it.
+    pub(crate) fn why(&self) -> Option<io::Error> {
+        self.why
     }
 }
 
@@ -26,7 +37,8 @@ impl<W: Write> Sink for StdSink<W> {
     fn write_all(&mut self, piece: &[u8]) -> Result<(), OutErr> {
         match write_whole(&mut self.out, piece) {
             Ok(()) => Ok(()),
-            Err(_) => {
+            Err(why) => {
+                self.why = Some(why);
                 self.faults = self.faults.saturating_add(1);
                 Err(OutErr::Failed)
             }

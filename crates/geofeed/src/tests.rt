@@ -24,7 +24,22 @@ fn a_put_replaces_the_file_and_keeps_its_mode(rt: HostRuntime) -> Result<(), Fai
     }
     assert_eq!(rt; fs::metadata(&rt, "f")?.permissions().mode() & 0o777, 0o640);
     assert_eq!(rt; folder.put("no/f", b"x".as_slice()), Err(OutErr::Failed));
+    assert_eq!(rt; folder.put("g", b"uvwxyz".as_slice()), Ok(()));
+    assert_eq!(rt; folder.read_at("f", 0, &mut room), Ok(4));
+    assert_eq!(rt; folder.read_at("g", 4, &mut room), Ok(2));
+    assert_eq!(rt; room.as_slice(), b"yzcd".as_slice());
     fs::remove_file(&rt, "f")?;
+    fs::remove_file(&rt, "g")?;
+    Ok(())
+}
+
+#[test]
+fn a_file_that_was_left_behind_is_taken_over(rt: HostRuntime) -> Result<(), Fail> {
+    let mut folder = DirFolder::new(&rt);
+    fs::write(&rt, "./.geofeed new 0", b"half".as_slice())?;
+    assert_eq!(rt; folder.put("h", b"whole".as_slice()), Ok(()));
+    assert!(rt; !fs::exists(&rt, "./.geofeed new 0")?);
+    fs::remove_file(&rt, "h")?;
     Ok(())
 }
 

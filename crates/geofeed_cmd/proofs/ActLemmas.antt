@@ -2,43 +2,63 @@
 use Rattle.std.proofs.Common.{◌≡◌, ℕ, ◌+◌, ◌^◌, ◌<◌, ◌≤◌, ◌⊎◌, inl, inr, Bool, true, false, cond, ltb, leb, List, [], ◌∷◌, ◌++◌, length, Option, Some, None, Result, Ok, Err, refl, sym, ◌∙◌, ap, subst, arith}
 use Rattle.std.specs.Prelude.{IfErr, OnOk, IsSomeAnd, option_map, option_and_then}
 use Rattle.std.proofs.lemmas.Bool.{lt-ltb, le-ltb, leb-true, leb-false}
-use Rattle.geo_outside.specs.Files.{Told, Spoils, after_put}
+use Rattle.geo_terms.specs.Report.{report}
 use Rattle.mmdb_file.specs.FileImage.{fresh}
 use Rattle.mmdb_tree.specs.Nodes.{smallest, record_size}
 use Rattle.mmdb_tree.specs.declared.bits.Bits.{Bits}
 use Rattle.mmdb_tree.specs.declared.bits.Bits.TheVariants.{B24, B28, B32}
-use Rattle.nro_stats.specs.File.{longest, most, rows}
+use Rattle.nro_stats.specs.File.{longest, most, stats}
+use Rattle.update_session.specs.Standing.{Stands, StandingStays}
 use Rattle.update_session.specs.State.{State, FileValue, file_of, is_too_large, node_count, section_length}
 use Rattle.geofeed_cmd.specs.declared.job.Act.{Act}
-use Rattle.geofeed_cmd.specs.declared.job.Act.TheVariants.{Stats, Emit}
+use Rattle.geofeed_cmd.specs.declared.job.Act.TheVariants.{Stats, Emit, Report}
 use Rattle.geofeed_cmd.specs.declared.job.Step.{Step}
-use Rattle.geofeed_cmd.specs.declared.stop.Halt.{Halt}
-use Rattle.geofeed_cmd.specs.declared.stop.Halt.TheVariants.{Missing, TooLong, TooMany, TooLarge, ReadFailed, PutFailed, SinkFailed, Memory}
-use Rattle.geofeed_cmd.specs.Acts.{IsUnset}
-use Rattle.geofeed_cmd.specs.World.{World, does, blocked, act_blocked, act_told, act_state, after, bytes_in, file_in, file_named, set_from, unusable}
-use Rattle.geofeed_cmd.specs.Stops.{ActPublishes, Does, Halts, IsIn, IsLeastFile, IsPublished, IsUnprinted, Prints, ActReads, ActPuts}
+use Rattle.geofeed_cmd.specs.declared.stop.Cause.{Cause}
+use Rattle.geofeed_cmd.specs.declared.stop.Cause.TheVariants.{Missing, TooLong, TooMany}
+use Rattle.geofeed_cmd.specs.declared.stop.Stop.{Stop}
+use Rattle.geofeed_cmd.specs.declared.stop.Stop.TheVariants.{Blocked, ReadFailed, PutFailed, SinkFailed, Memory}
+use Rattle.geofeed_cmd.specs.Run.Acts.{IsSet, does, effect, crowded, report_text, rows_of, set_from, uncounted, unreadable, unusable}
+use Rattle.geofeed_cmd.specs.Run.Seen.{Seen, Prints}
+use Rattle.geofeed_cmd.specs.Run.Stops.{Does, Fails, Halts, IsHindered, IsIn, IsPaid, Tail}
+use Rattle.geofeed_cmd.specs.Run.World.{World, file_in}
 
--- whether bytes are a statistics file that can be set
-pub unusable-none : (slot : List ℕ) (held : Option (List ℕ)) → held ≡ None → unusable slot held ≡ Some Missing
-unfolding unusable
-unusable-none slot held none = ap (unusable slot) none
+-- whether a file can be read whole
+pub unreadable-none : (limit : ℕ) (held : Option (List ℕ)) → held ≡ None → unreadable limit held ≡ Some Missing
+unfolding unreadable
+unreadable-none limit held none = ap (unreadable limit) none
 
-pub unusable-long : (slot : List ℕ) (held : Option (List ℕ)) → IsSomeAnd held (λ file. longest < length file) → unusable slot held ≡ Some TooLong
-unfolding unusable
-unusable-long slot None long = absurd long
-unusable-long slot (Some file) long = ap (λ b. cond b (Some TooLong) (cond (ltb most (length (rows slot file))) (Some TooMany) None)) (lt-ltb longest (length file) long)
+pub unreadable-long : (limit : ℕ) (held : Option (List ℕ)) → IsSomeAnd held (λ file. limit < length file) → unreadable limit held ≡ Some TooLong
+unfolding unreadable
+unreadable-long limit None long = absurd long
+unreadable-long limit (Some file) long = ap (λ b. cond b (Some TooLong) None) (lt-ltb limit (length file) long)
 
-pub unusable-many : (slot file : List ℕ) → length file ≤ longest → most < length (rows slot file) → unusable slot (Some file) ≡ Some TooMany
-unfolding unusable
-unusable-many slot file fits many =
-    ap (λ b. cond b (Some TooLong) (cond (ltb most (length (rows slot file))) (Some TooMany) None)) (le-ltb longest (length file) fits)
-    ∙ ap (λ b. cond b (Some TooMany) None) (lt-ltb most (length (rows slot file)) many)
+pub readable : (limit : ℕ) (file : List ℕ) → length file ≤ limit → unreadable limit (Some file) ≡ None
+unfolding unreadable
+readable limit file fits = ap (λ b. cond b (Some TooLong) None) (le-ltb limit (length file) fits)
 
-pub usable : (slot file : List ℕ) → length file ≤ longest → length (rows slot file) ≤ most → unusable slot (Some file) ≡ None
-unfolding unusable
-usable slot file fits few =
-    ap (λ b. cond b (Some TooLong) (cond (ltb most (length (rows slot file))) (Some TooMany) None)) (le-ltb longest (length file) fits)
-    ∙ ap (λ b. cond b (Some TooMany) None) (le-ltb most (length (rows slot file)) few)
+-- whether bytes have too many statements
+pub crowded-many : (room statements : ℕ) → room < statements → crowded room statements ≡ Some TooMany
+unfolding crowded
+crowded-many room statements many = ap (λ b. cond b (Some TooMany) None) (lt-ltb room statements many)
+
+pub crowded-few : (room statements : ℕ) → statements ≤ room → crowded room statements ≡ None
+unfolding crowded
+crowded-few room statements few = ap (λ b. cond b (Some TooMany) None) (le-ltb room statements few)
+
+-- so whether a file is a source
+pub unusable-unread : (limit room : ℕ) (statements : List ℕ → ℕ) (held : Option (List ℕ)) (cause : Cause) → unreadable limit held ≡ Some cause → unusable limit room statements held ≡ Some cause
+unusable-unread limit room statements held cause is = ap (λ why. uncounted why room statements held) is
+
+pub unusable-read : (limit room : ℕ) (statements : List ℕ → ℕ) (file : List ℕ) → unreadable limit (Some file) ≡ None → unusable limit room statements (Some file) ≡ crowded room (statements file)
+unusable-read limit room statements file is = ap (λ why. uncounted why room statements (Some file)) is
+
+-- a stop for one cause is one for another that follows
+pub hindered : (why : Stop) (P Q : Cause → Type 0) → IsHindered why P → ((cause : Cause) → P cause → Q cause) → IsHindered why Q
+hindered (Blocked cause) P Q stop give = give cause stop
+hindered ReadFailed P Q stop give = tt
+hindered PutFailed P Q stop give = stop
+hindered SinkFailed P Q stop give = stop
+hindered Memory P Q stop give = tt
 
 pub le_from : (a b : ℕ) → (b < a → ⊥) → a ≤ b
 le_from a b never = by (leb a b) refl
@@ -93,83 +113,86 @@ append_nil (x ∷ xs) = ap (λ ys. x ∷ ys) (append_nil xs)
 pub prints_none : (old new : Option (List ℕ)) → new ≡ old → Prints old new []
 prints_none old new same before was = same ∙ was ∙ ap Some (sym (append_nil before))
 
--- an emit
-module _ (step : Step) (world : World) (name : List ℕ) (told : Option Told) (state : State) (is : step.act ≡ Emit name) (here : IsIn told state world) where
-  file_here : (file : FileValue) → file_of state ≡ Some file → file_of world.state ≡ Some file
-  file_here file made = subst (λ (s : State). file_of s ≡ Some file) here.stands made
-
-  pub free_emit : (file : FileValue) → file_of state ≡ Some file → blocked (does step) world ≡ None
-  free_emit file made =
-      ap (λ (a : Act). act_blocked a world) is ∙ ap (λ b. cond b (Some TooLarge) None) (not_too_large world.state file (file_here file made))
-
-  put_is : (file : FileValue) (bytes : List ℕ) (told' : Option Told) → file_of state ≡ Some file → file.bytes ≡ bytes → ((w : Told) → told ≡ Some w → told' ≡ Some (after_put w name bytes)) → told' ≡ Some (after (does step) world).told
-  put_is file bytes told' made same put =
-      put world.told here.tells
-      ∙ ap (λ (bs : List ℕ). Some (after_put world.told name bs)) (sym same)
-      ∙ ap (λ (f : Option FileValue). Some (after_put world.told name (bytes_in f))) (sym (file_here file made))
-      ∙ ap (λ (a : Act). Some (act_told a world)) (sym is)
-
-  pub does_emit : (file : FileValue) (bytes : List ℕ) (told' : Option Told) (state' : State) → file_of state ≡ Some file → IsLeastFile state file → file.bytes ≡ bytes → ((w : Told) → told ≡ Some w → told' ≡ Some (after_put w name bytes)) → state' ≡ state → Does (does step) world told' state'
-  does_emit file bytes told' state' made least same put kept =
-      let published : IsPublished world.state = subst IsPublished here.stands (record { file = file; emitted = made; least = least }) in
-      record {
-        free = free_emit file made;
-        now = record {
-          tells = put_is file bytes told' made same put;
-          stands = kept ∙ here.stands ∙ ap (λ (a : Act). act_state a world) (sym is);
-        };
-        published = subst (λ (a : Act). ActPublishes a world.state) (sym is) published;
-      }
-
-  pub halts_put : (why : Halt) (told' : Option Told) (file : FileValue) → file_of state ≡ Some file → (why ≡ PutFailed) ⊎ (why ≡ Memory) → ((w : Told) → told ≡ Some w → why ≡ PutFailed → (v : Told) × (told' ≡ Some v) × Spoils w v name) → (why ≡ Memory → told' ≡ told) → Halts why (does step) world told'
-  halts_put why told' file made causes spoilt memory = elim causes [
-    | inl failed ↦
-        let v = spoilt world.told here.tells failed in
-        subst (λ (w : Halt). Halts w (does step) world told') (sym failed) (record { puts = subst ActPuts (sym is) tt; free = free_emit file made; spoilt = v.0; tells = v.1; spoils = subst (λ (a : Act). Spoils world.told v.0 (file_named a)) (sym is) v.2 })
-    | inr out ↦ subst (λ (w : Halt). Halts w (does step) world told') (sym out) (inl (memory out ∙ here.tells))
-  ]
-
-  pub halts_print : (why : Halt) (told' : Option Told) (file : FileValue) (bytes : List ℕ) → file_of state ≡ Some file → file.bytes ≡ bytes → ((w : Told) → told ≡ Some w → told' ≡ Some (after_put w name bytes)) → (why ≡ SinkFailed) ⊎ (why ≡ Memory) → Halts why (does step) world told'
-  halts_print why told' file bytes made same put causes =
-      let left : IsUnprinted (does step) world told' = record { free = free_emit file made; files = put_is file bytes told' made same put } in
-      elim causes [
-        | inl failed ↦ subst (λ (w : Halt). Halts w (does step) world told') (sym failed) left
-        | inr out ↦ subst (λ (w : Halt). Halts w (does step) world told') (sym out) (inr left)
-      ]
-
 -- what holds of why a result is none, for each cause
-pub for_err : (result : Result Unit Halt) (P Q : Halt → Type 0) → IfErr result P → ((why : Halt) → P why → Q why) → IfErr result Q
+pub for_err : (result : Result Unit Stop) (P Q : Stop → Type 0) → IfErr result P → ((why : Stop) → P why → Q why) → IfErr result Q
 for_err (Ok done) P Q cause give = tt
 for_err (Err why) P Q cause give = give why cause
 
--- what holds where a step was done
-pub for_ok : (result : Result Unit Halt) (P : Type 0) → P → OnOk result P
-for_ok (Ok done) P holds = holds
-for_ok (Err why) P holds = tt
+pub for_both : (result : Result Unit Stop) (P Q R : Stop → Type 0) → IfErr result P → IfErr result Q → ((why : Stop) → P why → Q why → R why) → IfErr result R
+for_both (Ok done) P Q R p q give = tt
+for_both (Err why) P Q R p q give = give why p q
 
 -- what follows where a step was done
-pub on_ok : (result : Result Unit Halt) (P Q R : Type 0) → OnOk result P → OnOk result Q → (P → Q → R) → OnOk result R
-on_ok (Ok done) P Q R p q give = give p q
-on_ok (Err why) P Q R p q give = tt
+pub for_ok : (result : Result Unit Stop) (P Q : Type 0) → OnOk result P → (P → Q) → OnOk result Q
+for_ok (Ok done) P Q holds give = give holds
+for_ok (Err why) P Q holds give = tt
+
+-- the step of this line with another act
+abbrev pub at_line : Step → Act → Step
+at_line step act = record { line = step.line; act = act }
 
 -- a statistics file
-module _ (step : Step) (world : World) (slot name : List ℕ) (told : Option Told) (state : State) (is : step.act ≡ Stats slot name) (here : IsIn told state world) where
-  pub does_stats : (told' : Option Told) (state' : State) → told' ≡ told → unusable slot (file_in world name) ≡ None → state' ≡ set_from slot (file_in world name) state → Does (does step) world told' state'
-  does_stats told' state' same free set = record {
-    free = ap (λ (a : Act). act_blocked a world) is ∙ free;
-    now = record {
-      tells = same ∙ here.tells ∙ ap (λ (a : Act). Some (act_told a world)) (sym is);
-      stands = set ∙ ap (set_from slot (file_in world name)) here.stands ∙ ap (λ (a : Act). act_state a world) (sym is);
-    };
-    published = subst (λ (a : Act). ActPublishes a world.state) (sym is) tt;
-  }
+module _ (stays : StandingStays) (step : Step) (world : World) (slot name : List ℕ) (session : State) (is : step.act ≡ Stats slot name) (old new : Seen) (here : IsIn old.told session world) (same : new.told ≡ old.told) (silent : new.written ≡ old.written) where
+  set_here : (session' : State) → (file : Option (List ℕ)) → IsSet slot file session session' → Stands session' (set_from slot file world.session)
+  set_here session' file set =
+      subst (λ (f : Option (List ℕ)). Stands session' (set_from slot f world.session)) (sym set.there) (stays.changes (stats slot set.bytes) session session' world.session here.stands set.is)
 
-  pub halts_stats : (why : Halt) (told' : Option Told) → told' ≡ told → IsUnset why slot (file_in world name) → Halts why (does step) world told'
-  halts_stats Missing told' same cause = record { cause = ap (λ (a : Act). act_blocked a world) is ∙ cause; files = same ∙ here.tells }
-  halts_stats TooLong told' same cause = record { cause = ap (λ (a : Act). act_blocked a world) is ∙ cause; files = same ∙ here.tells }
-  halts_stats TooMany told' same cause = record { cause = ap (λ (a : Act). act_blocked a world) is ∙ cause; files = same ∙ here.tells }
-  halts_stats TooLarge told' same cause = absurd cause
-  halts_stats ReadFailed told' same cause = record { reads = subst ActReads (sym is) tt; files = same ∙ here.tells }
-  halts_stats PutFailed told' same cause = absurd cause
-  halts_stats SinkFailed told' same cause = absurd cause
-  halts_stats Memory told' same cause = inl (same ∙ here.tells)
+  pub does_stats : (session' : State) → IsSet slot (file_in world name) session session' → Does (does step) world session' old new
+  does_stats session' set =
+      subst (λ (a : Act). Does (does (at_line step a)) world session' old new) (sym is) (record {
+        free = set.usable;
+        now = record { tells = same ∙ here.tells; stands = set_here session' (file_in world name) set };
+        printed = prints_none old.written new.written silent;
+        published = λ other emits. absurd (let e : Stats slot name ≡ Emit other = emits in cc);
+      })
+
+  halts_stats : (why : Stop) → IsHindered why (λ cause. unusable longest most (rows_of slot) (file_in world name) ≡ Some cause) → Halts why (does (at_line step (Stats slot name))) world new.told
+  halts_stats (Blocked cause) stop = inl (record { cause = stop; files = same ∙ here.tells })
+  halts_stats ReadFailed stop = record { reading = refl; files = same ∙ here.tells }
+  halts_stats PutFailed stop = absurd stop
+  halts_stats SinkFailed stop = absurd stop
+  halts_stats Memory stop = inl (same ∙ here.tells)
+
+  tail_stats : (why : Stop) (P : Cause → Type 0) → IsHindered why P → Tail why [] [] old.written new.written
+  tail_stats (Blocked cause) P stop = prints_none old.written new.written silent
+  tail_stats ReadFailed P stop = prints_none old.written new.written silent
+  tail_stats PutFailed P stop = absurd stop
+  tail_stats SinkFailed P stop = absurd stop
+  tail_stats Memory P stop = prints_none old.written new.written silent
+
+  pub fails_stats : (why : Stop) → IsHindered why (λ cause. unusable longest most (rows_of slot) (file_in world name) ≡ Some cause) → Fails why (does step) world [] old new
+  fails_stats why stop =
+      subst (λ (a : Act). Fails why (does (at_line step a)) world [] old new) (sym is) (record { files = halts_stats why stop; printed = tail_stats why _ stop })
+
+  pub paid_stats : (steps : ℕ) → IsPaid (effect (does step) world) world steps steps
+  paid_stats steps =
+      subst (λ (a : Act). IsPaid (effect (does (at_line step a)) world) world steps steps) (sym is) (unspent (file_in world name))
+    where
+      unspent : (file : Option (List ℕ)) → steps + world.session.spent ≤ steps + (set_from slot file world.session).spent
+      unspent None = omega arith
+      unspent (Some bytes) = omega arith
+
+-- a report
+module _ (step : Step) (world : World) (session : State) (is : step.act ≡ Report) (old new : Seen) (here : IsIn old.told session world) (same : new.told ≡ old.told) where
+  pub does_report : Prints old.written new.written (report_text (report session.sources)) → Does (does step) world session old new
+  does_report printed =
+      subst (λ (a : Act). Does (does (at_line step a)) world session old new) (sym is) (record {
+        free = refl;
+        now = record { tells = same ∙ here.tells; stands = here.stands };
+        printed = subst (λ (s : State). Prints old.written new.written (report_text (report s.sources))) here.stands.state printed;
+        published = λ other emits. absurd (let e : Report ≡ Emit other = emits in cc);
+      })
+
+  pub fails_report : (why : Stop) → (why ≡ SinkFailed) ⊎ (why ≡ Memory) → Tail why [] (report_text (report session.sources)) old.written new.written → Fails why (does step) world [] old new
+  fails_report why causes tail =
+      subst (λ (a : Act). Fails why (does (at_line step a)) world [] old new) (sym is) (record {
+        files = elim causes [
+          | inl failed ↦ subst (λ (w : Stop). Halts w (does (at_line step Report)) world new.told) (sym failed) (record { free = refl; files = same ∙ here.tells })
+          | inr out ↦ subst (λ (w : Stop). Halts w (does (at_line step Report)) world new.told) (sym out) (inl (same ∙ here.tells))
+        ];
+        printed = subst (λ (s : State). Tail why [] (report_text (report s.sources)) old.written new.written) here.stands.state tail;
+      })
+
+  pub paid_report : (steps : ℕ) → IsPaid (effect (does step) world) world steps steps
+  paid_report steps =
+      subst (λ (a : Act). IsPaid (effect (does (at_line step a)) world) world steps steps) (sym is) (let e : steps + world.session.spent ≤ steps + world.session.spent = omega arith in e)

@@ -2,11 +2,12 @@
 use Rattle.std.proofs.Common.{◌≡◌, ℕ, zero, suc, List, [], ◌∷◌, ◌++◌, take, drop, refl, sym, ◌∙◌, ap}
 use Rattle.std.proofs.lemmas.List.{take-append-drop}
 use Rattle.std.specs.Prelude.{slice_get, Option, Some, None}
-use Rattle.geofeed_cmd.specs.declared.stop.Halt.{Halt}
-use Rattle.geofeed_cmd.specs.World.{World, Move, blocked, after}
-use Rattle.geofeed_cmd.specs.Course.{Outcome, ended, stopped, unless, course, go_on, IsAt}
+use Rattle.geofeed_cmd.specs.declared.stop.Cause.{Cause}
+use Rattle.geofeed_cmd.specs.Run.Acts.{Move, blocked, after}
+use Rattle.geofeed_cmd.specs.Run.World.{World}
+use Rattle.geofeed_cmd.specs.Run.Course.{Outcome, ended, stopped, unless, course, go_on, IsAt}
 
-unless-go_on : (why : Option Halt) (move : Move) (world : World) (next : Outcome) (more : List Move) → unless why move world (go_on next more) ≡ go_on (unless why move world next) more
+unless-go_on : (why : Option Cause) (move : Move) (world : World) (next : Outcome) (more : List Move) → unless why move world (go_on next more) ≡ go_on (unless why move world next) more
 unless-go_on None move world next more = refl
 unless-go_on (Some why) move world next more = refl
 
@@ -37,7 +38,7 @@ course_from moves start count move world there =
     ∙ ap (λ ms. course ms world) (drop-at moves count move there.next)
 
 -- a move that is reached and is blocked stops the run
-pub course_blocked : (moves : List Move) (start : World) (count : ℕ) (move : Move) (world : World) (why : Halt) → IsAt moves start count move world → blocked move world ≡ Some why → course moves start ≡ stopped move why world
+pub course_blocked : (moves : List Move) (start : World) (count : ℕ) (move : Move) (world : World) (why : Cause) → IsAt moves start count move world → blocked move world ≡ Some why → course moves start ≡ stopped move why world
 course_blocked moves start count move world why there cause =
     course_from moves start count move world there ∙ ap (λ b. unless b move world (course (drop (suc count) moves) (after move world))) cause
 
@@ -53,8 +54,8 @@ course_next moves start count move world there free =
 pub course_free : (moves : List Move) (start last : World) (count : ℕ) (move : Move) (world : World) → course moves start ≡ ended last → IsAt moves start count move world → blocked move world ≡ None
 course_free moves start last count move world all there =
     let led : unless (blocked move world) move world (course (drop (suc count) moves) (after move world)) ≡ ended last = sym (course_from moves start count move world there) ∙ all in
-    let go : (b : Option Halt) → blocked move world ≡ b → unless b move world (course (drop (suc count) moves) (after move world)) ≡ ended last → blocked move world ≡ None =
-    λ b. elim b as (λ (b : Option Halt). blocked move world ≡ b → unless b move world (course (drop (suc count) moves) (after move world)) ≡ ended last → blocked move world ≡ None) [
+    let go : (b : Option Cause) → blocked move world ≡ b → unless b move world (course (drop (suc count) moves) (after move world)) ≡ ended last → blocked move world ≡ None =
+    λ b. elim b as (λ (b : Option Cause). blocked move world ≡ b → unless b move world (course (drop (suc count) moves) (after move world)) ≡ ended last → blocked move world ≡ None) [
       | None ↦ λ free ends. free
       | Some why ↦ λ blocks ends. absurd (cc)
     ] in

@@ -5,15 +5,15 @@ use Rattle.std.specs.Prelude.{Result, is_some}
 use Rattle.std.specs.Str.{is_utf8}
 use Rattle.std.proofs.lemmas.Bool.Decides.{nat_tests}
 use Rattle.geo_addr.specs.Lines.{numbered_lines}
-use Rattle.geofeed_cmd.specs.declared.form.Form.{Form}
-use Rattle.geofeed_cmd.specs.declared.form.Form.TheVariants as form
+use Rattle.geofeed_cmd.specs.declared.job.form.Form.{Form}
+use Rattle.geofeed_cmd.specs.declared.job.form.Form.TheVariants as form
 use Rattle.geofeed_cmd.specs.declared.job.Job.{Job}
 use Rattle.geofeed_cmd.specs.declared.job.JobFault.{JobFault}
 use Rattle.geofeed_cmd.specs.declared.job.JobFault.TheVariants.{Epoch, TooLong, Utf8}
-use Rattle.geofeed_cmd.specs.Drafts.{DraftParts, no_lines, with_form}
-use Rattle.geofeed_cmd.specs.Forms.{form_of, words}
+use Rattle.geofeed_cmd.specs.Job.Drafts.{DraftParts, no_lines, with_form}
+use Rattle.geofeed_cmd.specs.Job.Forms.{form_of, words}
 use Rattle.geofeed_cmd.specs.Job.{draft_from, job, job_of, job_with, longest, unless_refused, with_fitting, with_line}
-use Rattle.geofeed_cmd.specs.Laws.{passes_over}
+use Rattle.geofeed_cmd.specs.Job.Laws.{passes_over}
 use Rattle.geofeed_cmd.proofs.LawLemmas.{both, kept_if}
 
 -- a draft that holds a form has an epoch

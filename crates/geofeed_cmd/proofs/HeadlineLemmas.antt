@@ -8,17 +8,17 @@ use Rattle.geo_terms.specs.Precedence.{record_at}
 use Rattle.least_nodes.specs.NodeList.{Member, at, says, go, side, records_at, map_member, map_pair}
 use Rattle.least_nodes.specs.Laws.{Finds}
 use Rattle.update_session.specs.State.{State, FileValue}
-use Rattle.geofeed_cmd.specs.declared.job.Act.{Act}
 use Rattle.geofeed_cmd.specs.declared.job.Act.TheVariants.{Emit}
 use Rattle.geofeed_cmd.specs.declared.job.Step.{Step}
 use Rattle.geofeed_cmd.specs.declared.status.Status.{Status}
 use Rattle.geofeed_cmd.specs.declared.status.Status.TheVariants as statuses
-use Rattle.geofeed_cmd.specs.Answers.{Seen, Comes, IsDone, IsFault, read, write, memory}
+use Rattle.geofeed_cmd.specs.Run.Acts.{does}
+use Rattle.geofeed_cmd.specs.Run.Answers.{Comes, IsDone, Prevails, SpendsAll, read, write, memory, spent}
 use Rattle.geofeed_cmd.specs.Commands.{Command}
-use Rattle.geofeed_cmd.specs.Ending.{Reaches}
-use Rattle.geofeed_cmd.specs.Stops.{ActPublishes, IsPublished}
-use Rattle.geofeed_cmd.specs.Values.{IsLeastByValue}
-use Rattle.geofeed_cmd.specs.World.{World, does}
+use Rattle.geofeed_cmd.specs.Run.Ending.{Reaches}
+use Rattle.geofeed_cmd.specs.Run.Published.{IsLeastByValue, IsPublished}
+use Rattle.geofeed_cmd.specs.Run.Seen.{Seen}
+use Rattle.geofeed_cmd.specs.Run.World.{World}
 use Rattle.geofeed_cmd.proofs.ValueLemmas.{record_of, record_back}
 
 module _ {A B : Type 0} (f : A → B) where
@@ -52,26 +52,26 @@ pub done_of : (status : Status) (command : Option Command) (first : Told) (old n
     → Comes status command first old new puts puts_now → IsDone command first old new
 done_of status command first old new puts puts_now is comes = subst (λ s. Comes s command first old new puts puts_now) is comes
 
-emit_publishes : (act : Act) (name : List ℕ) (state : State) → act ≡ Emit name → ActPublishes act state → IsPublished state
-emit_publishes act name state is publishes = subst (λ a. ActPublishes a state) is publishes
-
 -- an emit of a command that came to `Done` published its file
 pub published_at : (command : Option Command) (first : Told) (old new : Seen) → IsDone command first old new
-    → (step : Step) (name : List ℕ) (world : World) → Reaches command first (does step) world → step.act ≡ Emit name → IsPublished world.state
-published_at command first old new done step name world there emits = emit_publishes step.act name world.state emits (done.published (does step) world there)
+    → (step : Step) (name : List ℕ) (world : World) → Reaches command first (does step) world → step.act ≡ Emit name → IsPublished world.session.state
+published_at command first old new done step name world there emits = done.published (does step) world there name emits
 
-of-fault : (status : Status) → IsFault status → (reads writes prints : Type 0) → (status ≡ statuses.ReadFault → reads) → (status ≡ statuses.WriteFault → writes ⊎ prints)
+of-fault : (command : Option Command) (first : Told) (status : Status) → Prevails command first status → ¬ SpendsAll command first
+    → (reads writes prints : Type 0) → (status ≡ statuses.ReadFault → reads) → (status ≡ statuses.WriteFault → writes ⊎ prints)
     → (reads → ⊥) → (writes → ⊥) → (prints → ⊥) → (status ≡ statuses.Done) ⊎ (status ≡ statuses.Memory)
-of-fault status read reads writes prints read_rose write_rose unread unwritten unprinted = absurd (unread (read_rose refl))
-of-fault status write reads writes prints read_rose write_rose unread unwritten unprinted =
+of-fault command first status read cheap reads writes prints read_rose write_rose unread unwritten unprinted = absurd (unread (read_rose refl))
+of-fault command first status write cheap reads writes prints read_rose write_rose unread unwritten unprinted =
     elim (write_rose refl) [ inl put ↦ absurd (unwritten put) | inr print ↦ absurd (unprinted print) ]
-of-fault status memory reads writes prints read_rose write_rose unread unwritten unprinted = inr refl
+of-fault command first status memory cheap reads writes prints read_rose write_rose unread unwritten unprinted = inr refl
+of-fault command first status (spent all) cheap reads writes prints read_rose write_rose unread unwritten unprinted = absurd (cheap all)
 
--- where nothing failed outside, an answer that may be a fault is `Done` or `Memory`
-pub no_fault : (status : Status) (reads writes prints : Type 0) → (status ≡ statuses.ReadFault → reads) → (status ≡ statuses.WriteFault → writes ⊎ prints)
-    → (reads → ⊥) → (writes → ⊥) → (prints → ⊥) → (status ≡ statuses.Done) ⊎ IsFault status → (status ≡ statuses.Done) ⊎ (status ≡ statuses.Memory)
-no_fault status reads writes prints read_rose write_rose unread unwritten unprinted answer =
+-- where nothing failed outside, and the steps are counted, an answer that may prevail is `Done` or `Memory`
+pub no_fault : (command : Option Command) (first : Told) (status : Status) → ¬ SpendsAll command first
+    → (reads writes prints : Type 0) → (status ≡ statuses.ReadFault → reads) → (status ≡ statuses.WriteFault → writes ⊎ prints)
+    → (reads → ⊥) → (writes → ⊥) → (prints → ⊥) → (status ≡ statuses.Done) ⊎ Prevails command first status → (status ≡ statuses.Done) ⊎ (status ≡ statuses.Memory)
+no_fault command first status cheap reads writes prints read_rose write_rose unread unwritten unprinted answer =
     elim answer [
       | inl done ↦ inl done
-      | inr fault ↦ of-fault status fault reads writes prints read_rose write_rose unread unwritten unprinted
+      | inr fault ↦ of-fault command first status fault cheap reads writes prints read_rose write_rose unread unwritten unprinted
     ]

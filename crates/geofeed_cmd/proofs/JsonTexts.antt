@@ -14,8 +14,8 @@ use Rattle.serde_json.specs.Data.{Data, put, Items as DataItems, no_items as no_
 use Rattle.serde_json.specs.Find.{of_integer, is_float}
 use Rattle.serde_json.specs.Written.{number_text, compact_text, items_text, members_text, has_float, items_have_float, members_have_float}
 use Rattle.mmdb_data.specs.Tree.{Tree, Members, Items, map, list, text, bytes, u16, u32, i32, u64, u128, bool, double, float, no_members, member, no_items, item}
-use Rattle.geofeed_cmd.specs.Json.{escaped, quoted, Object, object_of, member_text, object_text, array_text, json, member_texts, item_texts}
-use Rattle.geofeed_cmd.specs.JsonData.{data_of, members_put, items_data}
+use Rattle.geofeed_cmd.specs.Lookup.Json.{escaped, quoted, Object, object_of, member_text, object_text, array_text, json, member_texts, item_texts}
+use Rattle.geofeed_cmd.specs.Lookup.JsonData.{data_of, members_put, items_data}
 
 -- ---- strings
 

@@ -8,7 +8,7 @@ use Rattle.mmdb_data.specs.View.{tree, items_view, members_view}
 use Rattle.mmdb_data.specs.declared.value.Value.{Value}
 use Rattle.mmdb_data.specs.declared.value.Value.TheVariants.{Map, List as Values}
 use Rattle.mmdb_data.proofs.Views.{tree-Map, tree-List}
-use Rattle.geofeed_cmd.specs.JsonData.{data_of, members_put, items_data}
+use Rattle.geofeed_cmd.specs.Lookup.JsonData.{data_of, members_put, items_data}
 
 pub items_made : (values : List Value) → data_items_of (map (λ v. data_of (tree v)) values) ≡ items_data (items_view values)
 items_made [] = refl

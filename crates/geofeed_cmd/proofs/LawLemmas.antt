@@ -5,19 +5,19 @@ use Rattle.std.specs.Prelude.{Result, is_none, option_to_list, unwrap_or}
 use Rattle.std.proofs.lemmas.List.{append-nil}
 use Rattle.std.proofs.lemmas.List.Sums.{sum_by-cons, sum_by_push}
 use Rattle.geo_addr.specs.Lines.{numbered_lines}
-use Rattle.geofeed_cmd.specs.declared.form.Form.{Form}
-use Rattle.geofeed_cmd.specs.declared.form.Form.TheVariants.{Epoch, TypeName, Do}
+use Rattle.geofeed_cmd.specs.declared.job.form.Form.{Form}
+use Rattle.geofeed_cmd.specs.declared.job.form.Form.TheVariants.{Epoch, TypeName, Do}
 use Rattle.geofeed_cmd.specs.declared.job.Act.{Act}
 use Rattle.geofeed_cmd.specs.declared.job.Act.TheVariants.{Stats, Emit, Report}
 use Rattle.geofeed_cmd.specs.declared.job.Job.{Job}
 use Rattle.geofeed_cmd.specs.declared.job.JobFault.{JobFault}
 use Rattle.geofeed_cmd.specs.declared.job.JobFault.TheVariants.{TooLong, Utf8}
 use Rattle.geofeed_cmd.specs.declared.job.Step.{Step}
-use Rattle.geofeed_cmd.specs.Drafts.{DraftParts, emits, may_follow, no_lines, sets_stats, with_form}
-use Rattle.geofeed_cmd.specs.Forms.{form_of, is_passed_over, words}
+use Rattle.geofeed_cmd.specs.Job.Drafts.{DraftParts, emits, may_follow, no_lines, sets_stats, with_form}
+use Rattle.geofeed_cmd.specs.Job.Forms.{form_of, is_passed_over, words}
 use Rattle.geofeed_cmd.specs.Job.{default_name, draft_from, job, job_of, job_with, unless_refused, with_fitting, with_line}
-use Rattle.geofeed_cmd.specs.Laws.{SetsAndEmitsOnce}
-use Rattle.geofeed_cmd.specs.Said.{SaysItsLines, epoch_in, epoch_said, form_said, is_only, name_in, name_said, step_in, step_said}
+use Rattle.geofeed_cmd.specs.Job.Laws.{SetsAndEmitsOnce}
+use Rattle.geofeed_cmd.specs.Job.Said.{SaysItsLines, epoch_in, epoch_said, form_said, is_only, name_in, name_said, step_in, step_said}
 
 -- what each line keeps, all lines keep
 walks : (P : List (ℕ × List ℕ) → DraftParts → Type 0)

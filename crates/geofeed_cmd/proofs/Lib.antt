@@ -16,3 +16,5 @@ pub mod CauseLemmas
 pub mod HeadlineLemmas
 pub mod ValueLemmas
 pub mod LookupEndsLemmas
+pub mod EmitLemmas
+pub mod StatusLemmas

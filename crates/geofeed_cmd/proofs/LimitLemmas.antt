@@ -20,7 +20,8 @@ use Rattle.geo_terms.specs.declared.statement.Reference.{Reference}
 use Rattle.least_nodes.specs.Layout.{each_once}
 use Rattle.nro_stats.specs.File.{longest, most, rows, stats}
 use Rattle.precedence.specs.Segments.{is_touched}
-use Rattle.precedence.specs.SlotOrder.{placed}
+use Rattle.geo_terms.specs.SlotOrder.{placed}
+use Rattle.update_session.specs.Standing.{Standing}
 use Rattle.update_session.specs.State.{State, with_stats}
 use Rattle.update_session.specs.Touch.{bound, touch, edges, edges_of}
 use Rattle.geofeed_cmd.specs.declared.job.Act.{Act}
@@ -29,17 +30,18 @@ use Rattle.geofeed_cmd.specs.declared.job.Job.{Job}
 use Rattle.geofeed_cmd.specs.declared.job.JobFault.{JobFault}
 use Rattle.geofeed_cmd.specs.declared.job.Step.{Step}
 use Rattle.geofeed_cmd.specs.declared.lookup.LookupFault.{LookupFault}
-use Rattle.geofeed_cmd.specs.declared.status.Status.TheVariants as statuses
-use Rattle.geofeed_cmd.specs.declared.stop.Halt.{Halt}
-use Rattle.geofeed_cmd.specs.declared.stop.Halt.TheVariants.{TooLong, TooMany}
+use Rattle.geofeed_cmd.specs.declared.stop.Cause.{Cause}
+use Rattle.geofeed_cmd.specs.declared.stop.Cause.TheVariants.{TooMany}
 use Rattle.geofeed_cmd.specs.Commands.{Command, build, lookup}
-use Rattle.geofeed_cmd.specs.Course.{ended, unless, course, moves_of, IsAt}
-use Rattle.geofeed_cmd.specs.Drafts.{is_emit, is_stats, emits, sets_stats}
-use Rattle.geofeed_cmd.specs.Ending.{planned, refused, plan_of, build_plan, job_plan, start_of, lookup_plan, answer_plan, alone, longest_file, bytes_line}
+use Rattle.geofeed_cmd.specs.Run.Acts.{Move, does, shows, act_effect, effect, blocked, after, moves_of, crowded, rows_of, set_from, uncounted, unreadable, unusable}
+use Rattle.geofeed_cmd.specs.Run.Answers.{SpendsAll}
+use Rattle.geofeed_cmd.specs.Run.Course.{ended, unless, course, IsAt}
+use Rattle.geofeed_cmd.specs.Job.Drafts.{is_emit, is_stats, emits, sets_stats}
+use Rattle.geofeed_cmd.specs.Run.Ending.{planned, plan_of, build_plan, job_plan, start_of, answer_plan, answered_in, unless_unreadable, alone, longest_file}
 use Rattle.geofeed_cmd.specs.Job.{job}
-use Rattle.geofeed_cmd.specs.Laws.{SetsAndEmitsOnce}
+use Rattle.geofeed_cmd.specs.Job.Laws.{SetsAndEmitsOnce}
 use Rattle.geofeed_cmd.specs.Lookup.{answer}
-use Rattle.geofeed_cmd.specs.World.{World, Move, does, shows, act_blocked, act_state, act_cost, after, cost, file_in, set_from, unusable}
+use Rattle.geofeed_cmd.specs.Run.World.{World, file_in, printing}
 use Rattle.geofeed_cmd.proofs.LawLemmas.{sets_and_emits_once}
 
 -- how many statements are in force
@@ -103,80 +105,99 @@ size-with x state =
 abbrev one : Bool → ℕ
 one b = cond b 1 0
 
--- what an act that is not blocked keeps: at most so many statements for each file that was set, and at most so many steps for each emit
-record Keeps (act : Act) (world : World) (sets emitted : ℕ) : Type 0 where
-  few : size (act_state act world) ≤ (sets + one (is_stats act)) * most
-  cheap : world.spent + act_cost act world.state ≤ (emitted + one (is_emit act)) * (256 * (3 * most + 1))
+-- the most steps of one emit of one file
+abbrev dear : ℕ
+dear = 256 * (3 * most + 1)
 
-set-few : (slot : List ℕ) (file : Option (List ℕ)) (state : State) (sets : ℕ) → unusable slot file ≡ None → size state ≤ sets * most → size (set_from slot file state) ≤ (sets + 1) * most
-unfolding unusable
-set-few slot None state sets free few = absurd (cc)
-set-few slot (Some bytes) state sets free few =
-    let go : (a b : Bool) → nat_lt longest (length bytes) ≡ a → nat_lt most (length (rows slot bytes)) ≡ b → cond a (Some TooLong) (cond b (Some TooMany) None) ≡ None → length (rows slot bytes) ≤ most =
-    λ a b. elim a as (λ (a : Bool). nat_lt longest (length bytes) ≡ a → nat_lt most (length (rows slot bytes)) ≡ b → cond a (Some TooLong) (cond b (Some TooMany) None) ≡ None → length (rows slot bytes) ≤ most) [
-      | true ↦ λ p q h. absurd (cc)
-      | false ↦ elim b as (λ (b : Bool). nat_lt longest (length bytes) ≡ false → nat_lt most (length (rows slot bytes)) ≡ b → cond b (Some TooMany) None ≡ None → length (rows slot bytes) ≤ most) [
-        | true ↦ λ p q h. absurd (cc)
-        | false ↦ λ p q h. search (rules, q)
-      ]
-    ] in
-    let within = go (nat_lt longest (length bytes)) (nat_lt most (length (rows slot bytes))) refl refl free in
-    omega (arith, size-with (stats slot bytes) state, within)
+-- what a move keeps: at most so many statements for each file that was set, and at most so many steps for each emit
+record Keeps (session : Standing) (sets emitted : ℕ) : Type 0 where
+  few : size session.state ≤ sets * most
+  cheap : session.spent ≤ emitted * dear
 
-act-keeps : (act : Act) (world : World) (sets emitted : ℕ) → act_blocked act world ≡ None → size world.state ≤ sets * most → sets ≤ 1
-    → world.spent ≤ emitted * (256 * (3 * most + 1)) → Keeps act world sets emitted
-act-keeps (Stats slot file) world sets emitted free few once cheap =
-    record { few = set-few slot (file_in world file) world.state sets free few; cheap = omega (arith, cheap) }
-act-keeps (Emit file) world sets emitted free few once cheap =
-    let within : size world.state ≤ most = omega (arith, few, once) in
-    record { few = omega (arith, few); cheap = omega (arith, cheap, bound-limit world.state most within) }
-act-keeps Report world sets emitted free few once cheap = record { few = omega (arith, few); cheap = omega (arith, cheap) }
+free-of : (why : Option Cause) (room : ℕ) (statements : List ℕ → ℕ) (bytes : List ℕ) → uncounted why room statements (Some bytes) ≡ None → crowded room (statements bytes) ≡ None
+free-of None room statements bytes free = free
+free-of (Some cause) room statements bytes free = absurd (cc)
 
-act-cheap : (act : Act) (world : World) (sets emitted : ℕ) → size world.state ≤ sets * most → sets ≤ 1 → emitted + one (is_emit act) ≤ 1
-    → world.spent ≤ emitted * (256 * (3 * most + 1)) → world.spent + act_cost act world.state ≤ 256 * (3 * most + 1)
-act-cheap (Stats slot file) world sets emitted few once single cheap = omega (arith, cheap, single)
-act-cheap (Emit file) world sets emitted few once single cheap =
-    let within : size world.state ≤ most = omega (arith, few, once) in
-    omega (arith, cheap, single, bound-limit world.state most within)
-act-cheap Report world sets emitted few once single cheap = omega (arith, cheap, single)
+few-of : (room n : ℕ) → crowded room n ≡ None → n ≤ room
+unfolding crowded
+few-of room n free = go (nat_lt room n) refl free
+  where
+    go : (b : Bool) → nat_lt room n ≡ b → cond b (Some TooMany) None ≡ None → n ≤ room
+    go true is h = absurd (cc)
+    go false is h = search (rules, is)
+
+set-few : (slot : List ℕ) (file : Option (List ℕ)) (session : Standing) (sets emitted : ℕ) → unusable longest most (rows_of slot) file ≡ None → Keeps session sets emitted → Keeps (set_from slot file session) (sets + 1) emitted
+set-few slot None session sets emitted free kept = record { few = let few = kept.few in omega (arith, few); cheap = kept.cheap }
+set-few slot (Some bytes) session sets emitted free kept =
+    let within : length (rows slot bytes) ≤ most = few-of most (rows_of slot bytes) (free-of (unreadable longest (Some bytes)) most (rows_of slot) bytes free) in
+    record { few = let few = kept.few in omega (arith, size-with (stats slot bytes) session.state, within, few); cheap = kept.cheap }
+
+set-spent : (slot : List ℕ) (file : Option (List ℕ)) (session : Standing) → (set_from slot file session).spent ≡ session.spent
+set-spent slot None session = refl
+set-spent slot (Some bytes) session = refl
+
+act-keeps : (act : Act) (world : World) (sets emitted : ℕ) → (act_effect act world).blocked ≡ None → Keeps world.session sets emitted → sets ≤ 1
+    → Keeps (act_effect act world).session (sets + one (is_stats act)) (emitted + one (is_emit act))
+act-keeps (Stats slot file) world sets emitted free kept once =
+    let set = set-few slot (file_in world file) world.session sets emitted free kept in
+    record { few = set.few; cheap = let cheap = set.cheap in omega (arith, cheap) }
+act-keeps (Emit file) world sets emitted free kept once =
+    let few = kept.few in
+    let cheap = kept.cheap in
+    let within : size world.session.state ≤ most = omega (arith, few, once) in
+    record { few = omega (arith, few); cheap = omega (arith, cheap, bound-limit world.session.state most within) }
+act-keeps Report world sets emitted free kept once =
+    let few = kept.few in
+    let cheap = kept.cheap in
+    record { few = omega (arith, few); cheap = omega (arith, cheap) }
+
+act-cheap : (act : Act) (world : World) (sets emitted : ℕ) → Keeps world.session sets emitted → sets ≤ 1 → emitted + one (is_emit act) ≤ 1
+    → (act_effect act world).session.spent ≤ dear
+act-cheap (Stats slot file) world sets emitted kept once single =
+    let cheap = kept.cheap in omega (arith, cheap, single, set-spent slot (file_in world file) world.session)
+act-cheap (Emit file) world sets emitted kept once single =
+    let few = kept.few in
+    let cheap = kept.cheap in
+    let within : size world.session.state ≤ most = omega (arith, few, once) in
+    omega (arith, cheap, single, bound-limit world.session.state most within)
+act-cheap Report world sets emitted kept once single = let cheap = kept.cheap in omega (arith, cheap, single)
 
 -- every step that is reached is cheap
 cheap-at : (list : List Step) (world : World) (sets emitted at : ℕ) (move : Move) (later : World) → course (take at (moves_of list)) world ≡ ended later → slice_get (moves_of list) at ≡ Some move
-    → sets + count_by sets_stats list ≤ 1 → emitted + count_by emits list ≤ 1 → size world.state ≤ sets * most → world.spent ≤ emitted * (256 * (3 * most + 1))
-    → later.spent + cost move later.state ≤ 256 * (3 * most + 1)
-cheap-at [] world sets emitted at move later done next once single few cheap = absurd (cc)
-cheap-at (first ∷ rest) world sets emitted zero move later done next once single few cheap =
+    → sets + count_by sets_stats list ≤ 1 → emitted + count_by emits list ≤ 1 → Keeps world.session sets emitted → (effect move later).session.spent ≤ dear
+cheap-at [] world sets emitted at move later done next once single kept = absurd (cc)
+cheap-at (first ∷ rest) world sets emitted zero move later done next once single kept =
     let here : world ≡ later = cc in
     let this : does first ≡ move = cc in
     let e : count_by emits (first ∷ rest) ≡ one (is_emit first.act) + count_by emits rest = sum_by-cons (λ s. cond (emits s) 1 0) first rest in
     let s : count_by sets_stats (first ∷ rest) ≡ one (is_stats first.act) + count_by sets_stats rest = sum_by-cons (λ s. cond (sets_stats s) 1 0) first rest in
-    let this_cheap = act-cheap first.act world sets emitted few (omega (arith, once)) (omega (arith, single, e)) cheap in
-    subst (λ w. w.spent + cost move w.state ≤ 256 * (3 * most + 1)) here (subst (λ m. world.spent + cost m world.state ≤ 256 * (3 * most + 1)) this this_cheap)
-cheap-at (first ∷ rest) world sets emitted (suc at) move later done next once single few cheap =
-    let go : (why : Option Halt) → act_blocked first.act world ≡ why → unless why (does first) world (course (take at (moves_of rest)) (after (does first) world)) ≡ ended later → later.spent + cost move later.state ≤ 256 * (3 * most + 1) =
-    λ why. elim why as (λ (why : Option Halt). act_blocked first.act world ≡ why → unless why (does first) world (course (take at (moves_of rest)) (after (does first) world)) ≡ ended later → later.spent + cost move later.state ≤ 256 * (3 * most + 1)) [
+    let this_cheap = act-cheap first.act world sets emitted kept (omega (arith, once)) (omega (arith, single, e)) in
+    subst (λ w. (effect move w).session.spent ≤ dear) here (subst (λ m. (effect m world).session.spent ≤ dear) this this_cheap)
+cheap-at (first ∷ rest) world sets emitted (suc at) move later done next once single kept =
+    let go : (why : Option Cause) → blocked (does first) world ≡ why → unless why (does first) world (course (take at (moves_of rest)) (after (does first) world)) ≡ ended later → (effect move later).session.spent ≤ dear =
+    λ why. elim why as (λ (why : Option Cause). blocked (does first) world ≡ why → unless why (does first) world (course (take at (moves_of rest)) (after (does first) world)) ≡ ended later → (effect move later).session.spent ≤ dear) [
       | None ↦ λ free led.
           let e : count_by emits (first ∷ rest) ≡ one (is_emit first.act) + count_by emits rest = sum_by-cons (λ s. cond (emits s) 1 0) first rest in
           let s : count_by sets_stats (first ∷ rest) ≡ one (is_stats first.act) + count_by sets_stats rest = sum_by-cons (λ s. cond (sets_stats s) 1 0) first rest in
-          let kept = act-keeps first.act world sets emitted free few (omega (arith, once)) cheap in
-          cheap-at rest (after (does first) world) (sets + one (is_stats first.act)) (emitted + one (is_emit first.act)) at move later led next (omega (arith, once, s)) (omega (arith, single, e)) kept.few kept.cheap
-      | Some halt ↦ λ free led. absurd (cc)
+          cheap-at rest (after (does first) world) (sets + one (is_stats first.act)) (emitted + one (is_emit first.act)) at move later led next (omega (arith, once, s)) (omega (arith, single, e))
+          (act-keeps first.act world sets emitted free kept (omega (arith, once)))
+      | Some why ↦ λ free led. absurd (cc)
     ] in
-    go (act_blocked first.act world) refl done
+    go (blocked (does first) world) refl done
 
 -- a job that sets one file at most and emits once at most begins with nothing
-job-cheap : (first : Told) (j : Job) → SetsAndEmitsOnce j → (at : ℕ) (move : Move) (world : World) → IsAt (moves_of j.steps) (start_of first j) at move world → world.spent + cost move world.state < 2 ^ 32 - 1
+job-cheap : (first : Told) (j : Job) → SetsAndEmitsOnce j → (at : ℕ) (move : Move) (world : World) → IsAt (moves_of j.steps) (start_of first j) at move world → (effect move world).session.spent < 2 ^ 32 - 1
 job-cheap first j once at move world there =
-    let cheap = cheap-at j.steps (start_of first j) 0 0 at move world there.done there.next (omega (arith, once.sets)) (omega (arith, once.emitted)) (omega arith) (omega arith) in
+    let cheap = cheap-at j.steps (start_of first j) 0 0 at move world there.done there.next (omega (arith, once.sets)) (omega (arith, once.emitted)) (record { few = omega arith; cheap = omega arith }) in
     omega (arith, cheap)
 
 -- the moves of a plan are cheap
 plan-cheap : (first : Told) (name : List ℕ) (file : Option (List ℕ)) (moves : List Move) (start : World) → build_plan first name file ≡ planned moves start
-    → (at : ℕ) (move : Move) (world : World) → IsAt moves start at move world → world.spent + cost move world.state < 2 ^ 32 - 1
+    → (at : ℕ) (move : Move) (world : World) → IsAt moves start at move world → (effect move world).session.spent < 2 ^ 32 - 1
 plan-cheap first name None moves start plan at move world there = absurd (cc)
 plan-cheap first name (Some bytes) moves start plan at move world there =
-    let go : (read : Result Job JobFault) → job bytes ≡ read → job_plan first read ≡ planned moves start → world.spent + cost move world.state < 2 ^ 32 - 1 =
-    λ read. elim read as (λ (read : Result Job JobFault). job bytes ≡ read → job_plan first read ≡ planned moves start → world.spent + cost move world.state < 2 ^ 32 - 1) [
+    let go : (read : Result Job JobFault) → job bytes ≡ read → job_plan first name read ≡ planned moves start → (effect move world).session.spent < 2 ^ 32 - 1 =
+    λ read. elim read as (λ (read : Result Job JobFault). job bytes ≡ read → job_plan first name read ≡ planned moves start → (effect move world).session.spent < 2 ^ 32 - 1) [
       | Ok j ↦ λ accepted same.
           let done = there.done in
           let next = there.next in
@@ -185,35 +206,38 @@ plan-cheap first name (Some bytes) moves start plan at move world there =
     ] in
     go (job bytes) refl plan
 
-one-cheap : (text : List ℕ) (start : World) → start.spent ≡ 0 → (at : ℕ) (move : Move) (world : World) → IsAt (shows text ∷ []) start at move world → world.spent + cost move world.state < 2 ^ 32 - 1
+one-cheap : (text : List ℕ) (start : World) → start.session.spent ≡ 0 → (at : ℕ) (move : Move) (world : World) → IsAt (shows (printing text) ∷ []) start at move world → (effect move world).session.spent < 2 ^ 32 - 1
 one-cheap text start unspent zero move world there =
-    let this : shows text ≡ move = let next = there.next in cc in
+    let this : shows (printing text) ≡ move = let next = there.next in cc in
     let here : start ≡ world = let done = there.done in cc in
-    subst (λ w. w.spent + cost move w.state < 2 ^ 32 - 1) here (subst (λ m. start.spent + cost m start.state < 2 ^ 32 - 1) this (omega (arith, unspent)))
+    subst (λ w. (effect move w).session.spent < 2 ^ 32 - 1) here (subst (λ m. (effect m start).session.spent < 2 ^ 32 - 1) this (omega (arith, unspent)))
 one-cheap text start unspent (suc at) move world there = absurd (let next = there.next in cc)
 
-answer-cheap : (first : Told) (found : Result (List ℕ) LookupFault) (moves : List Move) (start : World) → answer_plan first found ≡ planned moves start
-    → (at : ℕ) (move : Move) (world : World) → IsAt moves start at move world → world.spent + cost move world.state < 2 ^ 32 - 1
-answer-cheap first (Err fault) moves start plan at move world there = absurd (cc)
-answer-cheap first (Ok text) moves start plan at move world there =
+answer-cheap : (first : Told) (name : List ℕ) (found : Result (List ℕ) LookupFault) (moves : List Move) (start : World) → answer_plan first name found ≡ planned moves start
+    → (at : ℕ) (move : Move) (world : World) → IsAt moves start at move world → (effect move world).session.spent < 2 ^ 32 - 1
+answer-cheap first name (Err fault) moves start plan at move world there = absurd (cc)
+answer-cheap first name (Ok text) moves start plan at move world there =
     let done = there.done in
     let next = there.next in
     one-cheap text (alone first) refl at move world (record { done = cc; next = cc })
 
-lookup-cheap : (first : Told) (name : List ℕ) (address : ℕ) (file : Option (List ℕ)) (moves : List Move) (start : World) → lookup_plan first name address file ≡ planned moves start
-    → (at : ℕ) (move : Move) (world : World) → IsAt moves start at move world → world.spent + cost move world.state < 2 ^ 32 - 1
-lookup-cheap first name address None moves start plan at move world there = absurd (cc)
-lookup-cheap first name address (Some bytes) moves start plan at move world there =
-    let go : (b : Bool) → (if b then refused statuses.Source (bytes_line 0) else answer_plan first (answer bytes address)) ≡ planned moves start → world.spent + cost move world.state < 2 ^ 32 - 1 =
-    λ b. elim b as (λ (b : Bool). (if b then refused statuses.Source (bytes_line 0) else answer_plan first (answer bytes address)) ≡ planned moves start → world.spent + cost move world.state < 2 ^ 32 - 1) [
-      | true ↦ λ same. absurd (cc)
-      | false ↦ λ same. answer-cheap first (answer bytes address) moves start same at move world there
-    ] in
-    go (nat_lt longest_file (length bytes)) plan
+lookup-cheap : (first : Told) (name : List ℕ) (address : ℕ) (why : Option Cause) (file : Option (List ℕ)) (moves : List Move) (start : World)
+    → unless_unreadable why name (answered_in address first name file) ≡ planned moves start
+    → (at : ℕ) (move : Move) (world : World) → IsAt moves start at move world → (effect move world).session.spent < 2 ^ 32 - 1
+lookup-cheap first name address (Some cause) file moves start plan at move world there = absurd (cc)
+lookup-cheap first name address None None moves start plan at move world there = absurd (cc)
+lookup-cheap first name address None (Some bytes) moves start plan at move world there = answer-cheap first name (answer bytes address) moves start plan at move world there
 
--- an emit that a command reaches never takes too many steps
-pub reached_cheap : (command : Option Command) (first : Told) (moves : List Move) (start : World) → plan_of first command ≡ planned moves start
-    → (at : ℕ) (move : Move) (world : World) → IsAt moves start at move world → world.spent + cost move world.state < 2 ^ 32 - 1
+-- a move that a command reaches never takes too many steps
+reached_cheap : (command : Option Command) (first : Told) (moves : List Move) (start : World) → plan_of first command ≡ planned moves start
+    → (at : ℕ) (move : Move) (world : World) → IsAt moves start at move world → (effect move world).session.spent < 2 ^ 32 - 1
 reached_cheap None first moves start plan at move world there = absurd (cc)
 reached_cheap (Some (build name)) first moves start plan at move world there = plan-cheap first name (fin_map.get first.held name) moves start plan at move world there
-reached_cheap (Some (lookup name address)) first moves start plan at move world there = lookup-cheap first name address (fin_map.get first.held name) moves start plan at move world there
+reached_cheap (Some (lookup name address)) first moves start plan at move world there =
+    lookup-cheap first name address (unreadable longest_file (fin_map.get first.held name)) (fin_map.get first.held name) moves start plan at move world there
+
+pub no_command_spends_all : (command : Option Command) (first : Told) → ¬ SpendsAll command first
+no_command_spends_all command first all =
+    let cheap = reached_cheap command first all.there.moves all.there.start all.there.plan all.there.count all.move all.world all.there.there in
+    let spent = all.spent in
+    omega (arith, cheap, spent)

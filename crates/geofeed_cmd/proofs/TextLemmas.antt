@@ -6,7 +6,7 @@ use Rattle.std.proofs.lemmas.Bool.Decides.{nat_tests}
 use Rattle.std.proofs.lemmas.List.Sums.{AllPass-from_list_all}
 use Rattle.std.proofs.lemmas.Str.{IsUtf8-from_is_utf8, IsUtf8-from_ascii, is_utf8-from_IsUtf8}
 use Rattle.std.proofs.lemmas.Str.Ascii.{IsAscii-from_reads}
-use Rattle.geofeed_cmd.specs.Names.{is_name, is_slot, is_slot_byte, is_type_name, is_visible}
+use Rattle.geofeed_cmd.specs.Job.Names.{is_name, is_slot, is_slot_byte, is_type_name, is_visible}
 
 false_from_not : (b : Bool) → (b ≡ true → ⊥) → b ≡ false
 false_from_not true not_true = absurd (not_true refl)

@@ -6,7 +6,7 @@ use Rattle.geo_addr.specs.declared.fault.AddrFault.{AddrFault}
 use Rattle.geo_terms.specs.PlaceForm.{same_text}
 use Rattle.geofeed_cmd.specs.declared.spoken.Spoken.{Spoken}
 use Rattle.geofeed_cmd.specs.declared.spoken.Spoken.TheVariants.{Build, Lookup}
-use Rattle.geofeed_cmd.specs.Names.{is_name}
+use Rattle.geofeed_cmd.specs.Job.Names.{is_name}
 
 -- a command
 pub data Command : Type 0 where
@@ -33,10 +33,10 @@ command_of (word ∷ a ∷ []) = build_of word a
 command_of (word ∷ a ∷ b ∷ []) = lookup_of word a b
 command_of (word ∷ a ∷ b ∷ c ∷ more) = None
 
--- the file that a command reads first
-abbrev pub file_first : Command → List ℕ
-file_first (build name) = name
-file_first (lookup name address) = name
+-- the file that a command reads first, if it reads one
+abbrev pub file_first : Command → Option (List ℕ)
+file_first (build name) = Some name
+file_first (lookup name address) = Some name
 
 -- a command that was read off the words
 abbrev pub named : Spoken → Command

@@ -1,13 +1,18 @@
 -- The job that a text is.
+pub mod Drafts
+pub mod Forms
+pub mod Laws
+pub mod Names
+pub mod Said
 use Rattle.std.specs.Prelude.{ℕ, nat_lt, List, [], ◌∷◌, length, codes, Option, None, Some, Result, Ok, Err, unwrap_or, if◌then◌else◌}
 use Rattle.std.specs.Str.{is_utf8}
 use Rattle.geo_addr.specs.Lines.{numbered_lines}
-use Rattle.geofeed_cmd.specs.declared.form.Form.{Form}
+use Rattle.geofeed_cmd.specs.declared.job.form.Form.{Form}
 use Rattle.geofeed_cmd.specs.declared.job.Job.{Job}
 use Rattle.geofeed_cmd.specs.declared.job.JobFault.{JobFault}
 use Rattle.geofeed_cmd.specs.declared.job.JobFault.TheVariants.{TooLong, Utf8, Line, Epoch}
-use Rattle.geofeed_cmd.specs.Drafts.{DraftParts, no_lines, with_form}
-use Rattle.geofeed_cmd.specs.Forms.{form_of, is_passed_over, words}
+use Rattle.geofeed_cmd.specs.Job.Drafts.{DraftParts, no_lines, with_form}
+use Rattle.geofeed_cmd.specs.Job.Forms.{form_of, is_passed_over, words}
 
 -- the most bytes of a job
 abbrev pub longest : ℕ

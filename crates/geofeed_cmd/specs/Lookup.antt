@@ -1,4 +1,7 @@
 -- What `lookup` prints of an address in a file.
+pub mod Ends
+pub mod Json
+pub mod JsonData
 use Rattle.std.specs.Prelude.{◌≡◌, ℕ, List, [], ◌++◌, codes, decimal, Option, Some, None, Result, Ok, Err}
 use Rattle.geo_addr.specs.Bits.{bits_of}
 use Rattle.mmdb_data.specs.declared.fault.DataCause.{DataCause}
@@ -11,7 +14,7 @@ use Rattle.mmdb_file.specs.declared.fault.WalkFault.TheVariants as walk_faults
 use Rattle.mmdb_file.specs.Walk.{Barrier, not_opened, not_walked, not_read, walk}
 use Rattle.geofeed_cmd.specs.declared.lookup.LookupFault.{LookupFault}
 use Rattle.geofeed_cmd.specs.declared.lookup.LookupFault.TheVariants as faults
-use Rattle.geofeed_cmd.specs.Json.{json}
+use Rattle.geofeed_cmd.specs.Lookup.Json.{json}
 
 -- the value that an address leads to in a file, or none, or what stands in the way
 unfoldable pub looked : List ℕ → ℕ → Result (Option Tree) Barrier

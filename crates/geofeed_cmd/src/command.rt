@@ -2,22 +2,23 @@
 ghost use Rattle.std.specs.Prelude.{◌≡◌, ◌⊎◌, ◌↔◌, ℕ, List, None, Some, map, string_bytes};
 ghost use Rattle.geo_outside.specs.Count.{Rose};
 ghost use Rattle.geo_outside.specs.Files.{Told};
-ghost use Rattle.geofeed_cmd.specs.Answers.{Comes, IsAnswer, IsDone, IsFault, seen};
-ghost use Rattle.geofeed_cmd.specs.Causes.{Causes, IsFree};
 ghost use Rattle.geofeed_cmd.specs.Commands.{command_of};
-ghost use Rattle.geofeed_cmd.specs.Ending.{ending, Reaches};
-ghost use Rattle.geofeed_cmd.specs.Stops.{IsPublished};
-ghost use Rattle.geofeed_cmd.specs.Values.{IsLeastByValue};
-ghost use Rattle.geofeed_cmd.specs.World.{World, does};
+ghost use Rattle.geofeed_cmd.specs.Run.Acts.{does};
+ghost use Rattle.geofeed_cmd.specs.Run.Answers.{Comes, IsAnswer, IsDone, Prevails, SpendsAll};
+ghost use Rattle.geofeed_cmd.specs.Run.Causes.{Causes, IsFree};
+ghost use Rattle.geofeed_cmd.specs.Run.Ending.{Reaches};
+ghost use Rattle.geofeed_cmd.specs.Run.Published.{IsLeastByValue, IsPublished};
+ghost use Rattle.geofeed_cmd.specs.Run.Seen.{seen};
+ghost use Rattle.geofeed_cmd.specs.Run.World.{World};
 ghost use Rattle.geofeed_cmd.specs.declared.job.Act.TheVariants.{Emit};
 ghost use Rattle.geofeed_cmd.specs.declared.job.Step as steps_of;
 ghost use Rattle.geofeed_cmd.specs.declared.status.Status as statuses;
 
-use crate::build::build;
-use crate::lookup_command::lookup;
+use crate::lookup::command::lookup;
+use crate::running::build::build;
 use crate::spoken::{Spoken, command_in};
 use crate::status::Status;
-use crate::stop::{print_line, words_line};
+use crate::stop::{Cause, Stop, stop_at};
 use geo_outside::{Folder, Gate, Sink, Steps};
 use std::alloc::Global;
 use std::sync::ledger::Ledger;
@@ -50,10 +51,10 @@ pub fn run<R: Threads, F: Folder, O: Sink, G: Gate, L: Ledger>(
     // address the value of its record, or none; and no list of nodes that finds the same records is shorter.
     ensures headline { (first : Told) → F.told folder.old ≡ Some first → result ≡ Status.Done
         → (step : steps_of.Step) (name : List ℕ) (world : World) → Reaches (command_of (map string_bytes words.now)) first (does step) world
-        → step.act ≡ Emit name → IsPublished world.state }
+        → step.act ≡ Emit name → IsPublished world.session.state }
     ensures by_value { (first : Told) → F.told folder.old ≡ Some first → result ≡ Status.Done
         → (step : steps_of.Step) (name : List ℕ) (world : World) → Reaches (command_of (map string_bytes words.now)) first (does step) world
-        → step.act ≡ Emit name → IsLeastByValue world.state }
+        → step.act ≡ Emit name → IsLeastByValue world.session.state }
 
     // What there is at each answer.
     ensures comes { (first : Told) → F.told folder.old ≡ Some first
@@ -62,12 +63,12 @@ pub fn run<R: Threads, F: Folder, O: Sink, G: Gate, L: Ledger>(
         (seen (F.told folder.new) (O.written out.new) (O.faults out.new) steps.new)
         (F.put_faults folder.old) (F.put_faults folder.new) }
 
-    // Each answer has its cause, and a cause no other answer but a fault.
-    ensures exact { (first : Told) → F.told folder.old ≡ Some first → IsAnswer (ending first (command_of (map string_bytes words.now))).status result }
-    ensures caused { (first : Told) → F.told folder.old ≡ Some first → IsFault result ⊎ Causes result (command_of (map string_bytes words.now)) first }
+    // Each answer has its cause, and a cause no other answer but those that prevail.
+    ensures exact { (first : Told) → F.told folder.old ≡ Some first → IsAnswer (command_of (map string_bytes words.now)) first result }
+    ensures caused { (first : Told) → F.told folder.old ≡ Some first → Prevails (command_of (map string_bytes words.now)) first result ⊎ Causes result (command_of (map string_bytes words.now)) first }
     ensures certain { (first : Told) → F.told folder.old ≡ Some first
-        → (status : statuses.Status) → Causes status (command_of (map string_bytes words.now)) first → (result ≡ status) ⊎ IsFault result }
-    ensures complete { (first : Told) → F.told folder.old ≡ Some first → IsFree (command_of (map string_bytes words.now)) first
+        → (status : statuses.Status) → Causes status (command_of (map string_bytes words.now)) first → (result ≡ status) ⊎ Prevails (command_of (map string_bytes words.now)) first result }
+    ensures complete { (first : Told) → F.told folder.old ≡ Some first → IsFree (command_of (map string_bytes words.now)) first → ¬ SpendsAll (command_of (map string_bytes words.now)) first
         → ¬ Rose (F.read_faults folder.old) (F.read_faults folder.new) → ¬ Rose (F.put_faults folder.old) (F.put_faults folder.new) → ¬ Rose (O.faults out.old) (O.faults out.new)
         → (result ≡ Status.Done) ⊎ (result ≡ Status.Memory) }
 
@@ -102,9 +103,6 @@ fn do_words<F: Folder, O: Sink, L: Ledger>(
     match command_in(words) {
         Some(Spoken::Build(name)) => build(alloc, name, folder, out, steps),
         Some(Spoken::Lookup(name, at)) => lookup(alloc, name, at, folder, out),
-        None => {
-            print_line(out, words_line(alloc));
-            Status::Words
-        }
+        None => stop_at(alloc, Stop::Blocked(Cause::Words), 0, "", out),
     }
 }

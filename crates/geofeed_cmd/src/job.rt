@@ -1,9 +1,17 @@
 //! A job: what the program is to do, line by line.
+pub(crate) mod draft;
+pub(crate) mod form;
+pub(crate) mod laws;
+pub(crate) mod names;
+#[cfg(test)]
+mod tests;
+pub(crate) mod words;
+
 ghost use Rattle.std.specs.Prelude.{◌≡◌, ◌⊎◌, IfErr, IfOk, Ok};
 ghost use Rattle.geofeed_cmd.specs.Job.{job};
 
-use crate::draft::Draft;
-use crate::names::is_text;
+use crate::job::draft::Draft;
+use crate::job::names::is_text;
 use geo_addr::{List, Memory, Text};
 use mmdb_file::Meta;
 use std::alloc::Global;

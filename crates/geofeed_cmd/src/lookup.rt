@@ -1,13 +1,23 @@
 //! What a file says of an address.
+pub(crate) mod command;
+#[cfg(test)]
+mod command_tests;
+#[cfg(test)]
+mod json_tests;
+pub(crate) mod laws;
+#[cfg(test)]
+mod tests;
+pub(crate) mod value_json;
+
 ghost use Rattle.std.specs.Prelude.{◌≡◌, ◌++◌, ◌∷◌, [], IfOk, codes, decimal, Option, option_map};
 ghost use Rattle.geo_addr.specs.Bits.{bits_of};
 ghost use Rattle.mmdb_data.specs.View.{tree};
 ghost use Rattle.mmdb_data.specs.Reading.{reads};
 ghost use Rattle.mmdb_file.specs.Walk.{value_at as value_behind, value_read, place_at};
-ghost use Rattle.geofeed_cmd.specs.Json.{json};
+ghost use Rattle.geofeed_cmd.specs.Lookup.Json.{json};
 ghost use Rattle.geofeed_cmd.specs.Lookup.{answer, answer_of, answer_text, cause_name, file_line, Gives, open_fault};
 
-use crate::value_json::json_text;
+use crate::lookup::value_json::json_text;
 use geo_addr::{Addr, Memory, Text};
 use mmdb_data::{DataCause, DataFault, Value, decode};
 use mmdb_file::{Mmdb, OpenFault, WalkFault};

@@ -2,7 +2,7 @@
 ghost use Rattle.std.specs.Prelude.{◌≡◌, map, option_map, string_bytes};
 ghost use Rattle.geofeed_cmd.specs.Commands.{build_of, command_of, lookup_of, named};
 
-use crate::names::is_name;
+use crate::job::names::is_name;
 use geo_addr::{Addr, parse_addr};
 
 /// A command, as the words spoke it.

@@ -1,26 +1,39 @@
-//! Why and where a job stops, and what is printed then.
+//! Why a command stops, its status then, and the line that is printed.
 ghost use Rattle.std.specs.Prelude.{◌≡◌, ◌≤◌, ◌++◌, ℕ, List, [], IfOk, codes, decimal};
-ghost use Rattle.geofeed_cmd.specs.Answers.{Announces, Closes};
-ghost use Rattle.geofeed_cmd.specs.Ending.{status_of, stop_line, read_line, missing_line, write_line, bytes_line, statements_line, large_line, words_line, job_line};
-ghost use Rattle.geofeed_cmd.specs.World.{does, file_named};
+ghost use Rattle.geofeed_cmd.specs.Run.Lines.{job_line, status_of, stop_line};
+ghost use Rattle.geofeed_cmd.specs.Run.Seen.{Closes};
 
-use crate::job::{Act, JobFault, Step};
+use crate::job::JobFault;
+use crate::lookup::{LookupFault, file_line};
 use crate::status::Status;
 use geo_addr::{Memory, Text};
 use geo_outside::Sink;
 use std::alloc::Global;
 
-/// Why a move of a command could not be done.
-#[derive(Clone, Copy, Debug, PartialEq, Eq)]
-pub(crate) enum Halt {
+/// Why a command cannot be done with what there is.
+#[derive(Clone, Copy, Debug)]
+pub(crate) enum Cause {
+    /// The words are no command.
+    Words,
     /// The file to be read is not there.
     Missing,
-    /// The file to be read is over its bytes.
+    /// It is no job.
+    Job(JobFault),
+    /// It is over its bytes.
     TooLong,
-    /// The file to be read is over its statements.
+    /// It is over its statements.
     TooMany,
     /// The file to be written is too large for the format.
     TooLarge,
+    /// The file to be looked up in is damaged on the way to the address.
+    File(LookupFault),
+}
+
+/// Why a command stopped.
+#[derive(Clone, Copy, Debug)]
+pub(crate) enum Stop {
+    /// What there is does not allow it.
+    Blocked(Cause),
     /// The folder failed to read.
     ReadFailed,
     /// The folder failed to write.
@@ -31,147 +44,105 @@ pub(crate) enum Halt {
     Memory,
 }
 
-impl From<Memory> for Halt {
+impl From<Memory> for Stop {
     ghost use Rattle.std.specs.Prelude.{◌≡◌};
-    ghost use Rattle.geofeed_cmd.specs.declared.stop.Halt.{Halt};
+    ghost use Rattle.geofeed_cmd.specs.declared.stop.Stop.{Stop};
 
-    ghost from_gives = { λ _ why. why ≡ Halt.Memory };
+    ghost from_gives = { λ _ why. why ≡ Stop.Memory };
 
-    fn from(_refused: Memory) -> Halt {
-        Halt::Memory
+    fn from(_refused: Memory) -> Stop {
+        Stop::Memory
     }
-}
-
-/// Where a list of steps stopped, as a place in the list, and why.
-#[derive(Clone, Copy, Debug, PartialEq, Eq)]
-pub(crate) struct Stop {
-    pub(crate) at: usize,
-    pub(crate) why: Halt,
 }
 
 /// The status of a command that stops for this.
-pub(crate) fn status_of(why: Halt) -> Status
+pub(crate) fn status_of(why: Stop) -> Status
     ensures { result ≡ status_of why }
 {
     match why {
-        Halt::Missing => Status::Missing,
-        Halt::TooLong | Halt::TooMany => Status::Source,
-        Halt::TooLarge => Status::TooLarge,
-        Halt::ReadFailed => Status::ReadFault,
-        Halt::PutFailed | Halt::SinkFailed => Status::WriteFault,
-        Halt::Memory => Status::Memory,
+        Stop::Blocked(Cause::Words) => Status::Words,
+        Stop::Blocked(Cause::Missing) => Status::Missing,
+        Stop::Blocked(Cause::Job(_)) => Status::Job,
+        Stop::Blocked(Cause::TooLong | Cause::TooMany) => Status::Source,
+        Stop::Blocked(Cause::TooLarge) => Status::TooLarge,
+        Stop::Blocked(Cause::File(_)) => Status::File,
+        Stop::ReadFailed => Status::ReadFault,
+        Stop::PutFailed | Stop::SinkFailed => Status::WriteFault,
+        Stop::Memory => Status::Memory,
     }
 }
 
-/// The line that a command prints where it stops at a step.
-pub(crate) fn stop_line(alloc: Global, why: Halt, step: &Step) -> Result<Text, Memory>
-    ensures { IfOk result (λ text. text ≡ stop_line why (does step.now)) }
+/// The line that is printed at a stop: `line` is that of the job, or 0, and `name` what was read, written or
+/// asked for.
+#[tactic(auto, unfolding(crate::specs::Run::Lines::stop_line))]
+pub(crate) fn stop_line(alloc: Global, why: Stop, line: u64, name: &str) -> Result<Text, Memory>
+    ensures { IfOk result (λ text. text ≡ stop_line why line name.now) }
 {
     match why {
-        Halt::Missing => missing_line(alloc, file_named(&step.act)),
-        Halt::TooLong => bytes_line(alloc, step.line),
-        Halt::TooMany => statements_line(alloc, step.line),
-        Halt::TooLarge => large_line(alloc, step.line),
-        Halt::ReadFailed => read_line(alloc, file_named(&step.act)),
-        Halt::PutFailed => write_line(alloc, file_named(&step.act)),
-        Halt::SinkFailed | Halt::Memory => Text::of(alloc, ""),
+        Stop::Blocked(Cause::Words) => Text::of(alloc, "stop words\n"),
+        Stop::Blocked(Cause::Missing) => named_line(alloc, "stop missing ", name),
+        Stop::Blocked(Cause::Job(fault)) => job_line(alloc, fault),
+        Stop::Blocked(Cause::TooLong) => numbered_line(alloc, "stop source ", line, " bytes\n"),
+        Stop::Blocked(Cause::TooMany) => numbered_line(
+            alloc,
+            "stop source ",
+            line,
+            " statements\n",
+        ),
+        Stop::Blocked(Cause::TooLarge) => numbered_line(alloc, "stop large ", line, "\n"),
+        Stop::Blocked(Cause::File(fault)) => file_line(alloc, fault),
+        Stop::ReadFailed => named_line(alloc, "stop read ", name),
+        Stop::PutFailed => named_line(alloc, "stop write ", name),
+        Stop::SinkFailed | Stop::Memory => Text::of(alloc, ""),
     }
 }
 
-/// The file that an act names.
-pub(crate) fn file_named(act: &Act) -> &str
-    ensures { result.now ≡ file_named act.now }
-{
-    match act {
-        Act::Stats { file, .. } | Act::Emit { file } => file.as_str(),
-        Act::Report => "",
-    }
-}
-
-#[tactic(auto, unfolding(crate::specs::Ending::read_line))]
-pub(crate) fn read_line(alloc: Global, name: &str) -> Result<Text, Memory>
-    ensures { IfOk result (λ text. text ≡ read_line name.now) }
-{
-    let text = format!(in alloc; "stop read {name}\n")?;
-    let text = Text::from_string(text)?;
-    Ok(text)
-}
-
-#[tactic(auto, unfolding(crate::specs::Ending::missing_line))]
-pub(crate) fn missing_line(alloc: Global, name: &str) -> Result<Text, Memory>
-    ensures { IfOk result (λ text. text ≡ missing_line name.now) }
-{
-    let text = format!(in alloc; "stop missing {name}\n")?;
-    let text = Text::from_string(text)?;
-    Ok(text)
-}
-
-#[tactic(auto, unfolding(crate::specs::Ending::write_line))]
-fn write_line(alloc: Global, name: &str) -> Result<Text, Memory>
-    ensures { IfOk result (λ text. text ≡ write_line name.now) }
-{
-    let text = format!(in alloc; "stop write {name}\n")?;
-    let text = Text::from_string(text)?;
-    Ok(text)
-}
-
-#[tactic(auto, unfolding(crate::specs::Ending::bytes_line))]
-pub(crate) fn bytes_line(alloc: Global, line: u64) -> Result<Text, Memory>
-    ensures { IfOk result (λ text. text ≡ bytes_line line) }
-{
-    let text = format!(in alloc; "stop source {line} bytes\n")?;
-    let text = Text::from_string(text)?;
-    Ok(text)
-}
-
-#[tactic(auto, unfolding(crate::specs::Ending::statements_line))]
-fn statements_line(alloc: Global, line: u64) -> Result<Text, Memory>
-    ensures { IfOk result (λ text. text ≡ statements_line line) }
-{
-    let text = format!(in alloc; "stop source {line} statements\n")?;
-    let text = Text::from_string(text)?;
-    Ok(text)
-}
-
-#[tactic(auto, unfolding(crate::specs::Ending::large_line))]
-fn large_line(alloc: Global, line: u64) -> Result<Text, Memory>
-    ensures { IfOk result (λ text. text ≡ large_line line) }
-{
-    let text = format!(in alloc; "stop large {line}\n")?;
-    let text = Text::from_string(text)?;
-    Ok(text)
-}
-
-#[tactic(auto, unfolding(crate::specs::Ending::words_line))]
-pub(crate) fn words_line(alloc: Global) -> Result<Text, Memory>
-    ensures { IfOk result (λ text. text ≡ words_line) }
-{
-    Text::of(alloc, "stop words\n")
-}
-
-#[tactic(auto, unfolding(crate::specs::Ending::job_line))]
-pub(crate) fn job_line(alloc: Global, fault: JobFault) -> Result<Text, Memory>
+fn job_line(alloc: Global, fault: JobFault) -> Result<Text, Memory>
     ensures { IfOk result (λ text. text ≡ job_line fault) }
 {
     match fault {
         JobFault::TooLong => Text::of(alloc, "stop job long\n"),
         JobFault::Utf8 => Text::of(alloc, "stop job utf8\n"),
-        JobFault::Line(line) => refused_line(alloc, line),
+        JobFault::Line(line) => numbered_line(alloc, "stop job ", line, "\n"),
         JobFault::Epoch => Text::of(alloc, "stop job empty\n"),
         JobFault::Memory => Text::of(alloc, ""),
     }
 }
 
-fn refused_line(alloc: Global, line: u64) -> Result<Text, Memory>
-    ensures { IfOk result (λ text. text ≡ codes "stop job " ++ (decimal line ++ codes "\n")) }
+fn named_line(alloc: Global, before: &str, name: &str) -> Result<Text, Memory>
+    ensures { IfOk result (λ text. text ≡ before.now ++ (name.now ++ codes "\n")) }
 {
-    let text = format!(in alloc; "stop job {line}\n")?;
+    let text = format!(in alloc; "{before}{name}\n")?;
     let text = Text::from_string(text)?;
     Ok(text)
 }
 
-/// Prints a stop line. Where it does not go out, the command ends all the same.
-pub(crate) fn print_line<O: Sink>(out: &mut O, line: Result<Text, Memory>)
+fn numbered_line(alloc: Global, before: &str, line: u64, after: &str) -> Result<Text, Memory>
+    ensures { IfOk result (λ text. text ≡ before.now ++ (decimal line ++ after.now)) }
+{
+    let text = format!(in alloc; "{before}{line}{after}")?;
+    let text = Text::from_string(text)?;
+    Ok(text)
+}
+
+/// Prints the line of a stop, and says its status. Where the line does not go out, the status stays.
+pub(crate) fn stop_at<O: Sink>(
+    alloc: Global,
+    why: Stop,
+    line: u64,
+    name: &str,
+    out: &mut O,
+) -> Status
+    ensures status { result ≡ status_of why }
+    ensures closed { Closes (O.written out.old) (O.written out.new) (O.faults out.old) (O.faults out.new) [] (stop_line why line name.now) }
+    ensures faults { O.faults out.old ≤ O.faults out.new }
+{
+    print_line(out, stop_line(alloc, why, line, name));
+    status_of(why)
+}
+
+// An empty line is not written, so nothing follows a sink that failed.
+fn print_line<O: Sink>(out: &mut O, line: Result<Text, Memory>)
     ensures closed { (wanted : List ℕ) → IfOk line (λ text. text ≡ wanted)
         → Closes (O.written out.old) (O.written out.new) (O.faults out.old) (O.faults out.new) [] wanted }
     ensures faults { O.faults out.old ≤ O.faults out.new }
@@ -186,16 +157,7 @@ fn print_text<O: Sink>(out: &mut O, text: &str)
     ensures closed { Closes (O.written out.old) (O.written out.new) (O.faults out.old) (O.faults out.new) [] text.now }
     ensures faults { O.faults out.old ≤ O.faults out.new }
 {
-    let _ = out.write_all(text.as_bytes());
-}
-
-/// Prints what a command prints where it stops at a step: nothing where the sink failed or memory ran out.
-pub(crate) fn print_stop<O: Sink>(alloc: Global, why: Halt, step: &Step, out: &mut O)
-    ensures announced { Announces why (does step.now) (O.written out.old) (O.written out.new) (O.faults out.old) (O.faults out.new) }
-    ensures faults { O.faults out.old ≤ O.faults out.new }
-{
-    match why {
-        Halt::SinkFailed | Halt::Memory => {}
-        _ => print_line(out, stop_line(alloc, why, step)),
+    if !text.is_empty() {
+        let _ = out.write_all(text.as_bytes());
     }
 }

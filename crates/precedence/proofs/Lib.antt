@@ -1,4 +1,3 @@
 pub mod SegmentLemmas
-pub mod SlotLemmas
 pub mod SourceLemmas
 pub mod SpotLemmas

@@ -7,7 +7,7 @@ use Rattle.std.proofs.lemmas.Bool.Decides.{nat_tests}
 use Rattle.std.proofs.lemmas.Cmp.{nat_list_cmp_total, tied_itself}
 use Rattle.std.proofs.lemmas.List.Elements.{recursion_from_All}
 use Rattle.std.specs.Option.{option_and_then}
-use Rattle.geo_addr.specs.Ranges.{Ends, AreCuts, IsCut, IsWithin}
+use Rattle.geo_addr.specs.Ranges.{Ends, AreCuts, IsWithin}
 use Rattle.geo_terms.proofs.Constancy.{constant_between_cuts}
 use Rattle.geo_terms.specs.Cuts.{statement_ranges}
 use Rattle.geo_terms.specs.DelegationForm.{DelegationParts}
@@ -19,14 +19,13 @@ use Rattle.geo_terms.specs.SourceForm.{StatsParts, IsStats}
 use Rattle.geo_terms.specs.Sources.{InForce}
 use Rattle.geo_terms.specs.declared.note.Note.{Note}
 use Rattle.geo_terms.specs.declared.note.Origin.TheVariants.{Stats}
-use Rattle.geo_terms.proofs.Members.{among_from_contains, contains_from_among}
-use Rattle.geo_terms.proofs.RankLemmas.{Up, up_from, same_members}
-use Rattle.precedence.proofs.SlotLemmas.{Ascend, ascend}
+use Rattle.geo_terms.proofs.RankLemmas.{Up, up_from}
+use Rattle.geo_terms.proofs.SlotLemmas.{Ascend, ascend}
 use Rattle.geo_terms.specs.Boundaries.{told}
-use Rattle.precedence.specs.CutPlaces.{whole, AreCutPlaces}
+use Rattle.precedence.specs.CutPlaces.{whole, AreSourceSegments, IsConstantBetween}
 use Rattle.precedence.specs.Spots.{delegation_of_place, IsIndex}
 use Rattle.precedence.specs.Segments.{AreSegments}
-use Rattle.precedence.specs.SlotOrder.{AreInOrder}
+use Rattle.geo_terms.specs.SlotOrder.{AreInOrder}
 use Rattle.precedence.specs.declared.delegations.DelegationIndex.{DelegationIndex}
 
 abbrev pub stats_alone : List StatsParts → InForce
@@ -128,23 +127,30 @@ report_of_stats ts up files =
     let ns : List Note = flat_map (λ t. t.notes) ts in
     sym (ap (in_order note_cmp) (append-nil (ns ++ []) ∙ append-nil ns) ∙ ordered_stays ns (notes_in_order ts (ascend slot_of ts up) (recursion_from_All IsStats ts files)))
 
--- the cut points of the whole address space are one list
-pub same_places : (s : InForce) (xs ys : List ℕ) → AreCuts (statement_ranges s) whole xs → IsStrictlyIncreasing xs → AreCutPlaces s ys → xs ≡ ys
-same_places s xs ys exact up h =
-    same_members 0 xs ys (up_from xs up) (up_from ys h.ascending)
-    (λ c is. among_from_contains c ys ((h.exact c).1 ((exact c).0 (contains_from_among c xs is))))
-    (λ c is. among_from_contains c xs ((exact c).1 ((h.exact c).0 (contains_from_among c ys is))))
+-- where all cut points of the sources are known, one record stands between them
+pub constant : (s : InForce) (places : List ℕ) → AreCuts (statement_ranges s) whole places → IsConstantBetween s places
+constant s places exact a b le high none =
+    constant_between_cuts s a b le (λ c above upto cut. none c above upto ((exact c).1 (cut, (omega arith, omega arith))))
+
+-- segments at these places
+pub segments_of_sources : (s : InForce) (touched : List Ends) (places : List ℕ) (out : List Ends) → AreCuts (statement_ranges s) whole places → IsStrictlyIncreasing places
+    → AreSegments touched places out → AreSourceSegments s touched out
+segments_of_sources s touched places out exact ascending segments = record {
+  ranges = segments.ranges;
+  apart = segments.apart;
+  inside = segments.inside;
+  covered = segments.covered;
+  uncut = λ k d below c above upto cut.
+      let end : (get_or out k d).last < 2 ^ 128 = (segments.ranges k d below).within in
+      let is : Contains places c = (exact c).1 (cut, (omega arith, omega arith)) in
+      let past : (get_or out k d).last < c = segments.uncut c is k d below above in
+      omega arith;
+  places = places;
+  cuts = record { exact = exact; ascending = ascending };
+  few = segments.few;
+}
 
 -- one record from the first address of a segment to its last
-pub steady : (s : InForce) (touched : List Ends) (places : List ℕ) (out : List Ends) → AreCuts (statement_ranges s) whole places → AreSegments touched places out
-    → All (λ r. (a : ℕ) → IsWithin r a → record_at s a ≡ record_at s r.first) out
-steady s touched places out exact segments k d below a within =
-    sym (constant_between_cuts s (get_or out k d).first a within.0 (λ c above upto cut. uncut c above upto cut))
-  where
-    uncut : (c : ℕ) → (get_or out k d).first < c → c ≤ a → IsCut (statement_ranges s) c → ⊥
-    uncut c above upto cut =
-        let end : (get_or out k d).last < 2 ^ 128 = (segments.ranges k d below).within in
-        let high : a ≤ (get_or out k d).last = within.1 in
-        let is : Contains places c = (exact c).1 (cut, (omega arith, omega arith)) in
-        let past : (get_or out k d).last < c = segments.uncut c is k d below above in
-        omega arith
+pub steady : (s : InForce) (touched out : List Ends) → AreSourceSegments s touched out → All (λ r. (a : ℕ) → IsWithin r a → record_at s a ≡ record_at s r.first) out
+steady s touched out segments k d below a within =
+    sym (constant_between_cuts s (get_or out k d).first a within.0 (λ c above upto cut. segments.uncut k d below c above (let high : a ≤ (get_or out k d).last = within.1 in omega arith) cut))

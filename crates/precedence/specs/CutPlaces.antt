@@ -1,9 +1,12 @@
 -- The cut points of all sources, and the segments between them.
-use Rattle.std.specs.Prelude.{ℕ, ◌-◌, ◌^◌, List}
+use Rattle.std.specs.Prelude.{◌≡◌, ℕ, ◌+◌, ◌-◌, ◌^◌, ◌<◌, ◌≤◌, IsTrue, List, All, Any, Contains, length, count_by}
+use Rattle.std.specs.List.{AllAdjacentBelow}
 use Rattle.std.specs.List.Sorted.{IsStrictlyIncreasing}
-use Rattle.geo_addr.specs.Ranges.{Ends, AreCuts}
+use Rattle.geo_addr.specs.Ranges.{Ends, AreCuts, IsRange, IsWithin, NoCut}
 use Rattle.geo_terms.specs.Cuts.{statement_ranges}
+use Rattle.geo_terms.specs.Precedence.{record_at}
 use Rattle.geo_terms.specs.Sources.{InForce}
+use Rattle.precedence.specs.Segments.{is_touched}
 
 -- the whole address space
 abbrev pub whole : Ends
@@ -13,3 +16,19 @@ whole = record { first = 0; last = 2 ^ 128 - 1 }
 pub record AreCutPlaces (s : InForce) (places : List ℕ) : Type 0 where
   pub exact : AreCuts (statement_ranges s) whole places
   pub ascending : IsStrictlyIncreasing places
+
+-- two addresses have one record where none of the places lies above the lower and at or below the higher
+abbrev pub IsConstantBetween : InForce → List ℕ → Type 0
+IsConstantBetween s places =
+    (a b : ℕ) → a ≤ b → b < 2 ^ 128 → ((c : ℕ) → a < c → c ≤ b → ¬ Contains places c) → record_at s a ≡ record_at s b
+
+-- ascending ranges that have the touched addresses and no others, with no cut point of the sources inside one; and no more of them than there are touched grounds and touched cut points
+pub record AreSourceSegments (s : InForce) (touched out : List Ends) : Type 0 where
+  pub ranges : All IsRange out
+  pub apart : AllAdjacentBelow (λ r t. r.last < t.first) out (length out)
+  pub inside : (a : ℕ) → Any (λ r. IsWithin r a) out → IsTrue (is_touched touched a)
+  pub covered : (a : ℕ) → IsTrue (is_touched touched a) → Any (λ r. IsWithin r a) out
+  pub uncut : All (λ r. NoCut (statement_ranges s) r.first r.last) out
+  pub places : List ℕ
+  pub cuts : AreCutPlaces s places
+  pub few : length out ≤ length touched + count_by (is_touched touched) places

@@ -1,5 +1,4 @@
 pub mod CutPlaces
 pub mod Marks
 pub mod Segments
-pub mod SlotOrder
 pub mod Spots

@@ -22,7 +22,7 @@ impl Model for Sources {
     ghost use Rattle.std.specs.Prelude.{[], None};
     ghost use Rattle.geo_terms.specs.Sources.{InForce};
     ghost use Rattle.precedence.specs.Spots.{IsIndex};
-    ghost use Rattle.precedence.specs.SlotOrder.{AreInOrder};
+    ghost use Rattle.geo_terms.specs.SlotOrder.{AreInOrder};
 
     ghost Value = { InForce };
 
@@ -41,9 +41,8 @@ impl Sources {
     ghost use Rattle.geo_terms.specs.Precedence.{record_at};
     ghost use Rattle.geo_terms.specs.Report.{report};
     ghost use Rattle.geo_terms.specs.Sources.{no_sources};
-    ghost use Rattle.precedence.specs.CutPlaces.{AreCutPlaces};
-    ghost use Rattle.precedence.specs.Segments.{AreSegments};
-    ghost use Rattle.precedence.specs.SlotOrder.{AreInOrder, placed};
+    ghost use Rattle.geo_terms.specs.SlotOrder.{AreInOrder, placed};
+    ghost use Rattle.precedence.specs.CutPlaces.{AreSourceSegments, IsConstantBetween, whole};
 
     /// No sources.
     pub fn new(alloc: Global) -> Sources
@@ -131,12 +130,23 @@ impl Sources {
         Ok(notes)
     }
 
+    /// The ranges of all statements in force.
+    pub fn ranges(&self) -> Result<Vec<Range>, Memory>
+        ensures { IfOk result (λ ranges. ranges.items ≡ statement_ranges self.now) }
+    {
+        let ranges = statement_ranges(self.alloc, self.stats.as_slice())?;
+        Ok(ranges)
+    }
+
     /// The places at which the statements in force cut a range: ascending, each once.
+    ///
+    /// The record is constant between two neighbours of those of the whole address space.
     pub fn cuts_in(&self, within: Range) -> Result<Vec<u128>, Memory>
         ensures exact { IfOk result (λ places. AreCuts (statement_ranges self.now) within places.items) }
         ensures ascending { IfOk result (λ places. IsStrictlyIncreasing places.items) }
+        ensures constant { within ≡ whole → IfOk result (λ places. IsConstantBetween self.now places.items) }
     {
-        let ranges = statement_ranges(self.alloc, self.stats.as_slice())?;
+        let ranges = self.ranges()?;
         let places = cuts(self.alloc, ranges.as_slice(), within)?;
         Ok(places)
     }
@@ -144,7 +154,7 @@ impl Sources {
     /// The touched grounds as ascending ranges that are disjoint, cut at the cut points of the sources:
     /// all of a range has one record.
     pub fn segments(&self, touched: &[Range]) -> Result<Vec<Range>, Memory>
-        ensures segments { IfOk result (λ segments. (places : List ℕ) → AreCutPlaces self.now places → AreSegments touched.now places segments.items) }
+        ensures segments { IfOk result (λ segments. AreSourceSegments self.now touched.now segments.items) }
         ensures steady { IfOk result (λ segments. All (λ r. (a : ℕ) → IsWithin r a → record_at self.now a ≡ record_at self.now r.first) segments.items) }
     {
         let whole = Range {

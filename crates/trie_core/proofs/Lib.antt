@@ -1,4 +1,5 @@
 pub mod BlockLemmas
+pub mod CompactLemmas
 pub mod CostLemmas
 pub mod GraftLemmas
 pub mod HeldLemmas

@@ -1,3 +1,4 @@
+pub mod Compact
 pub mod Graft
 pub mod Laws
 pub mod Paint

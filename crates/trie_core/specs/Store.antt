@@ -8,6 +8,10 @@ use Rattle.trie_core.specs.declared.node.Root.{Root}
 use Rattle.trie_core.specs.declared.node.Pair.{Pair}
 use Rattle.trie_core.specs.Tree.{Tree, leaf, node, height, look, IsPartOf}
 
+-- the number of a node in its store
+abbrev pub node_number : NodeId → ℕ
+node_number id = id.0
+
 -- the tree of a record, from the trees of the nodes
 abbrev pub tree_at : List (Tree ℕ) → Rec → Tree ℕ
 tree_at trees (Leaf k) = leaf k

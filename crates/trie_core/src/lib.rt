@@ -1,6 +1,7 @@
 //! The store of a search tree's nodes, and what its nodes mean.
 #![tactic(auto)]
 
+mod compact;
 mod fault;
 mod graft;
 pub mod laws;

@@ -1,7 +1,7 @@
 //! The store of nodes, each pair of children once.
 ghost use Rattle.std.specs.Prelude.{◌≡◌, ◌≢◌, ℕ, MatchOption, ◌+◌, ◌-◌, ◌^◌, ◌<◌, ◌≤◌, ◌↔◌, [], length, nat_eq, None, Some, slice_get, Contains, IfOk, OnErr, IsErrOf, IsTrue};
 ghost use Rattle.trie_core.specs.Tree.{leaf, node, height, join};
-ghost use Rattle.trie_core.specs.Store.{meaning, tree_of, leaf_at, record_of, pair_of, IsOf, IsRootOf, GrowsBy, IsKept, NeedsNew, AddedUnder, IsAdded, IsSound};
+ghost use Rattle.trie_core.specs.Store.{meaning, tree_of, leaf_at, record_of, pair_of, node_number, IsOf, IsRootOf, GrowsBy, IsKept, NeedsNew, AddedUnder, IsAdded, IsSound};
 
 use crate::fault::StoreFault;
 use crate::node::{NodeId, Pair, Rec, Root};
@@ -22,7 +22,7 @@ const MOST_NODES: usize = 0xffff_ffff;
 /// records and roots of this store: those that it gave, before or after whatever refusals.
 #[derive(Drop)]
 pub struct Store {
-    pairs: IndexSet<Pair>,
+    pub(crate) pairs: IndexSet<Pair>,
 }
 
 impl Model for Store {
@@ -130,6 +130,18 @@ impl Store {
     {
         let pair = self.pairs[id.0 as usize];
         (pair.left, pair.right)
+    }
+
+    /// The node with this number. The numbers of a store go from 0 up to its length, and children have
+    /// smaller ones than their node.
+    pub fn node(&self, number: u32) -> NodeId
+        requires { number < length self.now }
+        ensures number { node_number result ≡ number }
+        ensures of { IsOf self.now (Rec.Node result) }
+        ensures sound { IsSound self.now }
+    {
+        let _ = &self.pairs;
+        NodeId(number)
     }
 
     /// The number of nodes that the store holds.

@@ -89,6 +89,50 @@ fn found_by_alias<L: Ledger>(
     Ok(addresses.map(|at| store.find(root, Addr(at))))
 }
 
+/// The 128 addresses from this one on.
+fn small_network(first: u32) -> Range {
+    let first = u128::from(first);
+    Range {
+        first,
+        last: first + 127,
+    }
+}
+
+/// The length and the root of a store that is made compact after small networks, each with its leaf, were
+/// painted on it, and the first one painted over with leaf 0.
+fn compacted<L: Ledger>(
+    alloc: Global,
+    blank: Blank,
+    networks: [(u32, u32); 3],
+) -> Result<(u32, Option<Root>), Fail>
+    requires name { blank.name ≡ L.name }
+    requires parts { blank.parts ≡ L.parts }
+    requires some { 0 < blank.parts }
+{
+    let mut steps: Steps<L> = Steps::new(blank);
+    let mut store = Store::new(alloc);
+    let root = store.empty();
+    let [one, two, three] = networks;
+    let root = store.paint(root, small_network(one.0), one.1, &mut steps)?;
+    let root = store.paint(root, small_network(two.0), two.1, &mut steps)?;
+    let root = store.paint(root, small_network(three.0), three.1, &mut steps)?;
+    let root = store.paint(root, small_network(one.0), 0, &mut steps)?;
+    let (store, roots) = store.compact(alloc, &[root])?;
+    Ok((store.len(), roots.first().copied()))
+}
+
+/// Stores that were filled in different orders are the same once they are compact.
+#[test]
+fn compacts_to_one_store(rt: HostRuntime) -> Result<(), Fail> {
+    // 128 addresses each from 192.0.2.0, 10.0.0.0 and 10.0.1.0: the last two have 121 nodes
+    let (gone, lower, upper) = ((0xc000_0200, 2), (0x0a00_0000, 1), (0x0a00_0100, 1));
+    let one = compacted::<Brand>(rt.alloc(), Blank::new(1), [gone, lower, upper])?;
+    let other = compacted::<Brand>(rt.alloc(), Blank::new(1), [gone, upper, lower])?;
+    assert_eq!(rt; one, other);
+    assert_eq!(rt; one.0, 121);
+    Ok(())
+}
+
 #[test]
 fn grafts_at_alias_blocks(rt: HostRuntime) -> Result<(), Fail> {
     let addresses = [

@@ -1,19 +1,19 @@
 -- There are no more segments than the touch.
 use Rattle.std.proofs.Common.{◌≡◌, ℕ, ◌*◌, zero, suc, ◌+◌, ◌≤◌, Bool, true, false, cond, eqb, List, [], ◌∷◌, length, Contains, refl, sym, ap, ◌∙◌, inl, inr, arith}
-use Rattle.std.specs.List.{filter, flat_map, count_by}
+use Rattle.std.specs.List.{All, filter, flat_map, count_by}
 use Rattle.std.specs.List.Sorted.{IsStrictlyIncreasing}
 use Rattle.std.proofs.lemmas.Bool.Decides.{Decides-eqb}
 use Rattle.std.proofs.lemmas.List.Sums.{length-filter, count_by-le-length}
-use Rattle.geo_addr.specs.Ranges.{Ends, IsCut, AreCuts, ground_first}
+use Rattle.geo_addr.specs.Ranges.{Ends, IsCut, IsWithin, ground_first}
 use Rattle.geo_terms.specs.Cuts.{statement_ranges}
+use Rattle.geo_terms.specs.Precedence.{record_at}
 use Rattle.geo_terms.specs.Sources.{InForce}
 use Rattle.mmdb_file.proofs.WritingLemmas.{length-each_once}
 use Rattle.least_nodes.proofs.Elements.{In, In-each_once-new}
-use Rattle.precedence.proofs.FirstLemmas.{Among, contains_from_among, among_filter}
-use Rattle.precedence.proofs.RankLemmas.{Up, up_from, up_above}
-use Rattle.precedence.proofs.SourceLemmas.{steady}
-use Rattle.precedence.specs.CutPlaces.{whole}
-use Rattle.precedence.specs.Segments.{is_touched, AreSegments}
+use Rattle.geo_terms.proofs.Members.{Among, contains_from_among, among_filter}
+use Rattle.geo_terms.proofs.RankLemmas.{Up, up_from, up_above}
+use Rattle.precedence.specs.CutPlaces.{AreSourceSegments}
+use Rattle.precedence.specs.Segments.{is_touched}
 use Rattle.update_session.specs.Build.{AreSteady}
 use Rattle.update_session.specs.State.{State}
 use Rattle.update_session.specs.Touch.{edges_of, edges, touch, bound}
@@ -97,19 +97,19 @@ few_cuts p rs cuts up are =
     edge : (c : ℕ) → Among c cuts → Among c (edges rs)
     edge c is = among_from_in c (edges rs) (In-each_once-new eqb Decides-eqb c [] (flat_map edges_of rs) (in_from_among c (flat_map edges_of rs) (among_edges c rs (are c (contains_from_among c cuts is)))))
 
--- segments at the cut points of the sources are steady, and few
-pub AreSteady-from_segments : (s : InForce) (touched : List Ends) (cuts : List ℕ) (out : List Ends) → AreCuts (statement_ranges s) whole cuts → IsStrictlyIncreasing cuts → AreSegments touched cuts out → AreSteady s touched out
+-- segments of the sources are steady, and few
+pub AreSteady-from_segments : (s : InForce) (touched out : List Ends) → AreSourceSegments s touched out → All (λ r. (a : ℕ) → IsWithin r a → record_at s a ≡ record_at s r.first) out → AreSteady s touched out
 unfolding touch
-AreSteady-from_segments s touched cuts out exact up segments =
-    let few : count_by (is_touched touched) cuts ≤ length (filter (is_touched touched) (edges (statement_ranges s))) =
-    few_cuts (is_touched touched) (statement_ranges s) cuts up (λ c is. ((exact c).0 is).0) in
+AreSteady-from_segments s touched out segments steady =
+    let few : count_by (is_touched touched) segments.places ≤ length (filter (is_touched touched) (edges (statement_ranges s))) =
+    few_cuts (is_touched touched) (statement_ranges s) segments.places segments.cuts.ascending (λ c is. ((segments.cuts.exact c).0 is).0) in
     record {
       ranges = segments.ranges;
       apart = segments.apart;
       inside = segments.inside;
       covered = segments.covered;
-      steady = steady s touched cuts out exact segments;
-      few = omega (arith, few, segments.few);
+      steady = steady;
+      few = let all = segments.few in omega (arith, few, all);
     }
 
 length-edges : (rs : List Ends) → length (flat_map edges_of rs) ≡ 2 * length rs

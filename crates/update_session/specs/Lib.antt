@@ -1,3 +1,4 @@
 pub mod Build
+pub mod Standing
 pub mod State
 pub mod Touch

@@ -5,7 +5,7 @@ use Rattle.geo_terms.specs.Sources.{InForce, no_sources}
 use Rattle.mmdb_tree.specs.Nodes.{smallest, record_size}
 use Rattle.mmdb_file.specs.FileImage.{file_nodes, file_section, record_tree, fresh}
 use Rattle.mmdb_file.specs.declared.writing.Emitted.{Emitted}
-use Rattle.precedence.specs.SlotOrder.{placed}
+use Rattle.geo_terms.specs.SlotOrder.{placed}
 
 -- the sources in force, and the build epoch and the name of the files
 pub record State : Type 0 where

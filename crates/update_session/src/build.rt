@@ -13,17 +13,11 @@ ghost use Rattle.update_session.specs.Touch.{touch};
 use crate::fault::EmitFault;
 use geo_addr::{Memory, Range};
 use geo_outside::Steps;
-use geo_terms::{Delegation, Place, Places, PlacesFault, Statement, Stats};
-use precedence::{Sources, segments_of};
+use geo_terms::{Place, Places, PlacesFault};
+use precedence::Sources;
 use std::alloc::Global;
 use std::sync::ledger::Ledger;
 use trie_core::{Part, Root, Store, StoreFault};
-
-/// All addresses.
-const WHOLE: Range = Range {
-    first: 0,
-    last: u128::MAX,
-};
 
 /// A tree that was built: its nodes, the places that its leaves number, and its root.
 #[derive(Drop)]
@@ -48,7 +42,7 @@ pub fn build_tree<L: Ledger>(
     ensures full { result ≡ Err EmitFault.TooLarge
         → 2 ^ 32 - 1 ≤ 256 * touch (statement_ranges sources.now) (statement_ranges sources.now) }
 {
-    let touched = statement_ranges(alloc, sources)?;
+    let touched = sources.ranges()?;
     let mut store = Store::new(alloc);
     let mut places = Places::new(alloc);
     let empty = store.empty();
@@ -66,35 +60,6 @@ pub fn build_tree<L: Ledger>(
         places,
         root,
     })
-}
-
-// The ranges of all statements in force.
-fn statement_ranges(alloc: Global, sources: &Sources) -> Result<Vec<Range>, Memory>
-    requires { StatsAlone sources.now }
-    ensures { IfOk result (λ ranges. ranges.items ≡ statement_ranges sources.now) }
-{
-    let ranges = ranges_of(alloc, sources.stats())?;
-    Ok(ranges)
-}
-
-// The ranges of all delegations, file by file.
-fn ranges_of(alloc: Global, files: &[Stats]) -> Result<Vec<Range>, Memory>
-    ensures { IfOk result (λ ranges. ranges.items ≡ map (λ d. d.range) (flat_map (λ t. t.rows) files.now)) }
-{
-    let mut ranges = Vec::new(alloc);
-    for file in files {
-        push_ranges(&mut ranges, file.rows.as_slice())?;
-    }
-    Ok(ranges)
-}
-
-fn push_ranges(ranges: &mut Vec<Range>, rows: &[Delegation]) -> Result<(), Memory>
-    ensures { OnOk result (ranges.new.items ≡ ranges.old.items ++ map (λ d. d.range) rows.now) }
-{
-    for row in rows {
-        ranges.push(row.range())?;
-    }
-    Ok(())
 }
 
 /// A root that at each address has the number of the address's record, where the given one has it
@@ -121,18 +86,17 @@ pub fn repaint<L: Ledger>(
     ensures places { PlacesGrowBy places.old places.new (touch touched.now (statement_ranges sources.now)) }
     ensures full { result ≡ Err EmitFault.TooLarge → (length store.new + 1 ≡ 2 ^ 32) ⊎ (length places.new + 1 ≡ 2 ^ 32) }
 {
-    let segments = cut(alloc, sources, touched)?;
+    let segments = cut(sources, touched)?;
     let parts = parts_of(alloc, sources, segments.as_slice(), places)?;
     let root = paint(store, root, parts.as_slice(), steps)?;
     Ok(root)
 }
 
 // The touched grounds, cut where the record may change.
-fn cut(alloc: Global, sources: &Sources, touched: &[Range]) -> Result<Vec<Range>, Memory>
+fn cut(sources: &Sources, touched: &[Range]) -> Result<Vec<Range>, Memory>
     ensures { IfOk result (λ segments. AreSteady sources.now touched.now segments.items) }
 {
-    let cuts = sources.cuts_in(WHOLE)?;
-    let segments = segments_of(alloc, touched, cuts.as_slice())?;
+    let segments = sources.segments(touched)?;
     Ok(segments)
 }
 

@@ -1,6 +1,7 @@
 //! What callers of a session rest on, as functions that do nothing: what each ensures is the law.
 ghost use Rattle.std.specs.Prelude.{◌≡◌, ◌↔◌, ◌≤◌, ◌+◌, ◌*◌, length, IsTrue, None};
 ghost use Rattle.geo_terms.specs.Cuts.{statement_ranges};
+ghost use Rattle.update_session.specs.Standing.{StandingStays};
 ghost use Rattle.update_session.specs.State.{State, file_of, is_too_large};
 ghost use Rattle.update_session.specs.Touch.{bound};
 
@@ -13,4 +14,9 @@ pub fn too_large_means_no_file()
 /// it is below 2^32 - 1, and `TooLarge` comes only where the file is too large.
 pub fn bound_by_statements()
     ensures { (s : State) → bound s ≤ 256 * (3 * length (statement_ranges s.sources) + 1) }
+{}
+
+/// Where a session stands after a call follows from where it stood before and from the call alone.
+pub fn standing_stays()
+    ensures { StandingStays }
 {}

@@ -19,7 +19,7 @@ returns-clause-headline g c =
 pub returns-clause-by_value : goal.returns-clause-by_value
 returns-clause-by_value g c =
     λ first told done step name world there emits.
-    least_by_value world.state (published_at (command_of (map string_bytes c.args.words.now)) first _ _
+    least_by_value world.session.state (published_at (command_of (map string_bytes c.args.words.now)) first _ _
     (done_of c.do_words.result (command_of (map string_bytes c.args.words.now)) first _ _ _ _ done (c.do_words.ensures.comes first told)) step name world there emits)
 
 pub returns-clause-exact : goal.returns-clause-exact
@@ -39,7 +39,7 @@ returns-clause-certain g c =
 
 pub returns-clause-complete : goal.returns-clause-complete
 returns-clause-complete g c =
-    λ first told free unread unwritten unprinted.
-    no_fault c.do_words.result _ _ _ c.do_words.ensures.read c.do_words.ensures.write unread unwritten unprinted
+    λ first told free cheap unread unwritten unprinted.
+    no_fault (command_of (map string_bytes c.args.words.now)) first c.do_words.result cheap _ _ _ c.do_words.ensures.read c.do_words.ensures.write unread unwritten unprinted
     (certain (command_of (map string_bytes c.args.words.now)) first c.do_words.result
     (answered c.do_words.result (command_of (map string_bytes c.args.words.now)) first _ _ _ _ (c.do_words.ensures.comes first told)) statuses.Done free)

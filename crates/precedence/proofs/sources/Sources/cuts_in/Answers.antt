@@ -1,16 +1,15 @@
-use Rattle.std.proofs.Common.{◌≡◌, ◌∙◌, ap, sym, List, map, subst}
-use Rattle.std.specs.List.{flat_map}
+use Rattle.std.proofs.Common.{◌∙◌, List, subst}
 use Rattle.geo_addr.specs.Ranges.{Ends, AreCuts}
 use Rattle.geo_terms.specs.Cuts.{statement_ranges}
-use Rattle.geo_terms.specs.DelegationForm.{DelegationParts}
-use Rattle.geo_terms.specs.SourceForm.{StatsParts}
-use Rattle.precedence.proofs.SourceLemmas.{ranges_of_stats}
+use Rattle.precedence.proofs.SourceLemmas.{constant}
 use Rattle.precedence.proofs.sources.Sources.cuts_in.Goals as goal
 
 pub returns-clause-exact : goal.returns-clause-exact
 returns-clause-exact c =
-    let ranges : c.as_slice-2.result.now ≡ statement_ranges c.args.self.now =
-    c.as_slice-2.ensures.value ∙ c.in_ok-ranges.ensures
-    ∙ ap (λ (ts : List StatsParts). map (λ (d : DelegationParts). d.range) (flat_map (λ t. t.rows) ts)) c.as_slice.ensures.value
-    ∙ sym (ranges_of_stats c.self.inside.stats.items) ∙ ap statement_ranges c.self.view_is in
-    subst (λ (rs : List Ends). AreCuts rs c.args.within c.in_ok-places.places.items) ranges c.in_ok-places.ensures.exact
+    subst (λ (rs : List Ends). AreCuts rs c.args.within c.in_ok-places.places.items) (c.as_slice.ensures.value ∙ c.in_ok-ranges.ensures) c.in_ok-places.ensures.exact
+
+pub returns-clause-constant : goal.returns-clause-constant
+returns-clause-constant c all =
+    constant c.args.self.now c.in_ok-places.places.items
+    (subst (λ (within : Ends). AreCuts (statement_ranges c.args.self.now) within c.in_ok-places.places.items) all
+    (subst (λ (rs : List Ends). AreCuts rs c.args.within c.in_ok-places.places.items) (c.as_slice.ensures.value ∙ c.in_ok-ranges.ensures) c.in_ok-places.ensures.exact))

@@ -5,8 +5,8 @@ use Rattle.geo_terms.specs.PlaceForm.{same_text}
 use Rattle.geo_terms.specs.Precedence.{text_cmp}
 use Rattle.geo_terms.specs.SourceForm.{StatsParts}
 use Rattle.geo_terms.specs.Sources.{InForce}
-use Rattle.precedence.specs.SlotOrder.{AreInOrder, placed}
-use Rattle.precedence.proofs.SlotLemmas.{placed_in_order, put_in_place, found_in_place, put_between, none_in_place}
+use Rattle.geo_terms.specs.SlotOrder.{AreInOrder, placed}
+use Rattle.geo_terms.proofs.SlotLemmas.{placed_in_order, put_in_place, found_in_place, put_between, none_in_place}
 use Rattle.precedence.proofs.SourceLemmas.{stats_alone, slot_of}
 use Rattle.precedence.proofs.sources.Sources.set_stats.Goals as goal
 

@@ -1,0 +1,53 @@
+#!/usr/bin/env bash
+# The script `install`, into folders of its own: what it puts where, that the installed program runs far from the
+# repository, that bash completes its words, and that `--remove` leaves nothing behind.
+set -u
+cd "$(dirname "${BASH_SOURCE[0]}")/.." || exit 1
+top=$PWD
+. checks/with_program.bash
+
+"$top/install" "$work/usr" > printed 2>&1 || fail "it ends with status $?: $(cat printed)"
+for file in bin/geofeed share/man/man1/geofeed.1 share/bash-completion/completions/geofeed \
+    share/doc/geofeed/README.md share/doc/geofeed/docs/stops.md share/doc/geofeed/examples/first/job; do
+    [ -f "usr/$file" ] || fail "it does not put $file"
+done
+
+cp -r usr/share/doc/geofeed/examples/first first && cd first || exit 1
+printed=$(env -i PATH=/nowhere ../usr/bin/geofeed build job) || fail "the installed program ends with status $?: $printed"
+[ "${printed##*$'\n'}" = 'emit first.mmdb nodes 211 data 176 bits 24 bytes 1661' ] || fail "the first job prints '$printed'"
+cd ..
+
+# completes WORDS WANTED: what bash offers for the last of the words.
+completes() {
+    local offered
+    offered=$(bash --norc --noprofile -c '
+        . usr/share/bash-completion/completions/geofeed
+        compopt() { :; }
+        read -ra COMP_WORDS <<< "$1"
+        [ "${1% }" = "$1" ] || COMP_WORDS+=("")
+        COMP_CWORD=$((${#COMP_WORDS[@]} - 1))
+        _geofeed
+        printf "%s\n" "${COMPREPLY[@]}" | sort | paste -sd" "' bash "$1")
+    [ "$offered" = "$2" ] || fail "'$1' is completed by '$offered', and not '$2'"
+}
+: > 'with blank' && mkdir jobs && : > jobs/daily && : > job
+completes 'geofeed ' '--help --version -V -h build lookup'
+completes 'geofeed bu' 'build'
+completes 'geofeed build jo' 'job jobs'
+completes 'geofeed build jobs/' 'jobs/daily'
+completes 'geofeed lookup w' ''
+completes 'geofeed build ../' ''
+completes 'geofeed build job ' ''
+
+"$top/install" --remove "$work/usr" > printed 2>&1 || fail "--remove ends with status $?: $(cat printed)"
+left=$(find usr ! -type d)
+[ -z "$left" ] || fail "--remove leaves $left"
+DESTDIR=$work/package "$top/install" > printed 2>&1 || fail "with DESTDIR it ends with status $?: $(cat printed)"
+[ -x package/usr/local/bin/geofeed ] || fail "DESTDIR is not kept"
+for words in '--help' 'one two' '--remove one two'; do
+    # shellcheck disable=SC2086
+    "$top/install" $words > printed 2>&1
+    [ $? -eq 2 ] && grep -q '^usage: ' printed || fail "'$words' ends otherwise: $(cat printed)"
+done
+
+verdict

@@ -1,0 +1,81 @@
+#!/usr/bin/env bash
+# Sizes that tests do not have, within limits of time and memory: 300,000 made lines of statistics, 100,000 lines that
+# are noted, a comment of 5,000 bytes, a list that claims 16.8 million values, and a file with records of 28 bits.
+set -u
+cd "$(dirname "${BASH_SOURCE[0]}")/.." || exit 1
+made=$PWD/bench/statistics.awk
+bench=$PWD/crates/geo_bench/out/geo_bench
+. checks/with_program.bash
+
+# runs SECONDS KILOBYTES WORDS..: what the program prints, in the file `printed`, and its status in `status`.
+runs() {
+    local seconds=$1 kilobytes=$2
+    shift 2
+    (ulimit -v "$kilobytes" && exec timeout "$seconds" "$program" "$@") > printed
+    status=$?
+}
+
+# The bytes of the file are those that another program wrote from the same lines and rules.
+awk -v lines=300000 -f "$made" > s.txt
+printf 'epoch 1700000000\nstats made s.txt\nemit out.mmdb\n' > job
+runs 20 400000 build job
+wanted='emit out.mmdb nodes 178363 data 1166 bits 24 bytes 1071565'
+[ "$status $(cat printed)" = "0 $wanted" ] || fail "300,000 lines end with status $status and '$(cat printed)'"
+sum=$(md5sum < out.mmdb 2>&1)
+[ "$sum" = 'f913f41c2b3f734cfe1b26185a5a8194  -' ] || fail "300,000 lines make a file of another sum, $sum"
+
+# As many delegations as before are not too many, and as many notes: one for each line.
+awk 'BEGIN { for (n = 0; n < 100000; n++) print "x|DE|ipv4|here|256||allocated" }' > s.txt
+printf 'epoch 1700000000\nstats made s.txt\nreport\nemit out.mmdb\n' > job
+runs 20 400000 build job
+awk 'BEGIN { for (n = 1; n <= 100000; n++) print "stats made " n " S04"; print "notes 100000"
+    print "emit out.mmdb nodes 1 data 0 bits 24 bytes 225" }' > wanted
+[ "$status" -eq 0 ] && cmp printed wanted || fail "100,000 noted lines end with status $status and $(wc -l < printed) lines"
+
+# A comment of 5,000 bytes in a job, and one in a source.
+comment=$(printf '#%4999s' '' | tr ' ' x)
+printf '%s\nx|DE|ipv4|128.0.0.0|2147483648||allocated\n' "$comment" > s.txt
+printf '%s\nepoch 1700000000\nstats x s.txt\nemit out.mmdb\n' "$comment" > job
+runs 5 200000 build job
+[ "$status $(cat printed)" = '0 emit out.mmdb nodes 97 data 22 bits 24 bytes 823' ] || fail "long comments end with status $status"
+
+# A tree of one node, whose two records lead to a list that claims 16,843,036 values and has none.
+{
+    printf '\0\0\x11\0\0\x11'
+    head -c 16 /dev/zero
+    printf '\x1F\x04\xFF\xFF\xFF'
+    printf '\xAB\xCD\xEFMaxMind.com\xE4\x5Bbinary_format_major_version\xA1\x02'
+    printf '\x4Aip_version\xA1\x06\x4Anode_count\xC1\x01\x4Brecord_size\xA1\x18'
+} > claims
+runs 5 200000 lookup claims 192.0.2.1
+[[ "$status $(cat printed)" == '9 stop file '* ]] || fail "a list that claims 16.8 million values ends with status $status and '$(cat printed)'"
+
+# Records of 28 bits, in a file that geo_bench writes: each of its ranges, with the city that its leaf has by the case's own
+# rule, which stands in crates/geo_bench/src/ranges.rt and is done anew here.
+if [ ! -x "$bench" ]; then
+    echo "$check: not tried: records of 28 bits: $bench is not built"
+elif ! command -v perl > /dev/null; then
+    echo "$check: not tried: records of 28 bits: there is no perl"
+else
+    "$bench" wide 100000 wide.mmdb > printed || fail "the case wide ends with status $?"
+    grep -q ' bits 28$' printed || fail "the case wide prints '$(cat printed)', and no records of 28 bits"
+    perl -Minteger -e 'for (my $n = 7; $n < 100000; $n += 4999) {
+        my $once = (($n ^ $n >> 16) * 0x7feb352d) & 0xffffffff;
+        my $twice = (($once ^ $once >> 15) * 0x846ca68b) & 0xffffffff;
+        my $mixed = $twice ^ $twice >> 16;
+        my $first = 0x10000000 + $n * 32 + ($mixed & 1) * 16;
+        my $city = sprintf "%d", ($mixed >> 1) % 20000;
+        for ([$first, $city], [$first + 15, $city], [$first + ($mixed & 1 ? -1 : 16), ""]) {
+            my ($at, $name) = @$_;
+            printf "%s %s\n", join(".", map { $at >> $_ & 255 } 24, 16, 8, 0), $name } }' > places
+    while read -r at city; do
+        wanted=none
+        [ -z "$city" ] || wanted="{\"city\":{\"names\":{\"en\":\"$(printf '%1000s' "$city" | tr ' ' x)\"}},\"country\":{\"iso_code\":\"DE\"}}"
+        [ "$("$program" lookup wide.mmdb "$at")" = "$wanted" ] || fail "records of 28 bits: $at has not city $city"
+        command -v mmdblookup > /dev/null || continue
+        other=$(mmdblookup --file wide.mmdb --ip "$at" city names en 2>&1 | sed -n 's/^ *"x*\([0-9]*\)" <utf8_string>.*/\1/p')
+        [ "$other" = "$city" ] || fail "records of 28 bits: mmdblookup of $at finds '$other', and not $city"
+    done < places
+fi
+
+verdict

@@ -1,0 +1,11 @@
+//! A map over a list whose pieces run side by side, with results that do not tell how many pieces there were.
+#![tactic(auto)]
+
+mod map;
+mod part;
+#[cfg(test)]
+mod tests;
+mod work;
+
+pub use map::map_pieces;
+pub use work::Work;

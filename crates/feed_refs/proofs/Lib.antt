@@ -1,0 +1,11 @@
+pub mod DateLemmas
+pub mod DumpForm
+pub mod FeedLemmas
+pub mod GroupLines
+pub mod KindLemmas
+pub mod NoteOrder
+pub mod ObjectLines
+pub mod ReadingLemmas
+pub mod Rising
+pub mod UrlLemmas
+pub mod WantedLemmas

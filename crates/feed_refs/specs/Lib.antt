@@ -1,0 +1,7 @@
+pub mod Dates
+pub mod Dumps
+pub mod Kinds
+pub mod Readings
+pub mod References
+pub mod Urls
+pub mod Used

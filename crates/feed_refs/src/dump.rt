@@ -1,0 +1,145 @@
+//! A dump, read in pieces.
+ghost use Rattle.std.specs.Prelude.{◌≡◌, ◌≢◌, ◌-◌, ◌++◌, [], Err, IfOk, List, length, take, ℕ};
+ghost use Rattle.geo_terms.specs.declared.source.SourceFault.{SourceFault};
+ghost use Rattle.feed_refs.specs.Dumps.{dump, so_far};
+ghost use Rattle.feed_refs.specs.Readings.{ours, reading};
+
+use crate::found::{Found, in_line_order};
+use geo_addr::{List, Memory, Text};
+use geo_terms::{Dump, SourceFault, Texts};
+use rpsl_reader::{Reader, Selection};
+use std::alloc::Global;
+use std::marker::Model;
+
+// The most bytes of a dump.
+const LONGEST: usize = 1 << 40;
+
+// The most references in a dump.
+const MOST: usize = 2_097_152;
+
+/// Reads a registry dump in pieces, however it is cut.
+///
+/// A dump has too many references over 2,097,152, counted in the objects that end within its first
+/// 2^40 bytes, and else is too long over 2^40 bytes. Contracts see what the text so far leaves.
+#[derive(Drop)]
+pub struct DumpReader {
+    alloc: Global,
+    slot: Text,
+    selection: Selection,
+    reader: Reader,
+    // The bytes that the reader was fed.
+    fed: usize,
+    found: Found,
+    // The URLs so far, which references share.
+    urls: Texts,
+    fault: Option<SourceFault>,
+}
+
+impl Model for DumpReader {
+    ghost use Rattle.feed_refs.specs.Readings.{IsHeld, Reading, kept_by};
+
+    ghost Value = { Reading };
+
+    ghost view = { λ r. record { slot = r.slot; kept = kept_by r.fault (record { reader = r.reader; refs = r.found.refs.items; notes = r.found.notes.items }) } };
+
+    ghost invariant = { λ r. IsHeld r.slot r.selection r.fed r.fault (record { reader = r.reader; refs = r.found.refs.items; notes = r.found.notes.items }) };
+}
+
+impl DumpReader {
+    /// A reader of the dump in a slot, before its first byte.
+    pub fn new(alloc: Global, slot: &str) -> Result<DumpReader, Memory>
+        ensures { IfOk result (λ reader. reader ≡ reading slot.now []) }
+    {
+        let slot = Text::of(alloc, slot)?;
+        let selection = our_selection(alloc)?;
+        Ok(DumpReader {
+            alloc,
+            slot,
+            selection,
+            reader: Reader::new(alloc),
+            fed: 0,
+            found: Found::new(alloc),
+            urls: Texts::new(alloc),
+            fault: None,
+        })
+    }
+
+    /// Reads one more piece of the dump.
+    ///
+    /// A dump that is too long or has too many references stays so, whatever follows.
+    pub fn feed(&mut self, piece: &[u8]) -> Result<(), SourceFault>
+        ensures read { result ≢ Err SourceFault.Memory → (text : List ℕ) → self.old ≡ reading self.old.slot text → self.new ≡ reading self.old.slot (text ++ piece.now) }
+        ensures answer { result ≢ Err SourceFault.Memory → (text : List ℕ) → self.old ≡ reading self.old.slot text → result ≡ so_far self.old.slot (text ++ piece.now) }
+        ensures memory { result ≡ Err SourceFault.Memory → self.new ≡ self.old }
+    {
+        if let Some(fault) = self.fault {
+            return Err(fault);
+        }
+        let within = first_bytes(piece, LONGEST.saturating_sub(self.fed));
+        let progress = self.reader.read(within, &self.selection)?;
+        let more = Found::of(self.alloc, &self.slot, progress.items(), &mut self.urls)?;
+        if self.found.refs.len() + more.refs.len() > MOST {
+            self.found = Found::new(self.alloc);
+            self.fault = Some(SourceFault::TooMany);
+            return Err(SourceFault::TooMany);
+        }
+        if within.len() < piece.len() {
+            self.found = Found::new(self.alloc);
+            self.fault = Some(SourceFault::TooLong);
+            return Err(SourceFault::TooLong);
+        }
+        self.found.reserve(&more)?;
+        self.reader.accept(progress)?;
+        self.fed += piece.len();
+        self.found.join(more);
+        Ok(())
+    }
+
+    /// Ends the dump, and with it its last object.
+    pub fn finish(self) -> Result<Dump, SourceFault>
+        ensures { result ≢ Err SourceFault.Memory → (text : List ℕ) → self ≡ reading self.slot text → result ≡ dump self.slot text }
+    {
+        if let Some(fault) = self.fault {
+            return Err(fault);
+        }
+        let items = self.reader.read_end(&self.selection)?;
+        let mut urls = self.urls;
+        let more = Found::of(self.alloc, &self.slot, items.as_slice(), &mut urls)?;
+        let mut whole = self.found;
+        if whole.refs.len() + more.refs.len() > MOST {
+            return Err(SourceFault::TooMany);
+        }
+        whole.reserve(&more)?;
+        whole.join(more);
+        let notes = in_line_order(whole.notes)?;
+        Ok(Dump {
+            slot: self.slot,
+            refs: List::of(whole.refs),
+            notes: List::of(notes),
+        })
+    }
+}
+
+// What the objects of a dump are read for.
+fn our_selection(alloc: Global) -> Result<Selection, Memory>
+    ensures { IfOk result (λ selection. selection ≡ ours) }
+{
+    let mut selection = Selection::new(alloc);
+    selection.add_class(Text::of(alloc, "inetnum")?)?;
+    selection.add_class(Text::of(alloc, "inet6num")?)?;
+    selection.add_name(Text::of(alloc, "geofeed")?)?;
+    selection.add_name(Text::of(alloc, "remarks")?)?;
+    selection.add_name(Text::of(alloc, "last-modified")?)?;
+    Ok(selection)
+}
+
+// At most so many bytes of a piece.
+fn first_bytes(piece: &[u8], count: usize) -> &[u8]
+    ensures { result.now ≡ take count piece.now }
+{
+    if count < piece.len() {
+        &piece[..count]
+    } else {
+        piece
+    }
+}

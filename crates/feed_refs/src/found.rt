@@ -1,0 +1,139 @@
+//! What the items of a dump say.
+ghost use Rattle.std.specs.Prelude.{◌≡◌, ◌+◌, ◌≤◌, ◌++◌, [], IfOk, OnOk, vec_capacity, vec_len};
+ghost use Rattle.feed_refs.specs.Dumps.{AreApart, in_line_order, noted, notes_of, reference_in, references, references_of};
+ghost use Rattle.feed_refs.specs.References.{found as found_of};
+
+use crate::reference::{What, found_of};
+use geo_addr::{Memory, Text};
+use geo_terms::{Note, Origin, Reference, Texts};
+use rpsl_reader::{Item, Object};
+use std::alloc::Global;
+
+/// References and notes.
+#[derive(Debug, Drop)]
+pub(crate) struct Found {
+    pub refs: Vec<Reference>,
+    pub notes: Vec<Note>,
+}
+
+impl Found {
+    /// Nothing yet; it takes no memory.
+    pub fn new(alloc: Global) -> Found
+        ensures refs { result.refs.items ≡ [] }
+        ensures notes { result.notes.items ≡ [] }
+    {
+        Found {
+            refs: Vec::new(alloc),
+            notes: Vec::new(alloc),
+        }
+    }
+
+    /// What items say, in their order. URLs that came before are given again.
+    #[tactic(auto, unfolding(crate::specs::Dumps::noted, crate::specs::Dumps::references))]
+    pub fn of(alloc: Global, slot: &Text, items: &[Item], urls: &mut Texts) -> Result<Found, Memory>
+        ensures refs { IfOk result (λ found. found.refs.items ≡ references slot.now items.now) }
+        ensures notes { IfOk result (λ found. found.notes.items ≡ noted slot.now items.now) }
+    {
+        let mut found = Found::new(alloc);
+        for item in items {
+            take_item(alloc, slot, item, urls, &mut found)?;
+        }
+        Ok(found)
+    }
+
+    /// Makes room for what more items say.
+    pub fn reserve(&mut self, more: &Found) -> Result<(), Memory>
+        ensures refs { self.new.refs.items ≡ self.old.refs.items }
+        ensures notes { self.new.notes.items ≡ self.old.notes.items }
+        ensures room_refs { OnOk result (vec_len self.new.refs + vec_len more.now.refs ≤ vec_capacity self.new.refs) }
+        ensures room_notes { OnOk result (vec_len self.new.notes + vec_len more.now.notes ≤ vec_capacity self.new.notes) }
+    {
+        self.refs.reserve(more.refs.len())?;
+        self.notes.reserve(more.notes.len())?;
+        Ok(())
+    }
+
+    /// Adds what more items say, for which there is room.
+    pub fn join(&mut self, more: Found)
+        requires room_refs { vec_len self.old.refs + vec_len more.refs ≤ vec_capacity self.old.refs }
+        requires room_notes { vec_len self.old.notes + vec_len more.notes ≤ vec_capacity self.old.notes }
+        ensures refs { self.new.refs.items ≡ self.old.refs.items ++ more.refs.items }
+        ensures notes { self.new.notes.items ≡ self.old.notes.items ++ more.notes.items }
+    {
+        let mut more = more;
+        let refs_joined = self.refs.append(&mut more.refs).is_ok();
+        let notes_joined = self.notes.append(&mut more.notes).is_ok();
+        prove!(refs_joined && notes_joined);
+    }
+}
+
+fn take_item(
+    alloc: Global,
+    slot: &Text,
+    item: &Item,
+    urls: &mut Texts,
+    found: &mut Found,
+) -> Result<(), Memory>
+    ensures refs { OnOk result (found.new.refs.items ≡ found.old.refs.items ++ references_of slot.now item.now) }
+    ensures notes { OnOk result (found.new.notes.items ≡ found.old.notes.items ++ notes_of slot.now item.now) }
+{
+    match item {
+        Item::Whole(object) => take_object(alloc, slot, object, urls, found),
+        Item::Passed { line, rule } => {
+            let origin = Origin::Rpsl(slot.copied()?);
+            let note = Note {
+                origin,
+                line: *line,
+                rule: *rule,
+            };
+            found.notes.push(note).map_err(Memory::from)
+        }
+    }
+}
+
+fn take_object(
+    alloc: Global,
+    slot: &Text,
+    object: &Object,
+    urls: &mut Texts,
+    found: &mut Found,
+) -> Result<(), Memory>
+    ensures refs { OnOk result (found.new.refs.items ≡ found.old.refs.items ++ reference_in (found_of slot.now object.now).what) }
+    ensures notes { OnOk result (found.new.notes.items ≡ found.old.notes.items ++ (found_of slot.now object.now).notes) }
+{
+    let told = found_of(alloc, slot, object)?;
+    let mut notes = told.notes.into_vec();
+    found.notes.append(&mut notes)?;
+    match told.what {
+        What::One(reference) => {
+            let reference = with_shared_url(reference, urls)?;
+            found.refs.push(reference).map_err(Memory::from)
+        }
+        What::NotInet => Ok(()),
+        What::Nothing => Ok(()),
+        What::Void => Ok(()),
+    }
+}
+
+// The same reference, whose URL is the one that came before, if one did.
+fn with_shared_url(reference: Reference, urls: &mut Texts) -> Result<Reference, Memory>
+    ensures { IfOk result (λ shared. shared ≡ reference) }
+{
+    let url = urls.shared(reference.url.as_str())?;
+    Ok(Reference {
+        slot: reference.slot,
+        line: reference.line,
+        range: reference.range,
+        modified: reference.modified,
+        url,
+    })
+}
+
+/// Notes on distinct lines, in line order.
+pub(crate) fn in_line_order(notes: Vec<Note>) -> Result<Vec<Note>, Memory>
+    ensures { IfOk result (λ sorted. AreApart notes.items → sorted.items ≡ in_line_order notes.items) }
+{
+    let mut notes = notes;
+    notes.sort_by_key(|note| note.line)?;
+    Ok(notes)
+}

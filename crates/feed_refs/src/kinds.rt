@@ -1,0 +1,131 @@
+//! The attributes of an object that matter: references to a feed, and `last-modified`.
+ghost use Rattle.std.specs.Prelude.{◌≡◌, ◌<◌, length, position, IfSome};
+ghost use Rattle.std.specs.List.{list_any};
+ghost use Rattle.std.specs.Option.{option_copied};
+ghost use Rattle.geo_addr.specs.Lines.{is_blank};
+ghost use Rattle.feed_refs.specs.Kinds.{begins_blank, first_word, holds_word, is_geofeed, is_last_modified, is_of_kind, is_reference_remark, remark_url, url_text, used_kind};
+
+use geo_addr::{is_blank, trim_blanks};
+use rpsl_reader::Attribute;
+
+/// The two kinds of references: `geofeed` attributes, and remarks of the form that stands for them.
+#[derive(Clone, Copy, Debug, PartialEq, Eq)]
+pub(crate) enum Kind {
+    Geofeed,
+    Remark,
+}
+
+/// The kind of which the references of an object count.
+pub(crate) fn used_kind(parts: &[Attribute]) -> Kind
+    ensures { result ≡ used_kind parts.now }
+{
+    if has_geofeed(parts) {
+        Kind::Geofeed
+    } else {
+        Kind::Remark
+    }
+}
+
+fn has_geofeed(parts: &[Attribute]) -> bool
+    ensures { result ≡ list_any is_geofeed parts.now }
+{
+    parts.iter().any(|a| is_geofeed(a))
+}
+
+/// Whether an attribute is a reference of a kind.
+pub(crate) fn is_of_kind(kind: Kind, attribute: &Attribute) -> bool
+    ensures { result ≡ is_of_kind kind attribute.now }
+{
+    match kind {
+        Kind::Geofeed => is_geofeed(attribute),
+        Kind::Remark => is_reference_remark(attribute),
+    }
+}
+
+/// The URL text of a reference of a kind.
+pub(crate) fn url_text(kind: Kind, attribute: &Attribute) -> &[u8]
+    ensures { result.now ≡ url_text kind attribute.now }
+{
+    let value = attribute.value.as_slice();
+    match kind {
+        Kind::Geofeed => value,
+        Kind::Remark => remark_url(value).unwrap_or(&[]),
+    }
+}
+
+fn is_geofeed(attribute: &Attribute) -> bool
+    ensures { result ≡ is_geofeed attribute.now }
+{
+    attribute.name.as_str() == "geofeed"
+}
+
+/// Whether an attribute is a remark that refers to a feed.
+pub(crate) fn is_reference_remark(attribute: &Attribute) -> bool
+    ensures { result ≡ is_reference_remark attribute.now }
+{
+    attribute.name.as_str() == "remarks" && remark_url(attribute.value.as_slice()).is_some()
+}
+
+pub(crate) fn is_last_modified(attribute: &Attribute) -> bool
+    ensures { result ≡ is_last_modified attribute.now }
+{
+    attribute.name.as_str() == "last-modified"
+}
+
+// The URL text of a remark of the form `Geofeed https://..`.
+#[tactic(auto, unfolding(crate::specs::Kinds::remark_url))]
+fn remark_url(value: &[u8]) -> Option<&[u8]>
+    ensures { option_copied result ≡ remark_url value.now }
+{
+    if !value.starts_with(b"Geofeed") {
+        return None;
+    }
+    let rest = &value[7..];
+    let word = first_word(rest);
+    if begins_blank(rest) && holds_word(word, b"://") {
+        Some(word)
+    } else {
+        None
+    }
+}
+
+fn begins_blank(text: &[u8]) -> bool
+    ensures { result ≡ begins_blank text.now }
+{
+    match text {
+        [first, ..] => is_blank(*first),
+        [] => false,
+    }
+}
+
+fn holds_word(text: &[u8], word: &[u8]) -> bool
+    ensures { result ≡ holds_word word.now text.now }
+{
+    let mut left = text;
+    while let [_, rest @ ..] = left {
+        if left.starts_with(word) {
+            return true;
+        }
+        left = rest;
+    }
+    false
+}
+
+// The first word of a text behind blanks.
+#[tactic(auto, using(crate::proofs::KindLemmas::before_some, crate::proofs::KindLemmas::before_none))]
+fn first_word(text: &[u8]) -> &[u8]
+    ensures { result.now ≡ first_word text.now }
+{
+    let text = trim_blanks(text);
+    match first_blank(text) {
+        Some(place) => &text[..place],
+        None => text,
+    }
+}
+
+fn first_blank(text: &[u8]) -> Option<usize>
+    ensures place { result ≡ position is_blank text.now }
+    ensures within { IfSome result (λ place. place < length text.now) }
+{
+    text.iter().position(|byte| is_blank(*byte))
+}

@@ -1,0 +1,15 @@
+//! Finds the geofeed references of a registry dump (RFC 9632).
+#![tactic(auto)]
+
+mod dump;
+mod feed_url;
+mod found;
+mod kinds;
+mod modified;
+mod reference;
+#[cfg(test)]
+mod tests;
+
+pub use dump::DumpReader;
+pub use feed_url::{UrlRead, read_url};
+pub use reference::{FoundRef, What, reference_of};

@@ -1,0 +1,50 @@
+//! The cases `serial` and `parallel`: the same work for each of 64 items, in one piece or in four.
+
+use crate::ranges::mixed;
+use fan_work::{Work, map_pieces};
+use geo_addr::Memory;
+use geo_outside::OpenGate;
+use std::alloc::Global;
+use std::io::Print;
+use std::marker::Sync;
+use std::thread::Threads;
+
+/// How many items there are.
+const ITEMS: u32 = 64;
+
+/// Does the work of so many rounds for each item in one piece, or side by side in four, and prints how many
+/// results there are and what they come to together.
+pub fn run<R: Threads + Sync + Print>(
+    alloc: Global,
+    rt: &R,
+    rounds: u32,
+    is_parallel: bool,
+) -> anyhow::Result<()> {
+    let mut items = Vec::new(alloc);
+    for item in 0..ITEMS {
+        items.push(item)?;
+    }
+    let pieces = if is_parallel { 4 } else { 1 };
+    let results = map_pieces(rt, alloc, &OpenGate, pieces, &items, &Rounds(rounds))?;
+    println!(rt; "results {}", results.len())?;
+    println!(rt; "together {}", results.iter().fold(0u32, |all, x| all ^ *x))?;
+    Ok(())
+}
+
+/// Work that mixes a number so many times.
+#[derive(Drop)]
+struct Rounds(u32);
+
+impl Work<u32, u32> for Rounds {
+    ghost use Rattle.std.specs.Prelude.{⊤};
+
+    ghost related = { λ work x y. ⊤ };
+
+    fn done(&self, _alloc: Global, item: &u32) -> Result<u32, Memory> {
+        let mut number = *item;
+        for round in 0..self.0 {
+            number = mixed(number.wrapping_add(round));
+        }
+        Ok(number)
+    }
+}

@@ -1,0 +1,61 @@
+-- Which stop has a status.
+use Rattle.std.proofs.Common.{◌≡◌, ◌⊎◌, inl, inr, refl}
+use Rattle.geofeed_cmd.specs.declared.status.Status.TheVariants as statuses
+use Rattle.geofeed_cmd.specs.declared.stop.Cause.TheVariants.{Words, Missing, Job, TooLong, TooMany, TooLarge, File}
+use Rattle.geofeed_cmd.specs.declared.stop.Stop.{Stop}
+use Rattle.geofeed_cmd.specs.declared.stop.Stop.TheVariants.{Blocked, ReadFailed, PutFailed, SinkFailed, Memory}
+use Rattle.geofeed_cmd.specs.Run.Lines.{status_of}
+
+pub read_status : (why : Stop) → status_of why ≡ statuses.ReadFault → why ≡ ReadFailed
+read_status (Blocked Words) is = cc
+read_status (Blocked Missing) is = cc
+read_status (Blocked (Job fault)) is = cc
+read_status (Blocked TooLong) is = cc
+read_status (Blocked TooMany) is = cc
+read_status (Blocked TooLarge) is = cc
+read_status (Blocked (File fault)) is = cc
+read_status ReadFailed is = refl
+read_status PutFailed is = cc
+read_status SinkFailed is = cc
+read_status Memory is = cc
+
+pub missing_status : (why : Stop) → status_of why ≡ statuses.Missing → why ≡ Blocked Missing
+missing_status (Blocked Words) is = cc
+missing_status (Blocked Missing) is = refl
+missing_status (Blocked (Job fault)) is = cc
+missing_status (Blocked TooLong) is = cc
+missing_status (Blocked TooMany) is = cc
+missing_status (Blocked TooLarge) is = cc
+missing_status (Blocked (File fault)) is = cc
+missing_status ReadFailed is = cc
+missing_status PutFailed is = cc
+missing_status SinkFailed is = cc
+missing_status Memory is = cc
+
+pub words_status : (why : Stop) → status_of why ≡ statuses.Words → why ≡ Blocked Words
+words_status (Blocked Words) is = refl
+words_status (Blocked Missing) is = cc
+words_status (Blocked (Job fault)) is = cc
+words_status (Blocked TooLong) is = cc
+words_status (Blocked TooMany) is = cc
+words_status (Blocked TooLarge) is = cc
+words_status (Blocked (File fault)) is = cc
+words_status ReadFailed is = cc
+words_status PutFailed is = cc
+words_status SinkFailed is = cc
+words_status Memory is = cc
+
+pub write_status : (why : Stop) → status_of why ≡ statuses.WriteFault → (why ≡ PutFailed) ⊎ (why ≡ SinkFailed)
+write_status (Blocked Words) is = absurd (cc)
+write_status (Blocked Missing) is = absurd (cc)
+write_status (Blocked (Job fault)) is = absurd (cc)
+write_status (Blocked TooLong) is = absurd (cc)
+write_status (Blocked TooMany) is = absurd (cc)
+write_status (Blocked TooLarge) is = absurd (cc)
+write_status (Blocked (File fault)) is = absurd (cc)
+write_status ReadFailed is = absurd (cc)
+write_status PutFailed is = inl refl
+write_status SinkFailed is = inr refl
+write_status Memory is = absurd (cc)
+
+pub ruleset status_causes = (read_status, missing_status, words_status, write_status)

@@ -1,0 +1,3 @@
+pub mod FirstOf
+pub mod ShelfLemmas
+pub mod CoverLemmas

@@ -1,0 +1,12 @@
+//! The index of references: who speaks at an address, and which reference to a feed covers a block.
+#![tactic(auto)]
+
+mod cover;
+mod firsts;
+mod index;
+mod links;
+mod shelf;
+#[cfg(test)]
+mod tests;
+
+pub use index::Index;

@@ -1,0 +1,13 @@
+pub mod Greedy
+pub mod HalfLemmas
+pub mod HasLemmas
+pub mod LeastLemmas
+pub mod LongestLemmas
+pub mod LowerBound
+pub mod MemoLemmas
+pub mod PartLemmas
+pub mod PriceLemmas
+pub mod SetLemmas
+pub mod Spans
+pub mod Whole
+pub mod WriteLemmas

@@ -1,0 +1,5 @@
+use Rattle.rpsl_reader.proofs.Names.{name_is_text}
+use Rattle.rpsl_reader.proofs.attribute.lower_name.Goals as goal
+
+pub unreachable-requires : goal.unreachable-requires
+unreachable-requires c = c.in-Err.ensures.cases.0 (name_is_text c.args.name.now c.requires)

@@ -1,0 +1,6 @@
+pub mod Attributes
+pub mod Changes
+pub mod Laws
+pub mod Objects
+pub mod Reading
+pub mod Selections

@@ -1,0 +1,21 @@
+//! Reads the objects of a registry dump (RPSL, RFC 2622 section 2) from pieces of its text.
+#![tactic(auto)]
+
+mod attribute;
+mod gathered;
+mod item;
+pub mod laws;
+mod line;
+mod object;
+mod pending;
+mod progress;
+mod read;
+mod reader;
+mod selection;
+#[cfg(test)]
+mod tests;
+
+pub use item::{Attribute, Item, Object};
+pub use progress::Progress;
+pub use reader::Reader;
+pub use selection::Selection;

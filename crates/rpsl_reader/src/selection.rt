@@ -1,0 +1,135 @@
+ghost use Rattle.std.specs.Prelude.{◌≡◌, ◌∷◌, ◌++◌, [], true, false, map, IfOk, OnOk, OnErr, IsTrue, Some, None, if◌then◌else◌};
+ghost use Rattle.std.specs.Char.{to_ascii_lowercase};
+ghost use Rattle.std.specs.Option.{option_copied};
+ghost use Rattle.geo_terms.specs.PlaceForm.{same_text};
+ghost use Rattle.rpsl_reader.specs.Attributes.{is_attribute, name_of};
+ghost use Rattle.rpsl_reader.specs.Selections.{is_among, wants_class, wants_name};
+
+use crate::attribute::{lower_name, name_in};
+use geo_addr::{Memory, Text};
+use std::alloc::Global;
+use std::marker::Model;
+
+/// Which objects a reader hands out: all as they are, or those of some classes, each with its first
+/// attribute and those of some names. Notes are always handed out.
+#[derive(Debug, Drop)]
+pub struct Selection {
+    everything: bool,
+    classes: Vec<Text>,
+    names: Vec<Text>,
+}
+
+impl Model for Selection {
+    ghost use Rattle.rpsl_reader.specs.Selections.{Wanted};
+
+    ghost Value = { Wanted };
+
+    ghost view = { λ s. record { everything = s.everything; classes = s.classes.items; names = s.names.items } };
+}
+
+impl Selection {
+    /// Everything; it takes no memory.
+    pub fn everything(alloc: Global) -> Selection
+        ensures { result ≡ record { everything = true; classes = []; names = [] } }
+    {
+        Selection {
+            everything: true,
+            classes: Vec::new(alloc),
+            names: Vec::new(alloc),
+        }
+    }
+
+    /// No object so far; it takes no memory.
+    pub fn new(alloc: Global) -> Selection
+        ensures { result ≡ record { everything = false; classes = []; names = [] } }
+    {
+        Selection {
+            everything: false,
+            classes: Vec::new(alloc),
+            names: Vec::new(alloc),
+        }
+    }
+
+    /// Adds the objects of a class, whose name is given in lower case.
+    pub fn add_class(&mut self, name: Text) -> Result<(), Memory>
+        ensures added { OnOk result (self.new ≡ record self.old { classes = self.old.classes ++ name ∷ [] }) }
+        ensures err { OnErr result (self.new ≡ self.old) }
+    {
+        self.classes.push(name).map_err(Memory::from)
+    }
+
+    /// Adds the attributes of a name, which is given in lower case.
+    pub fn add_name(&mut self, name: Text) -> Result<(), Memory>
+        ensures added { OnOk result (self.new ≡ record self.old { names = self.old.names ++ name ∷ [] }) }
+        ensures err { OnErr result (self.new ≡ self.old) }
+    {
+        self.names.push(name).map_err(Memory::from)
+    }
+
+    /// The name of the class of an object that begins with a line, where such objects are wanted.
+    pub(crate) fn class_name(&self, alloc: Global, line: &[u8]) -> Result<Option<Text>, Memory>
+        requires { IsTrue (is_attribute line.now) }
+        ensures { IfOk result (λ found. found ≡ (if wants_class self.now (name_of line.now) then Some (name_of line.now) else None)) }
+    {
+        let name = name_in(line);
+        if self.everything {
+            return Ok(Some(lower_name(alloc, name)?));
+        }
+        copy_of(find(self.classes.as_slice(), name))
+    }
+
+    /// The name of the attribute that a line begins, where it is wanted.
+    pub(crate) fn attribute_name(&self, alloc: Global, line: &[u8]) -> Result<Option<Text>, Memory>
+        requires { IsTrue (is_attribute line.now) }
+        ensures { IfOk result (λ found. found ≡ (if wants_name self.now (name_of line.now) then Some (name_of line.now) else None)) }
+    {
+        let name = name_in(line);
+        if self.everything {
+            return Ok(Some(lower_name(alloc, name)?));
+        }
+        copy_of(find(self.names.as_slice(), name))
+    }
+}
+
+// A copy of a text, if there is one.
+fn copy_of(text: Option<&Text>) -> Result<Option<Text>, Memory>
+    ensures { IfOk result (λ copy. copy ≡ option_copied text.entry) }
+{
+    match text {
+        Some(text) => Ok(Some(text.copied()?)),
+        None => Ok(None),
+    }
+}
+
+// The text that is a name in lower case.
+fn find<'a>(texts: &'a [Text], name: &[u8]) -> Option<&'a Text>
+    ensures { option_copied result ≡ (if is_among (map to_ascii_lowercase name.now) texts.now then Some (map to_ascii_lowercase name.now) else None) }
+{
+    let mut left = texts;
+    while let [text, rest @ ..] = left {
+        if is_lower(name, text.as_str().as_bytes()) {
+            return Some(text);
+        }
+        left = rest;
+    }
+    None
+}
+
+// Whether a text is a name in lower case.
+fn is_lower(name: &[u8], text: &[u8]) -> bool
+    ensures { result ≡ same_text (map to_ascii_lowercase name.now) text.now }
+{
+    let mut left = name;
+    let mut right = text;
+    while let [a, name @ ..] = left {
+        let [b, text @ ..] = right else {
+            return false;
+        };
+        if a.to_ascii_lowercase() != *b {
+            return false;
+        }
+        left = name;
+        right = text;
+    }
+    right.is_empty()
+}
