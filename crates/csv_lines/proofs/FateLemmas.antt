@@ -1,5 +1,5 @@
 -- What becomes of lines of the same range, told by the first of each range.
-use Rattle.std.proofs.Common.{inl, inr, ◌≡◌, ◌≢◌, ℕ, zero, suc, ◌+◌, ◌-◌, ◌<◌, ◌≤◌, ◌⊎◌, ltb, eqb, Bool, true, false, not, cond, ◌&&◌, ◌||◌, ◌==◌, All, AllPairs, List, [], ◌∷◌, ◌++◌, length, map, filter, filter_map, find, fold, take, drop, get_or, option_map, Option, Some, None, refl, sym, ap, ◌∙◌, subst, arith}
+use Rattle.std.proofs.Common.{inl, inr, ◌≡◌, ℕ, zero, suc, ◌+◌, ◌-◌, ◌<◌, ◌≤◌, ◌⊎◌, ltb, Bool, true, false, not, cond, ◌&&◌, ◌||◌, ◌==◌, All, AllPairs, List, [], ◌∷◌, ◌++◌, length, map, filter, filter_map, find, fold, take, drop, get_or, Option, Some, None, refl, sym, ap, ◌∙◌, subst, arith}
 use Rattle.std.specs.List.{list_any}
 use Rattle.std.proofs.lemmas.Bool.{and_parts, cases_Bool, cases_eq, cases_order, eqb-true, ltb-true, lt-ltb, eq-eqb, le-ltb, or_right, and_left, and_right, false_from_ne_true}
 use Rattle.std.specs.Prelude.{MatchOption, option_to_list}
@@ -14,8 +14,6 @@ use Rattle.std.proofs.lemmas.List.Folds.{list_any_none}
 use Rattle.std.proofs.lemmas.List.Sums.{fold_push}
 use Rattle.geo_addr.specs.Ranges.{Ends}
 use Rattle.geo_terms.proofs.NumberLemmas.{places_are_told_apart}
-use Rattle.geo_terms.specs.Numbers.{same_place}
-use Rattle.geo_terms.specs.PlaceForm.{PlaceParts}
 use Rattle.geo_terms.specs.Report.{same_ends}
 use Rattle.geo_terms.specs.declared.place.Said.{Said}
 use Rattle.geo_terms.specs.declared.place.Said.TheVariants.{Nothing, At}

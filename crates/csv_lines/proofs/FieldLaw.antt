@@ -1,11 +1,11 @@
 -- The scan of a text gives the only list of fields that joins to it.
-use Rattle.std.proofs.Common.{inl, inr, ◌≡◌, ◌≢◌, ℕ, Bool, true, false, not, cond, ◌&&◌, ◌⊎◌, ◌==◌, List, [], ◌∷◌, ◌++◌, Option, Some, None, refl, sym, ap, ◌∙◌, ne_eqb}
+use Rattle.std.proofs.Common.{inl, inr, ◌≡◌, ℕ, Bool, true, false, ◌&&◌, ◌==◌, List, [], ◌∷◌, ◌++◌, Some, refl, sym, ap, ◌∙◌, ne_eqb}
 use Rattle.std.specs.Prelude.{option_map}
 use Rattle.std.specs.List.{list_all}
 use Rattle.std.proofs.lemmas.Bool.{and_parts, cases_eq}
 use Rattle.std.proofs.lemmas.List.{append_assoc, append-nil}
 use Rattle.csv_lines.specs.FieldsLaw.{FieldsAreUnique}
-use Rattle.csv_lines.specs.Fields.{AreFields, Field, Plain, Quoted, doubled, fields, is_field, is_plain, joined, scan, with_byte, with_plain, with_quoted, written}
+use Rattle.csv_lines.specs.Fields.{Field, Plain, Quoted, doubled, is_field, is_plain, joined, scan, with_byte, with_plain, with_quoted, written}
 use Rattle.csv_lines.specs.declared.scan.Spot.{Spot}
 use Rattle.csv_lines.specs.declared.scan.Spot.TheVariants.{Start, Inside, Within, Closed}
 use Rattle.csv_lines.proofs.CsvLemmas.{map_some}
@@ -188,13 +188,12 @@ same_list : (f g : Field) (more later : List Field) → f ∷ more ≡ g ∷ lat
 same_list f g more later e = (cc, cc)
 
 pub fields_are_unique : FieldsAreUnique
-fields_are_unique text first more =
-    (
-      λ are. sym (ap (scan Start) are.joined) ∙ found first more are.fields,
-      λ e.
-          let s = scanned Start text (first ∷ more) e in
-          record {
-            joined = ap joined s.is ∙ joined_is s.first s.more ∙ s.joins;
-            fields = ap (list_all is_field) s.is ∙ s.fields;
-          },
-    )
+fields_are_unique text first more = (
+  λ are. sym (ap (scan Start) are.joined) ∙ found first more are.fields,
+  λ e.
+      let s = scanned Start text (first ∷ more) e in
+      record {
+        joined = ap joined s.is ∙ joined_is s.first s.more ∙ s.joins;
+        fields = ap (list_all is_field) s.is ∙ s.fields;
+      },
+)

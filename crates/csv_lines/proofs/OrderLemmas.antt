@@ -1,14 +1,14 @@
 -- What is kept of numbered lines, when each line gives a statement, a fault or nothing: it is in line order, and no line gives two things.
-use Rattle.std.proofs.Common.{inl, inr, ◌≡◌, ◌≢◌, ℕ, zero, suc, ◌+◌, ◌<◌, ◌≤◌, ◌⊎◌, ltb, Bool, true, false, cond, ◌&&◌, All, AllPairs, List, [], ◌∷◌, ◌++◌, length, map, filter, filter_map, drop, get_or, option_map, Option, Some, None, refl, sym, ap, ◌∙◌, subst, arith}
-use Rattle.std.specs.Prelude.{take_while, option_to_list}
+use Rattle.std.proofs.Common.{inl, inr, ◌≡◌, ◌≢◌, ℕ, zero, suc, ◌+◌, ◌<◌, ◌≤◌, ltb, Bool, true, false, cond, ◌&&◌, All, AllPairs, List, [], ◌∷◌, ◌++◌, length, map, filter, filter_map, get_or, Option, Some, None, refl, sym, ap, ◌∙◌, subst, arith}
+use Rattle.std.specs.Prelude.{option_to_list}
 use Rattle.std.proofs.lemmas.List.{append-nil, append_assoc}
-use Rattle.std.specs.List.{cons_option, enumerate_from, list_any, prefix_len}
+use Rattle.std.specs.List.{cons_option, enumerate_from, prefix_len}
 use Rattle.std.specs.List.Sorted.{IsStrictlyIncreasing}
 use Rattle.std.proofs.lemmas.Bool.{lt-ltb, le-ltb}
 use Rattle.std.proofs.lemmas.List.Elements.{All-nil, All-cons}
 use Rattle.geo_addr.specs.Ranges.{Ends}
 use Rattle.geo_terms.specs.declared.place.Said.{Said}
-use Rattle.csv_lines.specs.Repeats.{Rises, fate, fault_by, is_before, is_kept_by, kept, is_contradicted, is_repetition, merged, repeat_faults, same_range}
+use Rattle.csv_lines.specs.Repeats.{Rises, fate, fault_by, is_before, is_kept_by, kept, is_contradicted, is_repetition, merged, same_range}
 use Rattle.csv_lines.specs.declared.fate.Fate.{Fate}
 use Rattle.csv_lines.specs.declared.fate.Fate.TheVariants.{Kept, Repeats, Differs}
 use Rattle.csv_lines.specs.declared.fate.RepeatRules.{RepeatRules}

@@ -1,5 +1,5 @@
 -- Texts, fields by their places, and what a read of a row gives.
-use Rattle.std.proofs.Common.{inl, inr, ◌≡◌, ◌≢◌, ℕ, zero, suc, ◌+◌, Bool, true, false, not, cond, List, [], ◌∷◌, ◌++◌, get_or, Option, Some, None, refl, sym, ap, ◌∙◌}
+use Rattle.std.proofs.Common.{inl, inr, ◌≡◌, ◌≢◌, ℕ, zero, suc, Bool, true, false, not, cond, List, [], ◌∷◌, ◌++◌, get_or, Option, Some, None, refl, sym, ap, ◌∙◌}
 use Rattle.std.specs.Prelude.{IsUtf8, unwrap_or, is_some, Result, Ok, Err, IfErr, OnOk, IsOkUnless}
 use Rattle.geo_terms.specs.declared.place.Said.{Said}
 use Rattle.geo_terms.specs.declared.place.PlaceFault.{PlaceFault}
@@ -9,7 +9,7 @@ use Rattle.std.proofs.lemmas.Bool.{cases_Bool}
 use Rattle.std.proofs.lemmas.List.{append_assoc}
 use Rattle.std.proofs.lemmas.Str.{IsUtf8-from_is_utf8, is_utf8-from_IsUtf8}
 use Rattle.csv.specs.Machine.{next_record}
-use Rattle.csv.specs.Reading.{ReadRecord, ReadsNext, default_config, pending_of, source_of, took_first}
+use Rattle.csv.specs.Reading.{ReadRecord, ReadsNext, default_config, pending_of, took_first}
 use Rattle.csv.specs.Records.{field_at}
 use Rattle.csv.specs.declared.parser.State.{State}
 use Rattle.csv.specs.declared.parser.State.TheVariants as st

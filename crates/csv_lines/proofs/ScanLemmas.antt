@@ -1,8 +1,8 @@
 -- One byte of the scan: whether a text passes is whether what follows the byte passes from the next spot.
-use Rattle.std.proofs.Common.{◌≡◌, ℕ, Bool, true, false, not, cond, ◌&&◌, ◌||◌, ◌==◌, List, [], ◌∷◌, Option, Some, None, refl, sym, ap, ◌∙◌, ne_eqb}
+use Rattle.std.proofs.Common.{◌≡◌, ℕ, Bool, true, false, cond, ◌&&◌, List, ◌∷◌, Option, Some, None, refl, ap, ne_eqb}
 use Rattle.std.specs.Prelude.{is_some, option_map}
 use Rattle.std.specs.List.{list_all}
-use Rattle.csv_lines.specs.Fields.{Field, fields, is_inner, passes, scan, with_byte, with_plain, with_quoted, values_of, value}
+use Rattle.csv_lines.specs.Fields.{fields, is_inner, passes, scan, with_byte, with_plain, with_quoted, values_of, value}
 use Rattle.csv_lines.specs.declared.scan.Spot.{Spot}
 use Rattle.csv_lines.specs.declared.scan.Spot.TheVariants.{Start, Inside, Within, Closed}
 

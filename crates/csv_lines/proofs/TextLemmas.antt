@@ -1,17 +1,16 @@
 -- The fields of a line are UTF-8 where the line is, and have neither `#` nor line ends, and no blanks at their ends.
-use Rattle.std.proofs.Common.{inl, inr, ◌≡◌, ◌≢◌, ℕ, zero, suc, ◌+◌, ◌-◌, ◌<◌, ◌≤◌, ◌⊎◌, Bool, true, false, not, cond, ◌&&◌, ◌||◌, ◌==◌, List, [], ◌∷◌, ◌++◌, length, map, take, drop, reverse, get_or, Option, Some, None, refl, sym, ap, ◌∙◌, subst, ne_eqb, arith}
-use Rattle.std.specs.Prelude.{IsUtf8, is_some, option_map, unwrap_or}
+use Rattle.std.proofs.Common.{inl, inr, ◌≡◌, ℕ, zero, suc, ◌+◌, ◌-◌, ◌<◌, ◌≤◌, Bool, true, false, not, cond, ◌&&◌, ◌==◌, List, [], ◌∷◌, ◌++◌, length, map, take, drop, reverse, get_or, Some, None, refl, sym, ap, ◌∙◌, subst, ne_eqb, arith}
+use Rattle.std.specs.Prelude.{IsUtf8, is_some, option_map}
 use Rattle.std.specs.Str.{is_utf8}
-use Rattle.std.specs.List.{list_all, onto_first, prefix_len, slice_split}
+use Rattle.std.specs.List.{list_all, onto_first, prefix_len}
 use Rattle.std.proofs.lemmas.Bool.{and_parts, cases_Bool, cases_eq, eqb-true}
 use Rattle.std.proofs.lemmas.List.{append_assoc, append-nil, reverse-append, reverse-reverse, length-reverse, take-append-drop, length-drop}
 use Rattle.std.proofs.lemmas.Str.{IsCharBoundary-after_ascii, IsCharBoundary-before_ascii, IsUtf8-append, IsUtf8-drop, IsUtf8-from_is_utf8, IsUtf8-nil, IsUtf8-take}
 use Rattle.geo_addr.specs.Lines.{is_blank, pieces, trimmed, trimmed_end, trimmed_start}
 use Rattle.geo_terms.specs.PlaceForm.{is_empty}
-use Rattle.csv_lines.specs.Clean.{AreTexts, FieldsAreTexts, IsClean, is_clean}
+use Rattle.csv_lines.specs.Clean.{FieldsAreTexts, is_clean}
 use Rattle.csv_lines.specs.Fields.{Field, Plain, Quoted, fields, is_inner, scan, value, values_of, with_byte, with_plain, with_quoted}
-use Rattle.csv_lines.specs.Rests.{column, content_of, first_piece, rest_of, row_of}
-use Rattle.csv_lines.specs.declared.rest.Content.{Content}
+use Rattle.csv_lines.specs.Rests.{first_piece, rest_of, row_of}
 use Rattle.csv_lines.specs.declared.rest.Content.TheVariants.{Blank, NotText, NoFields, Fields}
 use Rattle.csv_lines.specs.declared.scan.Spot.{Spot}
 use Rattle.csv_lines.specs.declared.scan.Spot.TheVariants.{Start, Inside, Within, Closed}
@@ -31,8 +30,7 @@ cut_ascii : (xs : List ℕ) (b : ℕ) (ys : List ℕ) → b < 128 → IsUtf8 (xs
 cut_ascii xs b ys ascii u =
     let (before, after, at, within) = at_seam xs b ys in
     let text = xs ++ (b ∷ ys) in
-    let low : get_or text (length xs) 0 < 128 = rw at ascii in
-    (
+    let low : get_or text (length xs) 0 < 128 = rw at ascii in (
       subst IsUtf8 before (IsUtf8-take text (length xs) u (IsCharBoundary-before_ascii text (length xs) within low)),
       subst IsUtf8 after (IsUtf8-drop text (length xs + 1) u (IsCharBoundary-after_ascii text (length xs) u within low)),
     )
@@ -40,7 +38,7 @@ cut_ascii xs b ys ascii u =
 -- ---- texts without the blanks at their ends
 
 blank_ascii : (b : ℕ) → is_blank b ≡ true → b < 128
-blank_ascii b e = elim (cases_Bool (b == 32)) [ | inl s ↦ let f = eqb-true b 32 s in omega arith | inr s ↦ let f = eqb-true b 9 (rw s at e) in omega arith ]
+blank_ascii b e = elim (cases_Bool (b == 32)) [ inl s ↦ let f = eqb-true b 32 s in omega arith | inr s ↦ let f = eqb-true b 9 (rw s at e) in omega arith ]
 
 -- what is left behind the bytes that pass begins with none
 none_left : (p : ℕ → Bool) (xs : List ℕ) → prefix_len p (drop (prefix_len p xs) xs) ≡ 0
@@ -127,8 +125,7 @@ prefix_of_take p (suc n) (x ∷ xs) e = by (p x) refl e
 
 clean_ends : (xs : List ℕ) → (prefix_len is_blank (trimmed xs) ≡ 0) × (prefix_len is_blank (reverse (trimmed xs)) ≡ 0)
 clean_ends xs =
-    let start = trimmed_start xs in
-    (
+    let start = trimmed_start xs in (
       prefix_of_take is_blank _ start (none_left is_blank xs),
       ap (λ t. prefix_len is_blank (reverse t)) (end_is start) ∙ ap (prefix_len is_blank) (reverse-reverse (drop (prefix_len is_blank (reverse start)) (reverse start))) ∙ none_left is_blank (reverse start),
     )

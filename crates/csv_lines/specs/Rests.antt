@@ -1,5 +1,5 @@
 -- What is left of a line without its comment, and how `csv` reads it (RFC 8805 section 2, RFC 4180 section 2).
-use Rattle.std.specs.Prelude.{◌≡◌, ℕ, ◌+◌, Result, Bool, true, false, not, is_some, List, [], ◌∷◌, ◌++◌, flat_map, Option, Some, None, unwrap_or, get_or, if◌then◌else◌}
+use Rattle.std.specs.Prelude.{◌≡◌, ℕ, ◌+◌, Result, not, is_some, List, [], ◌∷◌, ◌++◌, flat_map, Option, Some, unwrap_or, get_or, if◌then◌else◌}
 use Rattle.std.specs.Str.{is_utf8}
 use Rattle.geo_addr.specs.Lines.{pieces, trimmed}
 use Rattle.geo_terms.specs.PlaceForm.{is_empty}

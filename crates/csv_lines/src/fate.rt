@@ -188,7 +188,7 @@ struct Seen {
 fn seen_in<T: Accepted>(alloc: Global, rows: &[T]) -> Result<IndexMap<Range, Seen>, Memory>
     ensures { IfOk result (λ seen. (k : Ends) → get same_ends seen k ≡ shown T.line T.range T.said rows.now k) }
 {
-    let mut seen: IndexMap<Range, Seen> = IndexMap::new(alloc);
+    let mut seen: IndexMap<Range, Seen> = IndexMap::with_capacity(alloc, rows.len())?;
     for row in rows {
         see(&mut seen, row)?;
     }

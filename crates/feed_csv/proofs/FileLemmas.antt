@@ -1,16 +1,16 @@
 -- The lists of a file keep what a `Feed` promises.
-use Rattle.std.proofs.Common.{inl, inr, ◌≡◌, ◌≢◌, ℕ, ◌<◌, All, AllPairs, List, [], ◌∷◌, length, map, filter, filter_map, get_or, Option, Some, None, refl, sym, ap, ◌∙◌, subst, arith}
+use Rattle.std.proofs.Common.{◌≡◌, ◌≢◌, ℕ, All, List, [], ◌∷◌, map, Option, Some, None, refl, sym, ap, ◌∙◌, subst, arith}
 use Rattle.std.specs.List.{enumerate_from}
 use Rattle.std.proofs.lemmas.List.Elements.{All-map}
-use Rattle.geo_addr.specs.Lines.{lines_of, numbered_lines, without_mark}
+use Rattle.geo_addr.specs.Lines.{lines_of, without_mark}
 use Rattle.geo_addr.specs.Ranges.{range_of_block}
 use Rattle.geo_terms.specs.SourceForm.{IsFeed}
 use Rattle.geo_terms.specs.declared.note.Note.{Note}
 use Rattle.geo_terms.specs.declared.note.Origin.TheVariants.{Feed}
 use Rattle.geo_terms.specs.declared.statement.Entry.{Entry}
-use Rattle.csv_lines.specs.Repeats.{Rises, fate, fault_by, is_kept_by, kept, merged, repeat_faults}
+use Rattle.csv_lines.specs.Repeats.{Rises, fate, fault_by, is_kept_by, merged, repeat_faults}
 use Rattle.csv_lines.specs.declared.fate.Fate.{Fate}
-use Rattle.csv_lines.specs.declared.fate.Fate.TheVariants.{Kept, Repeats, Differs}
+use Rattle.csv_lines.specs.declared.fate.Fate.TheVariants.{Kept}
 use Rattle.csv_lines.specs.declared.fault.Fault.{Fault}
 use Rattle.csv_lines.proofs.FateLemmas.{Member}
 use Rattle.csv_lines.proofs.OrderLemmas.{acc_rises, all_members, either, fault_line, filter_map_agree, increasing, kept_apart, kept_from, kept_is, member_filter, merged_is, rises_filter, rises_lower, same_number}
@@ -121,4 +121,3 @@ module _ (file : List ℕ) where
   feed_in_form url u es ns e f g =
       let same : record { url = u; entries = es; notes = ns } ≡ feed url file = λ i. record { url = e i; entries = f i; notes = g i } in
       subst IsFeed (sym same) (in_form url)
-

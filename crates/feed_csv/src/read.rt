@@ -76,11 +76,7 @@ fn read_lines(alloc: Global, bytes: &[u8]) -> Result<Found, SourceFault>
 }
 
 // Adds what one more line says.
-fn take_line(
-    line: Line,
-    reader: &mut Reader<&[u8]>,
-    found: &mut Found,
-) -> Result<(), SourceFault>
+fn take_line(line: Line, reader: &mut Reader<&[u8]>, found: &mut Found) -> Result<(), SourceFault>
     requires few { length found.old.entries.items ≤ most }
     requires reads { CanRead (λ s. Some s.now) reader.old line.text.now }
     ensures entries { OnOk result (found.new.entries.items ≡ found.old.entries.items ++ option_to_list (entry_of (line.entry.number, line.entry.text.now))) }

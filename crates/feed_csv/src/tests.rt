@@ -15,18 +15,16 @@ fn shown(alloc: Global, feed: &Feed) -> Result<String, Fail> {
             Said::Nothing => {
                 text.push_str(format!(in alloc; "{} {} -\n", entry.line, block.as_str())?.as_str())?
             }
-            Said::At(place) => text.push_str(
-                format!(in alloc;
-                    "{} {} {},{},{},{}\n",
-                    entry.line,
-                    block.as_str(),
-                    place.country.as_str(),
-                    place.region.as_str(),
-                    place.city.as_str(),
-                    place.postal.as_str()
-                )?
-                .as_str(),
-            )?,
+            Said::At(place) => text.push_str(format!(in alloc;
+                "{} {} {},{},{},{}\n",
+                entry.line,
+                block.as_str(),
+                place.country.as_str(),
+                place.region.as_str(),
+                place.city.as_str(),
+                place.postal.as_str()
+            )?
+            .as_str())?,
         }
     }
     for note in feed.notes.as_slice() {
@@ -63,7 +61,8 @@ fn a_feed_with_each_fault(rt: HostRuntime) -> Result<(), Fail> {
         file.extend_from_slice(line)?;
         file.extend_from_slice(b"\r\n")?;
     }
-    let wanted = "1 192.0.2.0/24 DE,,,\n7 203.0.113.0/24 AT,,Wien,\nfeed u 2 F07\nfeed u 3 F08\nfeed u 4 F08\nfeed u 5 F04\nfeed u 6 F03\nfeed u 8 F02\nfeed u 9 F01\nfeed u 10 F11\nfeed u 11 F05\nfeed u 12 F06\n";
+    let wanted =
+        "1 192.0.2.0/24 DE,,,\n7 203.0.113.0/24 AT,,Wien,\nfeed u 2 F07\nfeed u 3 F08\nfeed u 4 F08\nfeed u 5 F04\nfeed u 6 F03\nfeed u 8 F02\nfeed u 9 F01\nfeed u 10 F11\nfeed u 11 F05\nfeed u 12 F06\n";
     assert!(rt; read(alloc, file.as_slice())?.as_str() == wanted);
     Ok(())
 }
@@ -90,10 +89,7 @@ fn one_line(rt: HostRuntime) -> Result<(), Fail> {
             b"192.0.2.0/24,DE,DE-BY,\"a, \"\"b\"\"\",1,x,y",
             "1 192.0.2.0/24 DE,DE-BY,a, \"b\",1\n",
         ),
-        (
-            b"192.0.2.7,DE,,\"  a  \",",
-            "1 192.0.2.7/32 DE,,a,\n",
-        ),
+        (b"192.0.2.7,DE,,\"  a  \",", "1 192.0.2.7/32 DE,,a,\n"),
         (b"0.0.0.0/0,DE", "1 0.0.0.0/0 DE,,,\n"),
         (b"::/0,DE", "1 ::/0 DE,,,\n"),
         (b"2001:db8::/128,DE", "1 2001:db8::/128 DE,,,\n"),

@@ -1,15 +1,14 @@
 -- The lists of a file keep what `Overrides` promises.
-use Rattle.std.proofs.Common.{inl, inr, ◌≡◌, ◌≢◌, ℕ, ◌<◌, All, AllPairs, List, [], ◌∷◌, length, map, filter, filter_map, get_or, Option, Some, None, refl, sym, ap, ◌∙◌, subst, arith}
+use Rattle.std.proofs.Common.{◌≡◌, ℕ, List, [], ◌∷◌, map, Option, Some, None, refl, sym, ap, ◌∙◌, subst, arith}
 use Rattle.std.specs.List.{enumerate_from}
 use Rattle.std.proofs.lemmas.List.Elements.{All-map}
-use Rattle.geo_addr.specs.Lines.{lines_of, numbered_lines, without_mark}
+use Rattle.geo_addr.specs.Lines.{lines_of, without_mark}
 use Rattle.geo_terms.specs.SourceForm.{IsOverrides}
 use Rattle.geo_terms.specs.declared.note.Note.{Note}
 use Rattle.geo_terms.specs.declared.note.Origin.TheVariants.{Overrides}
 use Rattle.geo_terms.specs.declared.statement.Override.{Override}
-use Rattle.csv_lines.specs.Repeats.{Rises, fate, fault_by, is_kept_by, kept, merged, repeat_faults}
+use Rattle.csv_lines.specs.Repeats.{Rises, fate, fault_by, is_kept_by, merged, repeat_faults}
 use Rattle.csv_lines.specs.declared.fate.Fate.{Fate}
-use Rattle.csv_lines.specs.declared.fate.Fate.TheVariants.{Kept, Repeats, Differs}
 use Rattle.csv_lines.specs.declared.fault.Fault.{Fault}
 use Rattle.csv_lines.proofs.OrderLemmas.{acc_rises, all_members, either, fault_line, filter_map_agree, increasing, kept_apart, merged_is, rises_filter, rises_lower}
 use Rattle.override_rows.specs.File.{accepted, rows, row_by, row_line, row_of_line, row_range, row_said, fault_alone, fault_among, fault_of, faults, note_of, notes, overrides, refused, repeat_rules}

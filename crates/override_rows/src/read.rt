@@ -74,11 +74,7 @@ fn read_lines(alloc: Global, bytes: &[u8]) -> Result<Found, SourceFault>
 }
 
 // Adds what one more line says.
-fn take_line(
-    line: Line,
-    reader: &mut Reader<&[u8]>,
-    found: &mut Found,
-) -> Result<(), SourceFault>
+fn take_line(line: Line, reader: &mut Reader<&[u8]>, found: &mut Found) -> Result<(), SourceFault>
     requires few { length found.old.rows.items ≤ most }
     requires reads { CanRead (λ s. Some s.now) reader.old line.text.now }
     ensures rows { OnOk result (found.new.rows.items ≡ found.old.rows.items ++ option_to_list (row_of_line (line.entry.number, line.entry.text.now))) }

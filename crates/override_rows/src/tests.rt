@@ -12,20 +12,22 @@ fn read(alloc: Global, file: &[u8]) -> Result<String, Fail> {
         let range = range_text(alloc, row.range)?;
         match &row.said {
             Said::Nothing => {
-                text.push_str(format!(in alloc; "{} {} void\n", row.line, range.as_str())?.as_str())?
-            }
-            Said::At(place) => text.push_str(
-                format!(in alloc;
-                    "{} {} {},{},{},{}\n",
+                text.push_str(format!(in alloc;
+                    "{} {} void\n",
                     row.line,
-                    range.as_str(),
-                    place.country.as_str(),
-                    place.region.as_str(),
-                    place.city.as_str(),
-                    place.postal.as_str()
-                )?
-                .as_str(),
-            )?,
+                    range.as_str()
+                )?.as_str())?
+            }
+            Said::At(place) => text.push_str(format!(in alloc;
+                "{} {} {},{},{},{}\n",
+                row.line,
+                range.as_str(),
+                place.country.as_str(),
+                place.region.as_str(),
+                place.city.as_str(),
+                place.postal.as_str()
+            )?
+            .as_str())?,
         }
     }
     for note in overrides.notes.as_slice() {
@@ -46,7 +48,10 @@ fn rows_and_notes(rt: HostRuntime) -> Result<(), Fail> {
             b"0.0.0.0/0,set,FR\n::/0,set,FR",
             "1 0.0.0.0-255.255.255.255 FR,,,\n2 ::-ffff:ffff:ffff:ffff:ffff:ffff:ffff:ffff FR,,,\n",
         ),
-        (b"\xEF\xBB\xBF# all\r\n10.0.0.0/8, void ,DEU\r\n", "2 10.0.0.0-10.255.255.255 void\n"),
+        (
+            b"\xEF\xBB\xBF# all\r\n10.0.0.0/8, void ,DEU\r\n",
+            "2 10.0.0.0-10.255.255.255 void\n",
+        ),
         (b"10.0.0.0/8,void,\"x", "overrides - 1 O02\n"),
         (b"10.0.0.0/8,void,\xFF", "overrides - 1 O01\n"),
         (b",void", "overrides - 1 O03\n"),
@@ -69,7 +74,10 @@ fn rows_and_notes(rt: HostRuntime) -> Result<(), Fail> {
             b"10.0.0.1,set,DE\n10.0.0.0/8,void\n10.0.0.1/32,void\n10.0.0.1,set,DE",
             "2 10.0.0.0-10.255.255.255 void\noverrides - 1 O08\noverrides - 3 O08\noverrides - 4 O08\n",
         ),
-        (b"\n \n#\n\xEF\xBB\xBF10.0.0.0/8,void", "overrides - 4 O03\n"),
+        (
+            b"\n \n#\n\xEF\xBB\xBF10.0.0.0/8,void",
+            "overrides - 4 O03\n",
+        ),
     ];
     for (file, wanted) in table {
         assert!(rt; read(alloc, file)?.as_str() == wanted);

@@ -1,5 +1,5 @@
 -- One more line has its fate.
-use Rattle.std.proofs.Common.{sym, ap, ◌≡◌, ◌∙◌, ◌++◌, ◌∷◌, [], true, rules}
+use Rattle.std.proofs.Common.{ap, ◌≡◌, ◌∙◌, ◌++◌, ◌∷◌, [], true, rules}
 use Rattle.std.specs.Result.{is_ok}
 use Rattle.csv_lines.specs.Seen.{fate_by}
 use Rattle.csv_lines.proofs.FateLemmas.{fates_more}

@@ -1,7 +1,6 @@
 -- Where the ranges rise, no two lines have the same.
-use Rattle.std.proofs.Common.{sym, ap, ◌≡◌, ◌∙◌, rules, AllPairs, subst, refl, List}
+use Rattle.std.proofs.Common.{sym, ap, rules, List}
 use Rattle.csv_lines.specs.Repeats.{merged}
-use Rattle.csv_lines.specs.Seen.{IsBelow}
 use Rattle.csv_lines.specs.declared.fault.Fault.{Fault}
 use Rattle.csv_lines.proofs.FateLemmas.{all_kept, none_repeats}
 use Rattle.csv_lines.proofs.fate.judge.Goals as goal

@@ -1,8 +1,6 @@
 -- One more line is kept in front, or not.
-use Rattle.std.proofs.Common.{sym, ap, ◌≡◌, ◌∙◌, ◌<◌, length, get_or, true, false, rules, arith}
+use Rattle.std.proofs.Common.{sym, ap, ◌≡◌, ◌∙◌, ◌<◌, length, rules, arith}
 use Rattle.std.proofs.lemmas.List.Edits.{length-swap}
-use Rattle.csv_lines.specs.Repeats.{is_kept_by}
-use Rattle.csv_lines.specs.declared.fate.Fate.TheVariants.{Kept}
 use Rattle.csv_lines.proofs.FateLemmas.{keep_no, keep_yes}
 use Rattle.csv_lines.proofs.fate.keep.Goals as goal
 use Rattle.csv_lines.proofs.fate.keep.Goals.{then-is_kept, else-is_kept}

@@ -3,7 +3,6 @@ use Rattle.std.proofs.Common.{sym, ap, ◌≡◌, ◌∙◌, ◌++◌, ◌<◌, 
 use Rattle.std.specs.Prelude.{option_to_list}
 use Rattle.std.proofs.lemmas.List.{get_or-map}
 use Rattle.csv_lines.specs.Repeats.{fault_by}
-use Rattle.csv_lines.specs.declared.fate.Fate.{Fate}
 use Rattle.csv_lines.specs.declared.fate.Fate.TheVariants.{Kept}
 use Rattle.csv_lines.proofs.FateLemmas.{faults_more}
 use Rattle.csv_lines.proofs.fate.repeat_faults.Goals as goal

@@ -1,5 +1,5 @@
 -- The ranges so far rise, and the last of them is at hand.
-use Rattle.std.proofs.Common.{◌≡◌, ℕ, ◌<◌, ◌-◌, AllPairs, get_or, take}
+use Rattle.std.proofs.Common.{◌≡◌, ◌<◌, ◌-◌, AllPairs, get_or, take}
 use Rattle.std.specs.Prelude.{MatchOption}
 use Rattle.csv_lines.specs.Seen.{IsBelow}
 use Rattle.csv_lines.proofs.fate.rises.Given as goal

@@ -1,9 +1,7 @@
 -- A line of a new range is its first.
-use Rattle.std.proofs.Common.{sym, ap, refl, ◌≡◌, ◌∙◌, false, cond}
-use Rattle.geo_addr.specs.Ranges.{Ends}
+use Rattle.std.proofs.Common.{sym, ◌∙◌, false}
 use Rattle.geo_terms.specs.Report.{same_ends}
 use Rattle.indexmap.specs.IndexMap.{get}
-use Rattle.csv_lines.specs.Seen.{more}
 use Rattle.csv_lines.specs.declared.fate.Seen.{Seen}
 use Rattle.csv_lines.proofs.FateLemmas.{new_row}
 use Rattle.csv_lines.proofs.fate.see.Goals as goal

@@ -1,5 +1,5 @@
 -- A field by its place.
-use Rattle.std.proofs.Common.{◌≡◌, ◌∙◌, sym, ap, List, ℕ, [], Some}
+use Rattle.std.proofs.Common.{◌∙◌, ap, []}
 use Rattle.std.specs.Prelude.{unwrap_or}
 use Rattle.geo_addr.specs.Lines.{trimmed}
 use Rattle.csv.specs.Records.{fields_of}

@@ -1,6 +1,5 @@
 -- A new reader stands behind the line feed in front.
-use Rattle.std.proofs.Common.{◌∙◌, ◌∷◌, inr, ap, refl, Some}
-use Rattle.std.specs.Prelude.{option_map}
+use Rattle.std.proofs.Common.{◌∙◌, ◌∷◌, inr, ap, Some}
 use Rattle.csv.specs.Reading.{strip_bom}
 use Rattle.csv_lines.proofs.CsvLemmas.{after_feed, strip_feed}
 use Rattle.csv_lines.proofs.rows.reader_of.Goals as goal

@@ -1,5 +1,5 @@
 -- The reader stands before the first line, and each line takes what it handed over.
-use Rattle.std.proofs.Common.{◌≡◌, ◌∷◌, ◌++◌, ◌∙◌, Bor, List, ℕ, Some, ap, sym, subst, filter_map, arith}
+use Rattle.std.proofs.Common.{◌∷◌, ◌++◌, ◌∙◌, Bor, List, ℕ, Some, ap, sym, subst, filter_map, arith}
 use Rattle.csv_lines.specs.Rests.{Stands, all_handed}
 use Rattle.csv_lines.proofs.OrderLemmas.{one_more}
 use Rattle.override_rows.specs.File.{fault_of, row_of_line}
