@@ -130,7 +130,7 @@ clean_ends xs =
     let start = trimmed_start xs in
     (
       prefix_of_take is_blank _ start (none_left is_blank xs),
-      ap (λ t. prefix_len is_blank (reverse t)) (end_is start) ∙ ap (prefix_len is_blank) (reverse-reverse _) ∙ none_left is_blank (reverse start),
+      ap (λ t. prefix_len is_blank (reverse t)) (end_is start) ∙ ap (prefix_len is_blank) (reverse-reverse (drop (prefix_len is_blank (reverse start)) (reverse start))) ∙ none_left is_blank (reverse start),
     )
 
 -- ---- the values of the fields of a text

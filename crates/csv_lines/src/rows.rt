@@ -2,6 +2,7 @@
 ghost use Rattle.std.specs.Prelude.{◌≡◌, ◌≢◌, [], ◌∷◌, ◌++◌, ◌<◌, ℕ, List, Some, IfOk, OnOk};
 ghost use Rattle.geo_addr.specs.Lines.{numbered_lines};
 ghost use Rattle.csv.specs.Records.{fields_of};
+ghost use Rattle.csv_lines.specs.Clean.{AreTexts};
 ghost use Rattle.csv_lines.specs.Fields.{values_of};
 ghost use Rattle.csv_lines.specs.Rests.{CanRead, Stands, all_handed, column, content_of, handed, rest_of, row_of, said_in};
 ghost use Rattle.csv_lines.specs.declared.rest.Content.{Content};
@@ -67,6 +68,7 @@ pub fn next_row(
     requires { CanRead (λ s. Some s.now) reader.old line.now }
     ensures content { IfOk result (λ content. content ≡ content_of (rest_of line.now)) }
     ensures row { IfOk result (λ content. content ≡ Content.Fields → fields_of row.new ≡ row_of (rest_of line.now)) }
+    ensures texts { IfOk result (λ content. content ≡ Content.Fields → AreTexts (fields_of row.new)) }
     ensures stands { (left : List ℕ) → Stands (λ s. Some s.now) reader.old (handed line.now ++ left) → OnOk result (Stands (λ s. Some s.now) reader.new left) }
 {
     let content = content_of(rest_of(line));
@@ -108,13 +110,14 @@ pub fn said_in(
     row: &ByteRecord,
     place: usize,
 ) -> Result<Result<Said, PlaceFault>, Memory>
-    requires { place < 8 }
+    requires few { place < 8 }
+    requires texts { AreTexts (fields_of row.now) }
     ensures { IfOk result (λ said. said ≡ said_in place (fields_of row.now)) }
 {
-    let country = text_column(row, place)?;
-    let region = text_column(row, place + 1)?;
-    let city = text_column(row, place + 2)?;
-    let postal = text_column(row, place + 3)?;
+    let country = text_column(row, place);
+    let region = text_column(row, place + 1);
+    let city = text_column(row, place + 2);
+    let postal = text_column(row, place + 3);
     match place_in(texts, country, region, city, postal) {
         Ok(said) => Ok(Ok(said)),
         Err(PlaceFault::Country) => Ok(Err(PlaceFault::Country)),
@@ -125,11 +128,12 @@ pub fn said_in(
 }
 
 // A field of a row by its place, as a text.
-fn text_column(row: &ByteRecord, place: usize) -> Result<&str, Memory>
-    ensures { IfOk result (λ text. text.now ≡ column place (fields_of row.now)) }
+fn text_column(row: &ByteRecord, place: usize) -> &str
+    requires { AreTexts (fields_of row.now) }
+    ensures { result.now ≡ column place (fields_of row.now) }
 {
     match str::from_utf8(column(row, place)) {
-        Ok(text) => Ok(text),
-        Err(_) => Err(Memory),
+        Ok(text) => text,
+        Err(_) => unreachable!(),
     }
 }

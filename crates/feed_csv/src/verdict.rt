@@ -1,6 +1,7 @@
 //! What a line says by itself.
 ghost use Rattle.std.specs.Prelude.{◌≡◌, ◌++◌, ℕ, List, Some, IfOk, OnOk};
 ghost use Rattle.csv.specs.Records.{fields_of};
+ghost use Rattle.csv_lines.specs.Clean.{AreTexts};
 ghost use Rattle.csv_lines.specs.Rests.{CanRead, Stands, handed, said_in};
 ghost use Rattle.feed_csv.specs.Verdicts.{accepted_at, block_rule, place_rule, row_verdict, verdict};
 
@@ -39,6 +40,7 @@ pub(crate) fn read_line(
 
 // What fields say: the first rule that they break, else an entry.
 fn row_verdict(texts: &mut Texts, row: &ByteRecord) -> Result<Verdict, Memory>
+    requires { AreTexts (fields_of row.now) }
     ensures { IfOk result (λ found. found ≡ row_verdict (fields_of row.now)) }
 {
     let prefix = column(row, 0);
@@ -52,6 +54,7 @@ fn row_verdict(texts: &mut Texts, row: &ByteRecord) -> Result<Verdict, Memory>
 }
 
 fn accepted_at(texts: &mut Texts, block: Block, row: &ByteRecord) -> Result<Verdict, Memory>
+    requires { AreTexts (fields_of row.now) }
     ensures { IfOk result (λ found. found ≡ accepted_at block (said_in 1 (fields_of row.now))) }
 {
     match said_in(texts, row, 1)? {

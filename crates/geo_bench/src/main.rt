@@ -7,9 +7,9 @@ mod dump;
 mod emit;
 mod fan;
 mod feed;
-mod lines;
 mod order;
 mod paint;
+mod publish;
 mod ranges;
 mod registries;
 mod wide;
@@ -49,8 +49,8 @@ fn main(rt: HostRuntime) -> anyhow::Result<()> {
                 .context("the third word is to be a file's name")?;
             wide::run(rt.alloc(), &rt, size, name.as_str())
         }
-        "paint-lines" => lines::run(rt.alloc(), &rt, size, false),
-        "lines" => lines::run(rt.alloc(), &rt, size, true),
+        "leaves" => publish::run(rt.alloc(), &rt, size, false),
+        "publish" => publish::run(rt.alloc(), &rt, size, true),
         "serial" => fan::run(rt.alloc(), &rt, size, false),
         "parallel" => fan::run(rt.alloc(), &rt, size, true),
         _ => bail!("no case is called {case}"),

@@ -4,7 +4,7 @@ ghost use Rattle.std.specs.Prelude.{None};
 use crate::disk::{Disk, folder_of};
 use crate::limit::is_within_limit;
 use crate::whole::write_whole;
-use std::fs::{File, Files, Metadata, OpenOptions, Permissions};
+use std::fs::{File, Files, OpenOptions, Permissions};
 use std::io::ErrorKind;
 use std::os::unix::fs::{MetadataExt, OpenOptionsExt, PermissionsExt};
 use std::{fs, io};
@@ -54,7 +54,7 @@ impl<R: Files<File = File>> Disk for HostDisk<'_, R> {
     }
 
     fn fill(&mut self, bytes: &[u8]) -> io::Result<()> {
-        if !is_within_limit(bytes.len() as u64) {
+        if !is_within_limit(self.rt, bytes.len() as u64) {
             return Err(io::Error::from(ErrorKind::FileTooLarge));
         }
         write_whole(self.file()?, bytes)

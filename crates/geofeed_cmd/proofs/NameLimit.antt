@@ -1,6 +1,6 @@
 -- The database type of an accepted job is short.
 use Rattle.std.proofs.Common.{◌≡◌, ℕ, ◌^◌, ◌≤◌, ◌&&◌, Bool, true, false, List, [], ◌∷◌, length, refl, subst, rules, lit≤}
-use Rattle.std.specs.Prelude.{Option, Some, None, nat_le, nat_lt, if◌then◌else◌, codes}
+use Rattle.std.specs.Prelude.{Option, Some, None, option_and_then, nat_le, nat_lt, if◌then◌else◌, codes}
 use Rattle.std.specs.List.{filter_map, list_all, cons_option}
 use Rattle.geo_addr.specs.Decimals.{decimal}
 use Rattle.geo_addr.specs.Lines.{numbered_lines}
@@ -9,7 +9,7 @@ use Rattle.geofeed_cmd.specs.declared.job.form.Form.{Form}
 use Rattle.geofeed_cmd.specs.declared.job.form.Form.TheVariants.{Epoch, TypeName, Do}
 use Rattle.geofeed_cmd.specs.declared.job.Act.TheVariants.{Stats, Emit, Report}
 use Rattle.geofeed_cmd.specs.declared.job.Job.{Job}
-use Rattle.geofeed_cmd.specs.Job.Forms.{form_of, form_of_one, form_of_two, form_of_three, type_form, epoch_form, epoch_of, emit_form, stats_form, is_passed_over, words}
+use Rattle.geofeed_cmd.specs.Job.Forms.{both as both_of, only, epoch_line, type_line, stats_line, emit_line, report_line, form_by, form_of, type_form, epoch_form, epoch_of, emit_form, stats_form, is_passed_over, words}
 use Rattle.geofeed_cmd.specs.Job.Names.{is_type_name, is_name, is_slot, is_visible}
 use Rattle.geofeed_cmd.specs.Job.Said.{SaysItsLines, form_said, is_only, name_in, name_said}
 
@@ -43,28 +43,30 @@ epoch-short : (n : Option ℕ) → IsShort (epoch_of n)
 epoch-short None = tt
 epoch-short (Some n) = either (nat_lt n (2 ^ 64)) (Some (Epoch n)) None tt tt
 
-two-short : (word rest : List ℕ) → IsShort (form_of_two word rest)
-unfolding form_of_two
-two-short word rest =
-    either (same_text word (codes "epoch")) (epoch_form rest) _ (epoch-short (decimal 1 20 rest))
-    (either (same_text word (codes "type")) (type_form rest) _ (type-short rest (is_type_name rest) refl)
-    (either (same_text word (codes "emit")) (emit_form rest) None (either (is_name rest) (Some (Do (Emit rest))) None tt tt) tt))
+then-short : (found : Option (List ℕ)) (form : List ℕ → Option Form) → ((word : List ℕ) → IsShort (form word)) → IsShort (option_and_then form found)
+then-short None form short = tt
+then-short (Some word) form short = short word
 
-three-short : (word first second : List ℕ) → IsShort (form_of_three word first second)
-unfolding form_of_three
-three-short word first second =
-    either (same_text word (codes "stats")) (stats_form first second) None (either (is_slot first && is_name second) (Some (Do (Stats first second))) None tt tt) tt
+pair-short : (found : Option (List ℕ × List ℕ)) → IsShort (option_and_then (λ (words : List ℕ × List ℕ). stats_form words.0 words.1) found)
+pair-short None = tt
+pair-short (Some words) = either (is_slot words.0 && is_name words.1) (Some (Do (Stats words.0 words.1))) None tt tt
 
-one-short : (word : List ℕ) → IsShort (form_of_one word)
-unfolding form_of_one
-one-short word = either (same_text word (codes "report")) (Some (Do Report)) None tt tt
+report-short : (rest : List (List ℕ)) → IsShort (report_line rest)
+report-short [] = tt
+report-short (word ∷ more) = tt
+
+by-short : (word : List ℕ) (rest : List (List ℕ)) → IsShort (form_by word rest)
+unfolding form_by
+by-short word rest =
+    either (same_text word (codes "epoch")) (epoch_line rest) _ (then-short (only rest) epoch_form (λ digits. epoch-short (decimal 1 20 digits)))
+    (either (same_text word (codes "type")) (type_line rest) _ (then-short (only rest) type_form (λ name. type-short name (is_type_name name) refl))
+    (either (same_text word (codes "stats")) (stats_line rest) _ (pair-short (both_of rest))
+    (either (same_text word (codes "emit")) (emit_line rest) _ (then-short (only rest) emit_form (λ file. either (is_name file) (Some (Do (Emit file))) None tt tt))
+    (either (same_text word (codes "report")) (report_line rest) None (report-short rest) tt))))
 
 form-short : (said : List (List ℕ)) → IsShort (form_of said)
 form-short [] = tt
-form-short (word ∷ []) = one-short word
-form-short (word ∷ a ∷ []) = two-short word a
-form-short (word ∷ a ∷ b ∷ []) = three-short word a b
-form-short (word ∷ a ∷ b ∷ c ∷ more) = tt
+form-short (word ∷ rest) = by-short word rest
 
 name-short : (form : Option Form) (name : List ℕ) → IsShort form → name_in form ≡ Some name → length name ≤ 64
 name-short None name short h = absurd (cc)

@@ -67,95 +67,98 @@ fn ran<R: Threads, L: Ledger>(
     ))
 }
 
+/// The files, the commands, and what they print.
+type Printed = (Files, &'static [&'static [&'static str]], &'static str);
+
+const PRINTED: [Printed; 9] = [
+    (
+        &[("job", "epoch 1700000000\nemit out.mmdb\n")],
+        &[&["build", "job"], &["lookup", "out.mmdb", "::"]],
+        "emit out.mmdb nodes 1 data 0 bits 24 bytes 225\nnone\n",
+    ),
+    (
+        &[
+            ("job", EMIT),
+            ("s.txt", "x|DE|ipv4|128.0.0.0|2147483648||allocated"),
+        ],
+        &[
+            &["build", "job"],
+            &["lookup", "out.mmdb", "128.0.0.1"],
+            &["lookup", "out.mmdb", "127.255.255.255"],
+        ],
+        "emit out.mmdb nodes 97 data 22 bits 24 bytes 823\n{\"country\":{\"iso_code\":\"DE\"}}\nnone\n",
+    ),
+    (
+        HALF,
+        &[&["build", "job"]],
+        "emit a nodes 97 data 22 bits 24 bytes 820\n",
+    ),
+    (
+        &[
+            ("job", EMIT),
+            ("s.txt", "x|DE|ipv4|192.0.2.0|768||allocated"),
+        ],
+        &[&["build", "job"]],
+        "emit out.mmdb nodes 121 data 22 bits 24 bytes 967\n",
+    ),
+    (
+        &[
+            ("job", REPORT),
+            ("s.txt", "x|DE|ipv4|255.255.255.255|1||allocated"),
+        ],
+        &[
+            &["build", "job"],
+            &["lookup", "out.mmdb", "255.255.255.255"],
+        ],
+        "notes 0\nemit out.mmdb nodes 128 data 22 bits 24 bytes 1009\n{\"country\":{\"iso_code\":\"DE\"}}\n",
+    ),
+    (
+        &[
+            ("job", REPORT),
+            ("s.txt", "x|DE|ipv4|255.255.255.255|2||allocated"),
+        ],
+        &[
+            &["build", "job"],
+            &["lookup", "out.mmdb", "255.255.255.255"],
+        ],
+        "stats x 1 S05\nnotes 1\nemit out.mmdb nodes 1 data 0 bits 24 bytes 225\nnone\n",
+    ),
+    (
+        &[
+            ("job", EMIT),
+            (
+                "s.txt",
+                "x|DE|ipv4|10.0.0.0|128||allocated\nx|DE|ipv4|10.0.1.0|128||allocated\n",
+            ),
+        ],
+        &[&["build", "job"]],
+        "emit out.mmdb nodes 121 data 22 bits 24 bytes 967\n",
+    ),
+    (
+        &[
+            ("job", EMIT),
+            (
+                "s.txt",
+                "x|DE|ipv4|192.0.2.0|128||allocated\nx|DE|ipv4|192.0.2.128|128||allocated\n",
+            ),
+        ],
+        &[&["build", "job"]],
+        "emit out.mmdb nodes 120 data 22 bits 24 bytes 961\n",
+    ),
+    (
+        &[
+            ("job", EMIT),
+            ("s.txt", "x|DE|ipv4|192.0.2.0|256||allocated\n"),
+        ],
+        &[&["build", "job"]],
+        "emit out.mmdb nodes 120 data 22 bits 24 bytes 961\n",
+    ),
+];
+
 #[test]
 fn what_is_printed(rt: HostRuntime) -> Result<(), Fail> {
     let alloc = rt.alloc();
-    // the files, the commands, and what they print
-    let cases: [(Files, &[&[&str]], &str); 9] = [
-        (
-            &[("job", "epoch 1700000000\nemit out.mmdb\n")],
-            &[&["build", "job"], &["lookup", "out.mmdb", "::"]],
-            "emit out.mmdb nodes 1 data 0 bits 24 bytes 225\nnone\n",
-        ),
-        (
-            &[
-                ("job", EMIT),
-                ("s.txt", "x|DE|ipv4|128.0.0.0|2147483648||allocated"),
-            ],
-            &[
-                &["build", "job"],
-                &["lookup", "out.mmdb", "128.0.0.1"],
-                &["lookup", "out.mmdb", "127.255.255.255"],
-            ],
-            "emit out.mmdb nodes 97 data 22 bits 24 bytes 823\n{\"country\":{\"iso_code\":\"DE\"}}\nnone\n",
-        ),
-        (
-            HALF,
-            &[&["build", "job"]],
-            "emit a nodes 97 data 22 bits 24 bytes 820\n",
-        ),
-        (
-            &[
-                ("job", EMIT),
-                ("s.txt", "x|DE|ipv4|192.0.2.0|768||allocated"),
-            ],
-            &[&["build", "job"]],
-            "emit out.mmdb nodes 121 data 22 bits 24 bytes 967\n",
-        ),
-        (
-            &[
-                ("job", REPORT),
-                ("s.txt", "x|DE|ipv4|255.255.255.255|1||allocated"),
-            ],
-            &[
-                &["build", "job"],
-                &["lookup", "out.mmdb", "255.255.255.255"],
-            ],
-            "notes 0\nemit out.mmdb nodes 128 data 22 bits 24 bytes 1009\n{\"country\":{\"iso_code\":\"DE\"}}\n",
-        ),
-        (
-            &[
-                ("job", REPORT),
-                ("s.txt", "x|DE|ipv4|255.255.255.255|2||allocated"),
-            ],
-            &[
-                &["build", "job"],
-                &["lookup", "out.mmdb", "255.255.255.255"],
-            ],
-            "stats x 1 S05\nnotes 1\nemit out.mmdb nodes 1 data 0 bits 24 bytes 225\nnone\n",
-        ),
-        (
-            &[
-                ("job", EMIT),
-                (
-                    "s.txt",
-                    "x|DE|ipv4|10.0.0.0|128||allocated\nx|DE|ipv4|10.0.1.0|128||allocated\n",
-                ),
-            ],
-            &[&["build", "job"]],
-            "emit out.mmdb nodes 121 data 22 bits 24 bytes 967\n",
-        ),
-        (
-            &[
-                ("job", EMIT),
-                (
-                    "s.txt",
-                    "x|DE|ipv4|192.0.2.0|128||allocated\nx|DE|ipv4|192.0.2.128|128||allocated\n",
-                ),
-            ],
-            &[&["build", "job"]],
-            "emit out.mmdb nodes 120 data 22 bits 24 bytes 961\n",
-        ),
-        (
-            &[
-                ("job", EMIT),
-                ("s.txt", "x|DE|ipv4|192.0.2.0|256||allocated\n"),
-            ],
-            &[&["build", "job"]],
-            "emit out.mmdb nodes 120 data 22 bits 24 bytes 961\n",
-        ),
-    ];
-    for (files, commands, printed) in cases {
+    for (files, commands, printed) in PRINTED {
         let mut folder = folder_of(alloc, files, 0, 0)?;
         let mut out = MemSink::new(alloc, Vec::new(alloc));
         for words in commands {
@@ -178,127 +181,129 @@ type Case = (
     bool,
 );
 
+const BUILD: &[&str] = &["build", "job"];
+
+const STOPS: [Case; 16] = [
+    (
+        HALF,
+        BUILD,
+        (3, 0, 0),
+        Status::ReadFault,
+        "stop read s.txt\n",
+        false,
+    ),
+    (
+        HALF,
+        BUILD,
+        (0, 1, 0),
+        Status::WriteFault,
+        "stop write a\n",
+        false,
+    ),
+    (HALF, BUILD, (0, 0, 1), Status::WriteFault, "", true),
+    (
+        &[("job", "epoch 1\nstats x s.txt\nemit a\n")],
+        BUILD,
+        (0, 0, 0),
+        Status::Missing,
+        "stop missing s.txt\n",
+        false,
+    ),
+    (
+        &[],
+        BUILD,
+        (0, 0, 0),
+        Status::Missing,
+        "stop missing job\n",
+        false,
+    ),
+    (
+        HALF,
+        BUILD,
+        (1, 0, 0),
+        Status::ReadFault,
+        "stop read job\n",
+        false,
+    ),
+    (
+        &[("job", "epoch 1\nemit\n")],
+        BUILD,
+        (0, 0, 0),
+        Status::Job,
+        "stop job 2\n",
+        false,
+    ),
+    (
+        &[("job", "epoch 1\ndrop stats x\n")],
+        BUILD,
+        (0, 0, 0),
+        Status::Job,
+        "stop job 2\n",
+        false,
+    ),
+    (
+        &[("job", "")],
+        BUILD,
+        (0, 0, 0),
+        Status::Job,
+        "stop job empty\n",
+        false,
+    ),
+    (
+        &[("f", "")],
+        &["lookup", "f", "::"],
+        (0, 0, 0),
+        Status::File,
+        "stop file NoMarker\n",
+        false,
+    ),
+    (
+        &[],
+        &["build"],
+        (0, 0, 0),
+        Status::Words,
+        "stop words\n",
+        false,
+    ),
+    (
+        &[],
+        &["gen", "0", "f"],
+        (0, 0, 0),
+        Status::Words,
+        "stop words\n",
+        false,
+    ),
+    (
+        &[],
+        &["gen", "1000001", "f"],
+        (0, 0, 0),
+        Status::Words,
+        "stop words\n",
+        false,
+    ),
+    (
+        &[],
+        &["lookup", "f", "1.2.3"],
+        (0, 0, 0),
+        Status::Words,
+        "stop words\n",
+        false,
+    ),
+    (
+        &[],
+        &["build", "../j"],
+        (0, 0, 0),
+        Status::Words,
+        "stop words\n",
+        false,
+    ),
+    (&[], &[], (0, 0, 0), Status::Words, "stop words\n", false),
+];
+
 #[test]
 fn how_commands_stop(rt: HostRuntime) -> Result<(), Fail> {
     let alloc = rt.alloc();
-    let build: &'static [&'static str] = &["build", "job"];
-    let cases: [Case; 16] = [
-        (
-            HALF,
-            build,
-            (3, 0, 0),
-            Status::ReadFault,
-            "stop read s.txt\n",
-            false,
-        ),
-        (
-            HALF,
-            build,
-            (0, 1, 0),
-            Status::WriteFault,
-            "stop write a\n",
-            false,
-        ),
-        (HALF, build, (0, 0, 1), Status::WriteFault, "", true),
-        (
-            &[("job", "epoch 1\nstats x s.txt\nemit a\n")],
-            build,
-            (0, 0, 0),
-            Status::Missing,
-            "stop missing s.txt\n",
-            false,
-        ),
-        (
-            &[],
-            build,
-            (0, 0, 0),
-            Status::Missing,
-            "stop missing job\n",
-            false,
-        ),
-        (
-            HALF,
-            build,
-            (1, 0, 0),
-            Status::ReadFault,
-            "stop read job\n",
-            false,
-        ),
-        (
-            &[("job", "epoch 1\nemit\n")],
-            build,
-            (0, 0, 0),
-            Status::Job,
-            "stop job 2\n",
-            false,
-        ),
-        (
-            &[("job", "epoch 1\ndrop stats x\n")],
-            build,
-            (0, 0, 0),
-            Status::Job,
-            "stop job 2\n",
-            false,
-        ),
-        (
-            &[("job", "")],
-            build,
-            (0, 0, 0),
-            Status::Job,
-            "stop job empty\n",
-            false,
-        ),
-        (
-            &[("f", "")],
-            &["lookup", "f", "::"],
-            (0, 0, 0),
-            Status::File,
-            "stop file NoMarker\n",
-            false,
-        ),
-        (
-            &[],
-            &["build"],
-            (0, 0, 0),
-            Status::Words,
-            "stop words\n",
-            false,
-        ),
-        (
-            &[],
-            &["gen", "0", "f"],
-            (0, 0, 0),
-            Status::Words,
-            "stop words\n",
-            false,
-        ),
-        (
-            &[],
-            &["gen", "1000001", "f"],
-            (0, 0, 0),
-            Status::Words,
-            "stop words\n",
-            false,
-        ),
-        (
-            &[],
-            &["lookup", "f", "1.2.3"],
-            (0, 0, 0),
-            Status::Words,
-            "stop words\n",
-            false,
-        ),
-        (
-            &[],
-            &["build", "../j"],
-            (0, 0, 0),
-            Status::Words,
-            "stop words\n",
-            false,
-        ),
-        (&[], &[], (0, 0, 0), Status::Words, "stop words\n", false),
-    ];
-    for (files, words, (read, put, write), wanted, printed, stands) in cases {
+    for (files, words, (read, put, write), wanted, printed, stands) in STOPS {
         let mut folder = folder_of(alloc, files, read, put)?;
         let mut out = MemSink::new(alloc, vec![in alloc; write]?);
         let status = ran::<_, Brand>(&rt, alloc, words, &mut folder, &mut out, Blank::new(1))?;
@@ -309,32 +314,35 @@ fn how_commands_stop(rt: HostRuntime) -> Result<(), Fail> {
     Ok(())
 }
 
+/// Two jobs, whose sources have the same lines in another order.
+const SHUFFLED: Files = &[
+    ("one", "epoch 1700000000\nstats x s.txt\nreport\nemit a\n"),
+    ("two", "epoch 1700000000\nstats x t.txt\nreport\nemit b\n"),
+    (
+        "s.txt",
+        "x|DE|ipv4|10.0.0.0|256||allocated\nx|ZZ|ipv4|10.0.1.0|256||allocated\n",
+    ),
+    (
+        "t.txt",
+        "x|ZZ|ipv4|10.0.1.0|256||allocated\nx|DE|ipv4|10.0.0.0|256||allocated\n",
+    ),
+];
+
+const SHUFFLED_PRINTS: &str =
+    "stats x 2 S06\nnotes 1\nemit a nodes 120 data 22 bits 24 bytes 961\nstats x 1 S06\nnotes 1\nemit b nodes 120 data 22 bits 24 bytes 961\n";
+
 /// The same lines in another order are another report and the same file.
 #[test]
 fn order_of_lines(rt: HostRuntime) -> Result<(), Fail> {
     let alloc = rt.alloc();
-    let files: Files = &[
-        ("one", "epoch 1700000000\nstats x s.txt\nreport\nemit a\n"),
-        ("two", "epoch 1700000000\nstats x t.txt\nreport\nemit b\n"),
-        (
-            "s.txt",
-            "x|DE|ipv4|10.0.0.0|256||allocated\nx|ZZ|ipv4|10.0.1.0|256||allocated\n",
-        ),
-        (
-            "t.txt",
-            "x|ZZ|ipv4|10.0.1.0|256||allocated\nx|DE|ipv4|10.0.0.0|256||allocated\n",
-        ),
-    ];
-    let mut folder = folder_of(alloc, files, 0, 0)?;
+    let mut folder = folder_of(alloc, SHUFFLED, 0, 0)?;
     let mut out = MemSink::new(alloc, Vec::new(alloc));
     for job in ["one", "two"] {
         let words = ["build", job];
         let status = ran::<_, Brand>(&rt, alloc, &words, &mut folder, &mut out, Blank::new(1))?;
         assert_eq!(rt; status, Status::Done, "{job}");
     }
-    let printed: &str =
-        "stats x 2 S06\nnotes 1\nemit a nodes 120 data 22 bits 24 bytes 961\nstats x 1 S06\nnotes 1\nemit b nodes 120 data 22 bits 24 bytes 961\n";
-    assert!(rt; out.written() == printed.as_bytes());
+    assert!(rt; out.written() == SHUFFLED_PRINTS.as_bytes());
     assert!(rt; folder.bytes_of("a").is_some());
     assert!(rt; folder.bytes_of("a") == folder.bytes_of("b"));
     Ok(())

@@ -1,6 +1,7 @@
 //! What a line says by itself.
 ghost use Rattle.std.specs.Prelude.{◌≡◌, ◌++◌, ℕ, List, Some, IfOk, OnOk};
 ghost use Rattle.csv.specs.Records.{fields_of};
+ghost use Rattle.csv_lines.specs.Clean.{AreTexts};
 ghost use Rattle.csv_lines.specs.Rests.{CanRead, Stands, column, handed};
 ghost use Rattle.override_rows.specs.Verdicts.{acted, row_verdict, set_at, verdict};
 
@@ -39,6 +40,7 @@ pub(crate) fn read_line(
 
 // What fields say: the first rule that they break, else a row.
 fn row_verdict(texts: &mut Texts, row: &ByteRecord) -> Result<Verdict, Memory>
+    requires { AreTexts (fields_of row.now) }
     ensures { IfOk result (λ found. found ≡ row_verdict (fields_of row.now)) }
 {
     match parse_span(column(row, 0)) {
@@ -48,6 +50,7 @@ fn row_verdict(texts: &mut Texts, row: &ByteRecord) -> Result<Verdict, Memory>
 }
 
 fn acted(texts: &mut Texts, range: Range, row: &ByteRecord) -> Result<Verdict, Memory>
+    requires { AreTexts (fields_of row.now) }
     ensures { IfOk result (λ found. found ≡ acted range (column 1 (fields_of row.now)) (fields_of row.now)) }
 {
     let word = column(row, 1);

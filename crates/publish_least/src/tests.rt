@@ -18,7 +18,7 @@ fn lines_under<L: Ledger>(
     rt: &impl Abort,
     alloc: Global,
     painted: &[Painted],
-    within: &str,
+    within: &[u8],
     blank: Blank,
 ) -> Result<Vec<Line>, Fail>
     requires name { blank.name ≡ L.name }
@@ -33,7 +33,7 @@ fn lines_under<L: Ledger>(
         assert!(rt; first <= last);
         root = store.paint(root, Range { first, last }, *leaf, &mut steps)?;
     }
-    let within = parse_block(within.as_bytes())?;
+    let within = parse_block(within)?;
     let range = range_of(within);
     assert!(rt; range.last < 1 << 32 || range.first >= 1 << 32);
     Ok(least_lines(alloc, &store, root, within)?)
@@ -55,34 +55,34 @@ fn text_of(alloc: Global, lines: &[Line]) -> Result<String, Fail> {
 #[test]
 fn fewest_lines_in_order(rt: HostRuntime) -> Result<(), Fail> {
     let alloc = rt.alloc();
-    let cases: [(&[Painted], &str, &str); 9] = [
-        (&[], "10.0.0.0/8", ""),
+    let cases: [(&[Painted], &[u8], &str); 9] = [
+        (&[], b"10.0.0.0/8", ""),
         (
             &[(0x0a00_0000, 0x0a00_00ff, 1), (0x0a00_0080, 0x0a00_00bf, 2)],
-            "10.0.0.0/8",
+            b"10.0.0.0/8",
             "10.0.0.0/24 1; 10.0.0.128/26 2; ",
         ),
         (
             &[(0x0a00_0000, 0x0a00_007f, 1), (0x0a00_0080, 0x0a00_00ff, 2)],
-            "10.0.0.0/8",
+            b"10.0.0.0/8",
             "10.0.0.0/24 1; 10.0.0.128/25 2; ",
         ),
         (
             &[(0x0a00_0000, 0x0a00_007f, 1), (0x0a00_00c0, 0x0a00_00ff, 1)],
-            "10.0.0.0/8",
+            b"10.0.0.0/8",
             "10.0.0.0/24 1; 10.0.0.128/26 0; ",
         ),
         (
             &[(0x0a00_0000, 0x0a00_007f, 1)],
-            "10.0.0.0/8",
+            b"10.0.0.0/8",
             "10.0.0.0/25 1; ",
         ),
         (
             &[(0x0a00_0000, 0x0a00_00ff, 1)],
-            "10.0.0.5",
+            b"10.0.0.5",
             "10.0.0.5/32 1; ",
         ),
-        (&[(0, u128::MAX, 3)], "0.0.0.0/0", "0.0.0.0/0 3; "),
+        (&[(0, u128::MAX, 3)], b"0.0.0.0/0", "0.0.0.0/0 3; "),
         // the leaf that is met first stands where either would do
         (
             &[
@@ -90,7 +90,7 @@ fn fewest_lines_in_order(rt: HostRuntime) -> Result<(), Fail> {
                 (0x0a00_0040, 0x0a00_007f, 1),
                 (0x0a00_0080, 0x0a00_00bf, 1),
             ],
-            "10.0.0.0/24",
+            b"10.0.0.0/24",
             "10.0.0.0/24 2; 10.0.0.64/26 1; 10.0.0.128/26 1; ",
         ),
         (
@@ -102,14 +102,14 @@ fn fewest_lines_in_order(rt: HostRuntime) -> Result<(), Fail> {
                     2,
                 ),
             ],
-            "2000::/3",
+            b"2000::/3",
             "2001:db8::/32 1; 2001:db8:1::/48 2; ",
         ),
     ];
     for (painted, within, wanted) in cases {
         let lines = lines_under::<Brand>(&rt, alloc, painted, within, Blank::new(1))?;
         let text = text_of(alloc, &lines)?;
-        assert_eq!(rt; text.as_str(), wanted, "{within}");
+        assert_eq!(rt; text.as_str(), wanted);
     }
     Ok(())
 }
@@ -125,7 +125,7 @@ fn chequered_block(rt: HostRuntime) -> Result<(), Fail> {
             let at = 0xc000_0200 + u128::from(address);
             painted.push((at, at, 1 + address % different))?;
         }
-        let lines = lines_under::<Brand>(&rt, alloc, &painted, "192.0.2.0/26", Blank::new(1))?;
+        let lines = lines_under::<Brand>(&rt, alloc, &painted, b"192.0.2.0/26", Blank::new(1))?;
         assert_eq!(rt; lines.len(), wanted, "{different} leaves");
     }
     Ok(())

@@ -1,10 +1,10 @@
 -- What is kept between two bytes is bounded.
-use Rattle.std.proofs.Common.{◌≡◌, ℕ, ◌+◌, ◌<◌, ◌≤◌, Bool, true, false, cond, eqb, ltb, List, [], ◌∷◌, ◌++◌, length, refl, subst, sym, arith}
+use Rattle.std.proofs.Common.{◌≡◌, ℕ, ◌+◌, Bool, true, false, cond, eqb, ltb, List, [], ◌∷◌, ◌++◌, length, refl, arith}
 use Rattle.std.proofs.lemmas.Bool.{ltb-false}
 use Rattle.rpsl_reader.specs.Attributes.{Numbered, is_comment, is_end}
 use Rattle.rpsl_reader.specs.Laws.{IsBounded, IsShort, StaysBounded}
 use Rattle.rpsl_reader.specs.Objects.{longest, size}
-use Rattle.rpsl_reader.specs.Reading.{Group, State, after, first_number, group_after, grown, line_of, most, none, over, start, step, with_line, within}
+use Rattle.rpsl_reader.specs.Reading.{Group, State, after, first_number, group_after, grown, line_of, none, over, start, step, with_line, within}
 use Rattle.rpsl_reader.proofs.Opens.{size-push}
 use Rattle.rpsl_reader.proofs.PieceLemmas.{grown_bounded}
 

@@ -1,10 +1,10 @@
 -- What a piece changes is a change that the reader can take, and it leads to the state behind the piece.
-use Rattle.std.proofs.Common.{◌≡◌, ◌≢◌, ℕ, ◌+◌, ◌<◌, ◌≤◌, ◌^◌, Bool, true, false, cond, List, [], ◌∷◌, ◌++◌, All, Option, fold, refl, sym, ap, ◌∙◌, subst, arith, append-nil}
+use Rattle.std.proofs.Common.{◌≡◌, ◌≢◌, ℕ, ◌<◌, ◌≤◌, ◌^◌, Bool, true, false, cond, List, [], ◌∷◌, ◌++◌, All, Option, fold, refl, sym, ap, ◌∙◌, subst, arith, append-nil}
 use Rattle.rpsl_reader.specs.declared.item.Item.{Item}
 use Rattle.rpsl_reader.specs.Attributes.{Numbered}
 use Rattle.rpsl_reader.specs.Changes.{Change, Gathering, IsChange, IsOpen, IsReader, accepted, group_of, lines_after, lines_in, open_group, open_lines}
-use Rattle.rpsl_reader.specs.Reading.{Fed, Group, State, after, given, grown, last, state_of}
-use Rattle.rpsl_reader.proofs.PieceLemmas.{after-head, after-tail, given-head, given-tail}
+use Rattle.rpsl_reader.specs.Reading.{Fed, after, given, grown, last, state_of}
+use Rattle.rpsl_reader.proofs.PieceLemmas.{after-head, after-tail, given-head}
 
 -- the reader of these fields
 abbrev pub reader : (fed lines : ℕ) (pending : List ℕ) (first : Option ℕ) (ls : List Numbered) → Fed

@@ -1,14 +1,13 @@
 -- An open group that loses its lines, or gets one more.
-use Rattle.std.proofs.Common.{◌≡◌, ℕ, ◌+◌, ◌-◌, ◌<◌, ◌≤◌, Bool, true, false, cond, ltb, List, [], ◌∷◌, ◌++◌, length, Option, Some, None, refl, sym, ap, ◌∙◌, subst, arith, append_assoc, append-nil, zero-add}
+use Rattle.std.proofs.Common.{◌≡◌, ℕ, ◌+◌, ◌-◌, ◌<◌, ◌≤◌, true, false, cond, List, [], ◌∷◌, ◌++◌, length, Option, Some, None, refl, sym, ap, ◌∙◌, arith, append_assoc, zero-add}
 use Rattle.std.proofs.lemmas.Bool.{le-ltb, lt-ltb}
 use Rattle.std.proofs.lemmas.List.Sums.{sum_by-append}
 use Rattle.rpsl_reader.specs.Attributes.{Numbered, is_comment, is_end}
 use Rattle.std.specs.Option.{is_some}
 use Rattle.geo_terms.specs.declared.note.Rule.TheVariants.{P01}
-use Rattle.rpsl_reader.specs.declared.item.Item.{Item}
 use Rattle.rpsl_reader.specs.declared.item.Item.TheVariants.{Passed}
 use Rattle.rpsl_reader.specs.Selections.{Wanted, wanted}
-use Rattle.rpsl_reader.specs.Changes.{Gathering, IsOpen, group_of, lines_in, open_group, open_lines}
+use Rattle.rpsl_reader.specs.Changes.{Gathering, IsOpen, group_of, open_group, open_lines}
 use Rattle.rpsl_reader.specs.Objects.{longest, size}
 use Rattle.rpsl_reader.specs.Reading.{Group, ended_by, first_number, group_after, none, over, said_by, with_line, within}
 

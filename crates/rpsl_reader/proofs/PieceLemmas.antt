@@ -1,5 +1,5 @@
 -- A piece that is read line by line: what its lines give, and the state behind them.
-use Rattle.std.proofs.Common.{◌≡◌, ◌≢◌, ℕ, suc, ◌+◌, ◌<◌, ◌≤◌, inl, inr, Bool, true, false, cond, ◌&&◌, eqb, List, [], ◌∷◌, ◌++◌, All, length, take, drop, fold, refl, sym, ap, ◌∙◌, subst, arith, append_assoc, append-nil, length-append, get_or, set}
+use Rattle.std.proofs.Common.{◌≡◌, ◌≢◌, ℕ, suc, ◌+◌, ◌≤◌, inl, inr, Bool, true, false, cond, ◌&&◌, List, [], ◌∷◌, ◌++◌, All, length, take, drop, fold, refl, sym, ap, ◌∙◌, subst, arith, append_assoc, append-nil, length-append, get_or, set}
 use Rattle.std.proofs.lemmas.Bool.{ne_eqb}
 use Rattle.std.proofs.lemmas.Bool.Decides.{leb_tells}
 use Rattle.std.proofs.lemmas.List.{length-take-le, set-append_right, take_all, take_more}
@@ -7,7 +7,6 @@ use Rattle.std.proofs.lemmas.List.Sums.{fold-append}
 use Rattle.std.specs.List.{list_all}
 use Rattle.geo_addr.specs.Lines.{is_blank}
 use Rattle.rpsl_reader.specs.declared.item.Item.{Item}
-use Rattle.rpsl_reader.specs.Attributes.{Numbered}
 use Rattle.rpsl_reader.specs.Reading.{Group, State, after, ended_by, given, group_after, grown, line_of, most, newer}
 use Rattle.rpsl_reader.specs.Selections.{Wanted, wanted}
 use Rattle.rpsl_reader.proofs.Pieces.{after-append, given-append, wanted-append}

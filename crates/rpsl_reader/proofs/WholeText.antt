@@ -1,14 +1,12 @@
 -- What is given on the way and at the end is what the whole text says.
-use Rattle.std.proofs.Common.{◌≡◌, ℕ, ◌+◌, ◌<◌, ◌≤◌, inl, Bool, true, false, cond, ◌&&◌, not, eqb, ltb, List, [], ◌∷◌, ◌++◌, length, take, drop, filter, flat_map, refl, sym, ap, ◌∙◌, subst, arith, append_assoc, append-nil, nat_eq, zero-add}
+use Rattle.std.proofs.Common.{◌≡◌, ℕ, ◌+◌, ◌<◌, inl, Bool, true, false, cond, ◌&&◌, not, eqb, ltb, List, [], ◌∷◌, ◌++◌, length, drop, filter, flat_map, refl, sym, ap, ◌∙◌, subst, arith, append_assoc, append-nil, nat_eq, zero-add}
 use Rattle.std.proofs.lemmas.Bool.{lt-ltb, ltb-true, ne_eqb}
 use Rattle.std.proofs.lemmas.Bool.Decides.{nat_tests}
 use Rattle.std.proofs.lemmas.List.Sums.{sum_by-append}
 use Rattle.std.specs.List.{concat, enumerate_from, onto_first, slice_split, starts_with}
 use Rattle.std.specs.Str.Lines.{strip_carriage_return}
-use Rattle.geo_addr.specs.Lines.{byte_order_mark, last_line, lines_of, lines_of_pieces, numbered_lines, pieces, without_mark}
-use Rattle.geo_terms.specs.declared.note.Rule.TheVariants.{P01}
+use Rattle.geo_addr.specs.Lines.{byte_order_mark, last_line, lines_of_pieces, numbered_lines, pieces, without_mark}
 use Rattle.rpsl_reader.specs.declared.item.Item.{Item}
-use Rattle.rpsl_reader.specs.declared.item.Item.TheVariants.{Passed}
 use Rattle.rpsl_reader.specs.Attributes.{Numbered, is_comment, is_end}
 use Rattle.rpsl_reader.specs.Laws.{AnyCutting, GivenIsWhole, given_in_pieces}
 use Rattle.rpsl_reader.specs.Objects.{group_items, groups, items, longest, objects, size, too_long}

@@ -1,5 +1,5 @@
 -- The objects of a dump (RFC 2622, section 2), and the notes on what is passed over.
-use Rattle.std.specs.Prelude.{ℕ, Bool, not, nat_lt, if◌then◌else◌, List, [], ◌∷◌, map, filter, flat_map, length, sum_by}
+use Rattle.std.specs.Prelude.{ℕ, not, nat_lt, if◌then◌else◌, List, [], ◌∷◌, map, filter, flat_map, length, sum_by}
 use Rattle.std.specs.List.{slice_split}
 use Rattle.geo_addr.specs.Lines.{numbered_lines}
 use Rattle.geo_terms.specs.declared.note.Rule.TheVariants.{P01, P02}

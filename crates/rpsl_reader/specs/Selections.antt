@@ -1,5 +1,5 @@
 -- Which objects, and which attributes of them, a reader is asked for.
-use Rattle.std.specs.Prelude.{ℕ, Bool, true, false, ◌||◌, if◌then◌else◌, List, [], ◌∷◌, filter, filter_map, Option, None, Some}
+use Rattle.std.specs.Prelude.{ℕ, Bool, ◌||◌, if◌then◌else◌, List, [], ◌∷◌, filter, filter_map, Option, None, Some}
 use Rattle.std.specs.List.{list_any}
 use Rattle.geo_terms.specs.PlaceForm.{same_text}
 use Rattle.rpsl_reader.specs.declared.item.Attribute.{Attribute}

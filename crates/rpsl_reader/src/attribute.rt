@@ -1,7 +1,7 @@
 ghost use Rattle.std.specs.Prelude.{◌≡◌, ◌∷◌, ◌++◌, [], map, IfOk, OnOk, IsTrue, filter};
-ghost use Rattle.std.specs.Char.{is_ascii_alphabetic, to_ascii_lowercase};
+ghost use Rattle.std.specs.Char.{to_ascii_lowercase};
 ghost use Rattle.std.specs.List.{list_all};
-ghost use Rattle.rpsl_reader.specs.Attributes.{attribute, attributes, behind, continued, is_attribute, is_name, is_name_byte, is_stray, joined, name_of, said_of, value_of};
+ghost use Rattle.rpsl_reader.specs.Attributes.{attribute, attributes, behind, continued, is_attribute, is_name, is_name_byte, is_stray, joined, said_of, value_of};
 ghost use Rattle.rpsl_reader.specs.Selections.{wants_name};
 ghost use Rattle.geo_addr.specs.Prefixes.{cut_first};
 

@@ -1,6 +1,5 @@
-ghost use Rattle.std.specs.Prelude.{◌≡◌, ◌∷◌, ◌++◌, [], ℕ, true, false, Some, None, IfOk, OnOk};
-ghost use Rattle.rpsl_reader.specs.Changes.{Gathering, IsOpen, open_group, open_lines};
-ghost use Rattle.rpsl_reader.specs.Objects.{items};
+ghost use Rattle.std.specs.Prelude.{◌≡◌, ◌++◌, [], true, false, IfOk, OnOk};
+ghost use Rattle.rpsl_reader.specs.Changes.{IsOpen, open_group, open_lines};
 ghost use Rattle.rpsl_reader.specs.Reading.{ended_by, first_number, group_after, said_by, with_line};
 ghost use Rattle.rpsl_reader.specs.Selections.{wanted};
 

@@ -1,11 +1,11 @@
-ghost use Rattle.std.specs.Prelude.{◌≡◌, ◌≢◌, ◌+◌, ◌<◌, ◌≤◌, ◌^◌, ◌∷◌, ◌++◌, [], All, length, fold, IfOk, OnOk, OnErr, Bool, if◌then◌else◌};
+ghost use Rattle.std.specs.Prelude.{◌≡◌, ◌≢◌, ◌+◌, ◌<◌, ◌≤◌, ◌^◌, ◌∷◌, ◌++◌, [], All, length, fold, IfOk, OnOk, OnErr, if◌then◌else◌};
 ghost use Rattle.rpsl_reader.specs.Changes.{IsChange, IsCounted, accepted, lines_in, open_group};
 ghost use Rattle.rpsl_reader.specs.Reading.{after, given, grown, last, most, start};
 ghost use Rattle.rpsl_reader.specs.Selections.{wanted};
 
 use crate::gathered::Gathered;
 use crate::item::Item;
-use crate::line::{HeldLine, held_lines};
+use crate::line::HeldLine;
 use crate::pending::hold;
 use crate::progress::Progress;
 use crate::read::read_lines;

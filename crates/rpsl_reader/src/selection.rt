@@ -1,9 +1,8 @@
-ghost use Rattle.std.specs.Prelude.{◌≡◌, ◌∷◌, ◌++◌, [], true, false, map, nat_eq, IfOk, OnOk, OnErr, IsTrue, MatchOption, Option, Some, None, if◌then◌else◌};
+ghost use Rattle.std.specs.Prelude.{◌≡◌, ◌∷◌, ◌++◌, [], true, false, map, IfOk, OnOk, OnErr, IsTrue, Some, None, if◌then◌else◌};
 ghost use Rattle.std.specs.Char.{to_ascii_lowercase};
 ghost use Rattle.std.specs.Option.{option_copied};
-ghost use Rattle.geo_addr.specs.Prefixes.{cut_first};
 ghost use Rattle.geo_terms.specs.PlaceForm.{same_text};
-ghost use Rattle.rpsl_reader.specs.Attributes.{is_attribute, is_name, name_of};
+ghost use Rattle.rpsl_reader.specs.Attributes.{is_attribute, name_of};
 ghost use Rattle.rpsl_reader.specs.Selections.{is_among, wants_class, wants_name};
 
 use crate::attribute::{lower_name, name_in};

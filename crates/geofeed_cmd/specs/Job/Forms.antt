@@ -1,5 +1,5 @@
 -- The words of a line of a job, and the form that they fit.
-use Rattle.std.specs.Prelude.{ℕ, ◌^◌, ◌&&◌, Bool, true, not, nat_lt, List, [], ◌∷◌, filter, codes, Option, None, Some, if◌then◌else◌}
+use Rattle.std.specs.Prelude.{ℕ, ◌^◌, ◌&&◌, Bool, true, not, nat_lt, List, [], ◌∷◌, filter, codes, Option, None, Some, option_and_then, if◌then◌else◌}
 use Rattle.std.specs.List.{slice_split}
 use Rattle.geo_addr.specs.Decimals.{decimal}
 use Rattle.geo_addr.specs.Lines.{is_blank}
@@ -47,23 +47,45 @@ emit_form file = if is_name file then Some (Do (Emit file)) else None
 abbrev pub stats_form : (slot file : List ℕ) → Option Form
 stats_form slot file = if is_slot slot && is_name file then Some (Do (Stats slot file)) else None
 
--- a line of one word, of two and of three
-unfoldable pub form_of_one : List ℕ → Option Form
-form_of_one word = if same_text word (codes "report") then Some (Do Report) else None
+-- one word alone, and two words alone
+abbrev pub only : List (List ℕ) → Option (List ℕ)
+only [] = None
+only (a ∷ []) = Some a
+only (a ∷ b ∷ more) = None
 
-unfoldable pub form_of_two : (word rest : List ℕ) → Option Form
-form_of_two word rest =
-    if same_text word (codes "epoch") then epoch_form rest
-    else (if same_text word (codes "type") then type_form rest
-    else (if same_text word (codes "emit") then emit_form rest else None))
+abbrev pub both : List (List ℕ) → Option (List ℕ × List ℕ)
+both [] = None
+both (a ∷ []) = None
+both (a ∷ b ∷ []) = Some (a, b)
+both (a ∷ b ∷ c ∷ more) = None
 
-unfoldable pub form_of_three : (word first second : List ℕ) → Option Form
-form_of_three word first second = if same_text word (codes "stats") then stats_form first second else None
+-- what stands behind each first word
+abbrev pub epoch_line : List (List ℕ) → Option Form
+epoch_line rest = option_and_then epoch_form (only rest)
+
+abbrev pub type_line : List (List ℕ) → Option Form
+type_line rest = option_and_then type_form (only rest)
+
+abbrev pub stats_line : List (List ℕ) → Option Form
+stats_line rest = option_and_then (λ words. stats_form words.0 words.1) (both rest)
+
+abbrev pub emit_line : List (List ℕ) → Option Form
+emit_line rest = option_and_then emit_form (only rest)
+
+abbrev pub report_line : List (List ℕ) → Option Form
+report_line [] = Some (Do Report)
+report_line (word ∷ more) = None
+
+-- the form of a line by its first word
+unfoldable pub form_by : (word : List ℕ) → (rest : List (List ℕ)) → Option Form
+form_by word rest =
+    if same_text word (codes "epoch") then epoch_line rest
+    else (if same_text word (codes "type") then type_line rest
+    else (if same_text word (codes "stats") then stats_line rest
+    else (if same_text word (codes "emit") then emit_line rest
+    else (if same_text word (codes "report") then report_line rest else None))))
 
 -- the form that words fit, if they fit one
 abbrev pub form_of : List (List ℕ) → Option Form
 form_of [] = None
-form_of (word ∷ []) = form_of_one word
-form_of (word ∷ a ∷ []) = form_of_two word a
-form_of (word ∷ a ∷ b ∷ []) = form_of_three word a b
-form_of (word ∷ a ∷ b ∷ c ∷ more) = None
+form_of (word ∷ rest) = form_by word rest

@@ -1,7 +1,7 @@
 //! The forms of a job's lines.
-ghost use Rattle.std.specs.Prelude.{◌≡◌, IfOk, IsTrue};
+ghost use Rattle.std.specs.Prelude.{◌≡◌, IfOk, IsTrue, MatchOption, None, Some};
 ghost use Rattle.std.specs.Str.{is_utf8};
-ghost use Rattle.geofeed_cmd.specs.Job.Forms.{emit_form, epoch_form, form_of, form_of_one, form_of_three, form_of_two, stats_form, type_form, words};
+ghost use Rattle.geofeed_cmd.specs.Job.Forms.{both, emit_form, emit_line, epoch_form, epoch_line, form_by, form_of, only, report_line, stats_form, stats_line, type_form, type_line, words};
 
 use crate::job::Act;
 use crate::job::names::{is_name, is_slot, is_type_name};
@@ -17,64 +17,104 @@ pub(crate) enum Form {
     Do(Act),
 }
 
-/// The form that a line fits, if it fits one.
+/// The form that a line fits, if it fits one: its first word says which.
 pub(crate) fn read_form(alloc: Global, line: &[u8]) -> Result<Option<Form>, Memory>
     ensures { IfOk result (λ form. form ≡ form_of (words line.now)) }
 {
-    let Some((word, rest)) = next_word(line) else {
-        return Ok(None);
-    };
-    let Some((first, rest)) = next_word(rest) else {
-        return Ok(form_of_one(word));
-    };
-    let Some((second, rest)) = next_word(rest) else {
-        return form_of_two(alloc, word, first);
-    };
-    match next_word(rest) {
-        None => form_of_three(alloc, word, first, second),
-        Some(_) => Ok(None),
+    match next_word(line) {
+        Some((word, rest)) => form_by(alloc, word, rest),
+        None => Ok(None),
     }
 }
 
-#[tactic(auto, unfolding(crate::specs::Job::Forms::form_of_one))]
-fn form_of_one(word: &[u8]) -> Option<Form>
-    ensures { result ≡ form_of_one word.now }
-{
-    if word == b"report".as_slice() {
-        return Some(Form::Do(Act::Report));
-    }
-    None
-}
-
-#[tactic(auto, unfolding(crate::specs::Job::Forms::form_of_two))]
-fn form_of_two(alloc: Global, word: &[u8], rest: &[u8]) -> Result<Option<Form>, Memory>
-    ensures { IfOk result (λ form. form ≡ form_of_two word.now rest.now) }
+#[tactic(auto, unfolding(crate::specs::Job::Forms::form_by))]
+fn form_by(alloc: Global, word: &[u8], rest: &[u8]) -> Result<Option<Form>, Memory>
+    ensures { IfOk result (λ form. form ≡ form_by word.now (words rest.now)) }
 {
     if word == b"epoch".as_slice() {
-        return Ok(epoch_form(rest));
+        return Ok(epoch_line(rest));
     }
     if word == b"type".as_slice() {
-        return type_form(alloc, rest);
+        return type_line(alloc, rest);
+    }
+    if word == b"stats".as_slice() {
+        return stats_line(alloc, rest);
     }
     if word == b"emit".as_slice() {
-        return emit_form(alloc, rest);
+        return emit_line(alloc, rest);
+    }
+    if word == b"report".as_slice() {
+        return Ok(report_line(rest));
     }
     Ok(None)
 }
 
-#[tactic(auto, unfolding(crate::specs::Job::Forms::form_of_three))]
-fn form_of_three(
-    alloc: Global,
-    word: &[u8],
-    first: &[u8],
-    second: &[u8],
-) -> Result<Option<Form>, Memory>
-    ensures { IfOk result (λ form. form ≡ form_of_three word.now first.now second.now) }
+fn epoch_line(rest: &[u8]) -> Option<Form>
+    ensures { result ≡ epoch_line (words rest.now) }
 {
-    if word == b"stats".as_slice() {
-        return stats_form(alloc, first, second);
+    match only(rest) {
+        Some(digits) => epoch_form(digits),
+        None => None,
     }
-    Ok(None)
+}
+
+fn type_line(alloc: Global, rest: &[u8]) -> Result<Option<Form>, Memory>
+    ensures { IfOk result (λ form. form ≡ type_line (words rest.now)) }
+{
+    match only(rest) {
+        Some(name) => type_form(alloc, name),
+        None => Ok(None),
+    }
+}
+
+fn stats_line(alloc: Global, rest: &[u8]) -> Result<Option<Form>, Memory>
+    ensures { IfOk result (λ form. form ≡ stats_line (words rest.now)) }
+{
+    match both(rest) {
+        Some((slot, file)) => stats_form(alloc, slot, file),
+        None => Ok(None),
+    }
+}
+
+fn emit_line(alloc: Global, rest: &[u8]) -> Result<Option<Form>, Memory>
+    ensures { IfOk result (λ form. form ≡ emit_line (words rest.now)) }
+{
+    match only(rest) {
+        Some(file) => emit_form(alloc, file),
+        None => Ok(None),
+    }
+}
+
+fn report_line(rest: &[u8]) -> Option<Form>
+    ensures { result ≡ report_line (words rest.now) }
+{
+    match next_word(rest) {
+        Some(_) => None,
+        None => Some(Form::Do(Act::Report)),
+    }
+}
+
+/// The word of a text that has one alone.
+fn only(rest: &[u8]) -> Option<&[u8]>
+    ensures { MatchOption result (only (words rest.now) ≡ None) (λ word. only (words rest.now) ≡ Some word.now) }
+{
+    let (word, more) = next_word(rest)?;
+    match next_word(more) {
+        Some(_) => None,
+        None => Some(word),
+    }
+}
+
+/// The words of a text that has two alone.
+fn both(rest: &[u8]) -> Option<(&[u8], &[u8])>
+    ensures { MatchOption result (both (words rest.now) ≡ None) (λ found. both (words rest.now) ≡ Some (found.0.now, found.1.now)) }
+{
+    let (first, more) = next_word(rest)?;
+    let (second, more) = next_word(more)?;
+    match next_word(more) {
+        Some(_) => None,
+        None => Some((first, second)),
+    }
 }
 
 fn epoch_form(digits: &[u8]) -> Option<Form>

@@ -30,91 +30,95 @@ fn act_text(alloc: Global, act: &Act) -> Result<String, Fail> {
     }
 }
 
+/// Texts, and the job or the fault that each is.
+const JOBS: [(&[u8], &str); 36] = [
+    (b"epoch 1\nemit a\n", "1 Geofeed-City; 2 emit a"),
+    (b"epoch 007", "7 Geofeed-City"),
+    (b"epoch 00000000000000000007", "7 Geofeed-City"),
+    (b"epoch 000000000000000000007", "line 1 is refused"),
+    (
+        b"epoch 18446744073709551615",
+        "18446744073709551615 Geofeed-City",
+    ),
+    (b"epoch 18446744073709551616", "line 1 is refused"),
+    (b"epoch -1", "line 1 is refused"),
+    (b"epoch", "line 1 is refused"),
+    (b"Epoch 1", "line 1 is refused"),
+    (b"epoch 1\nepoch 1", "line 2 is refused"),
+    (b"emit a\nepoch 1", "line 1 is refused"),
+    (b"", "no epoch"),
+    (b"\n \t\r\n # epoch 1\n#\n", "no epoch"),
+    (
+        b"\xEF\xBB\xBFepoch 1\r\nreport\r",
+        "1 Geofeed-City; 2 report",
+    ),
+    (
+        b" # x\n\n\t epoch\t 1 \n#y\n report ",
+        "1 Geofeed-City; 5 report",
+    ),
+    (b"epoch 1\nreport #x", "line 2 is refused"),
+    (b"epoch 1\r\r\n", "line 1 is refused"),
+    (b"epoch 1\n\xEF\xBB\xBF", "line 2 is refused"),
+    (b"epoch 1\n#\xFF", "not UTF-8"),
+    (b"emit a\n\xC3", "not UTF-8"),
+    (b"epoch 1\ntype !~", "1 !~"),
+    (b"epoch 1\ntype a\ntype a", "line 3 is refused"),
+    (b"type a\nepoch 1", "line 1 is refused"),
+    (b"epoch 1\nreport\ntype a", "line 3 is refused"),
+    (b"epoch 1\nstats s f\ntype a", "line 3 is refused"),
+    (b"epoch 1\ntype \xC3\xA9", "line 2 is refused"),
+    (
+        b"epoch 1\ntype T\nreport\nstats a-Z_.9 d/f\nreport\nemit \xC3\xA9\nreport",
+        "1 T; 3 report; 4 stats a-Z_.9 d/f; 5 report; 6 emit \u{E9}; 7 report",
+    ),
+    (b"epoch 1\nstats s f\nstats t g", "line 3 is refused"),
+    (b"epoch 1\nemit a\nstats s f", "line 3 is refused"),
+    (b"epoch 1\nemit a\nemit a", "line 3 is refused"),
+    (b"epoch 1\nemit", "line 2 is refused"),
+    (b"epoch 1\nemit a b", "line 2 is refused"),
+    (b"epoch 1\nstats s/t f", "line 2 is refused"),
+    (b"epoch 1\nstats s f g", "line 2 is refused"),
+    (b"epoch 1\nreport\npieces 4\nemit", "line 3 is refused"),
+    (b"epoch 1\ndrop stats s", "line 2 is refused"),
+];
+
 #[test]
 fn jobs_and_faults(rt: HostRuntime) -> Result<(), Fail> {
     let alloc = rt.alloc();
-    let table: [(&[u8], &str); 36] = [
-        (b"epoch 1\nemit a\n", "1 Geofeed-City; 2 emit a"),
-        (b"epoch 007", "7 Geofeed-City"),
-        (b"epoch 00000000000000000007", "7 Geofeed-City"),
-        (b"epoch 000000000000000000007", "line 1 is refused"),
-        (
-            b"epoch 18446744073709551615",
-            "18446744073709551615 Geofeed-City",
-        ),
-        (b"epoch 18446744073709551616", "line 1 is refused"),
-        (b"epoch -1", "line 1 is refused"),
-        (b"epoch", "line 1 is refused"),
-        (b"Epoch 1", "line 1 is refused"),
-        (b"epoch 1\nepoch 1", "line 2 is refused"),
-        (b"emit a\nepoch 1", "line 1 is refused"),
-        (b"", "no epoch"),
-        (b"\n \t\r\n # epoch 1\n#\n", "no epoch"),
-        (
-            b"\xEF\xBB\xBFepoch 1\r\nreport\r",
-            "1 Geofeed-City; 2 report",
-        ),
-        (
-            b" # x\n\n\t epoch\t 1 \n#y\n report ",
-            "1 Geofeed-City; 5 report",
-        ),
-        (b"epoch 1\nreport #x", "line 2 is refused"),
-        (b"epoch 1\r\r\n", "line 1 is refused"),
-        (b"epoch 1\n\xEF\xBB\xBF", "line 2 is refused"),
-        (b"epoch 1\n#\xFF", "not UTF-8"),
-        (b"emit a\n\xC3", "not UTF-8"),
-        (b"epoch 1\ntype !~", "1 !~"),
-        (b"epoch 1\ntype a\ntype a", "line 3 is refused"),
-        (b"type a\nepoch 1", "line 1 is refused"),
-        (b"epoch 1\nreport\ntype a", "line 3 is refused"),
-        (b"epoch 1\nstats s f\ntype a", "line 3 is refused"),
-        (b"epoch 1\ntype \xC3\xA9", "line 2 is refused"),
-        (
-            b"epoch 1\ntype T\nreport\nstats a-Z_.9 d/f\nreport\nemit \xC3\xA9\nreport",
-            "1 T; 3 report; 4 stats a-Z_.9 d/f; 5 report; 6 emit \u{E9}; 7 report",
-        ),
-        (b"epoch 1\nstats s f\nstats t g", "line 3 is refused"),
-        (b"epoch 1\nemit a\nstats s f", "line 3 is refused"),
-        (b"epoch 1\nemit a\nemit a", "line 3 is refused"),
-        (b"epoch 1\nemit", "line 2 is refused"),
-        (b"epoch 1\nemit a b", "line 2 is refused"),
-        (b"epoch 1\nstats s/t f", "line 2 is refused"),
-        (b"epoch 1\nstats s f g", "line 2 is refused"),
-        (b"epoch 1\nreport\npieces 4\nemit", "line 3 is refused"),
-        (b"epoch 1\ndrop stats s", "line 2 is refused"),
-    ];
-    for (bytes, wanted) in table {
+    for (bytes, wanted) in JOBS {
         let given = told(alloc, bytes)?;
         assert_eq!(rt; given.as_str(), wanted);
     }
     Ok(())
 }
 
+/// Words, and whether each is the name of a file.
+const NAMES: [(&[u8], bool); 20] = [
+    (b"a", true),
+    (b"a/b.c/-", true),
+    (b"...", true),
+    (b".a/..b/c.", true),
+    (b"\xC3\xA9", true),
+    (b"a\x0Bb", true),
+    (b"", false),
+    (b".", false),
+    (b"..", false),
+    (b"a//b", false),
+    (b"./a", false),
+    (b"a/..", false),
+    (b"a/../b", false),
+    (b"/a", false),
+    (b"a/", false),
+    (b"a b", false),
+    (b"a\tb", false),
+    (b"a\nb", false),
+    (b"a\rb", false),
+    (b"a\xFF", false),
+];
+
 #[test]
 fn names_of_files(rt: HostRuntime) {
-    let table: [(&[u8], bool); 20] = [
-        (b"a", true),
-        (b"a/b.c/-", true),
-        (b"...", true),
-        (b".a/..b/c.", true),
-        (b"\xC3\xA9", true),
-        (b"a\x0Bb", true),
-        (b"", false),
-        (b".", false),
-        (b"..", false),
-        (b"a//b", false),
-        (b"./a", false),
-        (b"a/..", false),
-        (b"a/../b", false),
-        (b"/a", false),
-        (b"a/", false),
-        (b"a b", false),
-        (b"a\tb", false),
-        (b"a\nb", false),
-        (b"a\rb", false),
-        (b"a\xFF", false),
-    ];
-    for (word, wanted) in table {
+    for (word, wanted) in NAMES {
         assert_eq!(rt; is_name(word), wanted);
     }
 }

@@ -56,124 +56,130 @@ fn prints(alloc: Global, file: &[u8], at: u128, want: &str) -> bool {
     }
 }
 
+/// The first address of the upper half.
+const UPPER: u128 = 1 << 127;
+
+/// Tree, data section, metadata, address, and what is printed.
+const RECORDS: [(&[u8], &[u8], &[u8], u128, &str); 14] = [
+    (
+        LOWER,
+        GERMANY,
+        BITS_24,
+        0,
+        "{\"country\":{\"iso_code\":\"DE\"}}\n",
+    ),
+    (LOWER, GERMANY, BITS_24, UPPER, "none\n"),
+    (
+        b"\0\0\x11\0\0\0\x01",
+        GERMANY,
+        BITS_28,
+        UPPER - 1,
+        "{\"country\":{\"iso_code\":\"DE\"}}\n",
+    ),
+    (
+        b"\0\0\x11\x10\0\0\x11",
+        b"\xA0",
+        BITS_28,
+        0,
+        "stop file OutOfSection\n",
+    ),
+    (b"\0\0\x11\x10\0\0\x11", b"\xA0", BITS_28, UPPER, "0\n"),
+    (
+        b"\0\0\x11\x01\0\0\x11",
+        b"\xA0",
+        BITS_28,
+        UPPER,
+        "stop file OutOfSection\n",
+    ),
+    (b"\0\0\0\x12\0\0\0\x01", b"\0\xA1\x07", BITS_32, 0, "7\n"),
+    (
+        b"\x01\0\0\x11\0\0\0\x01",
+        b"\xA0",
+        BITS_32,
+        0,
+        "stop file OutOfSection\n",
+    ),
+    (b"\0\0\x11\0\0\0\x01", b"\xA0", SIZE_TWICE, 0, "0\n"),
+    (
+        LOWER,
+        EACH_KIND,
+        BITS_24,
+        0,
+        "[\"DE\",\"400921fb54442d18\",\"ab00\",256,7,{\"a\":1},-1,9,\"256\",[0],true,\"c0000001\"]\n",
+    ),
+    (
+        LOWER,
+        b"\xE2\x41b\xA1\x01\x41b\xA1\x02",
+        BITS_24,
+        0,
+        "{\"b\":2}\n",
+    ),
+    (
+        LOWER,
+        b"\xE2\x41b\xA1\x01\x41a\xA1\x02",
+        BITS_24,
+        0,
+        "{\"a\":2,\"b\":1}\n",
+    ),
+    (
+        LOWER,
+        b"\x02\x04\x20\x06\x20\x06\x42DE",
+        BITS_24,
+        0,
+        "[\"DE\",\"DE\"]\n",
+    ),
+    (LOWER, b"\xE1\x20\x04\xA0\x41a", BITS_24, 0, "{\"a\":0}\n"),
+];
+
 #[test]
 fn records_and_values(rt: HostRuntime) -> Result<(), Fail> {
-    let upper = 1 << 127;
-    let rows: [(&[u8], &[u8], &[u8], u128, &str); 14] = [
-        (
-            LOWER,
-            GERMANY,
-            BITS_24,
-            0,
-            "{\"country\":{\"iso_code\":\"DE\"}}\n",
-        ),
-        (LOWER, GERMANY, BITS_24, upper, "none\n"),
-        (
-            b"\0\0\x11\0\0\0\x01",
-            GERMANY,
-            BITS_28,
-            upper - 1,
-            "{\"country\":{\"iso_code\":\"DE\"}}\n",
-        ),
-        (
-            b"\0\0\x11\x10\0\0\x11",
-            b"\xA0",
-            BITS_28,
-            0,
-            "stop file OutOfSection\n",
-        ),
-        (b"\0\0\x11\x10\0\0\x11", b"\xA0", BITS_28, upper, "0\n"),
-        (
-            b"\0\0\x11\x01\0\0\x11",
-            b"\xA0",
-            BITS_28,
-            upper,
-            "stop file OutOfSection\n",
-        ),
-        (b"\0\0\0\x12\0\0\0\x01", b"\0\xA1\x07", BITS_32, 0, "7\n"),
-        (
-            b"\x01\0\0\x11\0\0\0\x01",
-            b"\xA0",
-            BITS_32,
-            0,
-            "stop file OutOfSection\n",
-        ),
-        (b"\0\0\x11\0\0\0\x01", b"\xA0", SIZE_TWICE, 0, "0\n"),
-        (
-            LOWER,
-            EACH_KIND,
-            BITS_24,
-            0,
-            "[\"DE\",\"400921fb54442d18\",\"ab00\",256,7,{\"a\":1},-1,9,\"256\",[0],true,\"c0000001\"]\n",
-        ),
-        (
-            LOWER,
-            b"\xE2\x41b\xA1\x01\x41b\xA1\x02",
-            BITS_24,
-            0,
-            "{\"b\":2}\n",
-        ),
-        (
-            LOWER,
-            b"\xE2\x41b\xA1\x01\x41a\xA1\x02",
-            BITS_24,
-            0,
-            "{\"a\":2,\"b\":1}\n",
-        ),
-        (
-            LOWER,
-            b"\x02\x04\x20\x06\x20\x06\x42DE",
-            BITS_24,
-            0,
-            "[\"DE\",\"DE\"]\n",
-        ),
-        (LOWER, b"\xE1\x20\x04\xA0\x41a", BITS_24, 0, "{\"a\":0}\n"),
-    ];
-    for (i, (tree, section, metadata, at, want)) in rows.iter().enumerate() {
+    for (i, (tree, section, metadata, at, want)) in RECORDS.iter().enumerate() {
         let file = file_of(rt.alloc(), tree, section, metadata)?;
         assert!(rt; prints(rt.alloc(), &file, *at, want), "row {i}");
     }
     Ok(())
 }
 
+/// Tree, data section, metadata, and what is printed of the address 0.
+const FAULTS: [(&[u8], &[u8], &[u8], &str); 16] = [
+    (LOWER, b"", b"", "stop file Metadata\n"),
+    (LOWER, b"", NO_SIZE, "stop file Metadata\n"),
+    (LOWER, b"\xA0", OF_IPV4, "stop file Version\n"),
+    (b"\0\0\x11\0\0", b"", BITS_24, "stop file TreeCut\n"),
+    (b"\0\0\0\0\0\0", b"", BITS_24, "stop file NotEnded\n"),
+    (
+        b"\0\0\x02\0\0\x02",
+        b"",
+        BITS_24,
+        "stop file OutOfSection\n",
+    ),
+    (LOWER, b"", BITS_24, "stop file OutOfSection\n"),
+    // A key that a pointer leads to, and is a number there.
+    (
+        LOWER,
+        b"\xE1\x20\x04\xA0\xA1\x07",
+        BITS_24,
+        "stop file Key 4\n",
+    ),
+    // A list that holds itself, and a pointer to itself.
+    (LOWER, b"\x01\x04\x20\0", BITS_24, "stop file Deep 2\n"),
+    (LOWER, b"\x20\0", BITS_24, "stop file PointerToPointer 0\n"),
+    (LOWER, b"\x20\x07", BITS_24, "stop file OutOfSection 0\n"),
+    (LOWER, b"\xE1\x41a\x42D", BITS_24, "stop file Truncated 3\n"),
+    (LOWER, b"\0\x05", BITS_24, "stop file Kind 0\n"),
+    (LOWER, b"\x41\xFF", BITS_24, "stop file Utf8 0\n"),
+    (
+        LOWER,
+        b"\x01\x04\xA3\0\0\x01",
+        BITS_24,
+        "stop file Size 2\n",
+    ),
+    (LOWER, b"\xE1\xE1", BITS_24, "stop file Key 1\n"),
+];
+
 #[test]
 fn faults(rt: HostRuntime) -> Result<(), Fail> {
-    let rows: [(&[u8], &[u8], &[u8], &str); 16] = [
-        (LOWER, b"", b"", "stop file Metadata\n"),
-        (LOWER, b"", NO_SIZE, "stop file Metadata\n"),
-        (LOWER, b"\xA0", OF_IPV4, "stop file Version\n"),
-        (b"\0\0\x11\0\0", b"", BITS_24, "stop file TreeCut\n"),
-        (b"\0\0\0\0\0\0", b"", BITS_24, "stop file NotEnded\n"),
-        (
-            b"\0\0\x02\0\0\x02",
-            b"",
-            BITS_24,
-            "stop file OutOfSection\n",
-        ),
-        (LOWER, b"", BITS_24, "stop file OutOfSection\n"),
-        // A key that a pointer leads to, and is a number there.
-        (
-            LOWER,
-            b"\xE1\x20\x04\xA0\xA1\x07",
-            BITS_24,
-            "stop file Key 4\n",
-        ),
-        // A list that holds itself, and a pointer to itself.
-        (LOWER, b"\x01\x04\x20\0", BITS_24, "stop file Deep 2\n"),
-        (LOWER, b"\x20\0", BITS_24, "stop file PointerToPointer 0\n"),
-        (LOWER, b"\x20\x07", BITS_24, "stop file OutOfSection 0\n"),
-        (LOWER, b"\xE1\x41a\x42D", BITS_24, "stop file Truncated 3\n"),
-        (LOWER, b"\0\x05", BITS_24, "stop file Kind 0\n"),
-        (LOWER, b"\x41\xFF", BITS_24, "stop file Utf8 0\n"),
-        (
-            LOWER,
-            b"\x01\x04\xA3\0\0\x01",
-            BITS_24,
-            "stop file Size 2\n",
-        ),
-        (LOWER, b"\xE1\xE1", BITS_24, "stop file Key 1\n"),
-    ];
-    for (i, (tree, section, metadata, want)) in rows.iter().enumerate() {
+    for (i, (tree, section, metadata, want)) in FAULTS.iter().enumerate() {
         let file = file_of(rt.alloc(), tree, section, metadata)?;
         assert!(rt; prints(rt.alloc(), &file, 0, want), "row {i}");
     }

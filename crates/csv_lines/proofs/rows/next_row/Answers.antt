@@ -1,7 +1,9 @@
 -- A line without fields takes nothing from the reader, and one with fields takes its row.
-use Rattle.std.proofs.Common.{◌∙◌, sym}
+use Rattle.std.proofs.Common.{◌∙◌, subst, sym}
+use Rattle.csv_lines.specs.Clean.{AreTexts}
 use Rattle.csv_lines.specs.Rests.{row_of, rest_of}
 use Rattle.csv_lines.proofs.RestLemmas.{handed_blank, handed_fields, handed_no_fields, handed_not_text, has_row}
+use Rattle.csv_lines.proofs.TextLemmas.{fields_are_texts}
 use Rattle.csv_lines.proofs.rows.next_row.Goals as goal
 
 pub returns-in-Blank-clause-stands : goal.returns-in-Blank-clause-stands
@@ -27,3 +29,8 @@ returns-in_ok-read_row-in-Fields-clause-stands c left stands =
     let same = c.rest_of.ensures in
     let (some, row) = has_row (rest_of c.args.line.now) (rw same at fields) in
     (rw c.in_ok-read_row-in-Fields.was at (c.read_row.ensures (rest_of c.args.line.now) left (row_of (rest_of c.args.line.now)) some row (rw (handed_fields c.args.line.now left (rw same at fields)) at stands))).1
+
+pub returns-in_ok-read_row-in-Fields-clause-texts : goal.returns-in_ok-read_row-in-Fields-clause-texts
+returns-in_ok-read_row-in-Fields-clause-texts c is =
+    let fields = rw c.rest_of.ensures at (sym c.content_of-content.ensures ∙ c.in-Fields.is) in
+    subst AreTexts (sym (returns-in_ok-read_row-in-Fields-clause-row c is)) (fields_are_texts c.args.line.now fields)

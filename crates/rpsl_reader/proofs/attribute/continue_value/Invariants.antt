@@ -1,4 +1,4 @@
-use Rattle.std.proofs.Common.{◌≡◌, ◌++◌, length}
+use Rattle.std.proofs.Common.{◌≡◌, length}
 use Rattle.rpsl_reader.specs.Attributes.{continued}
 use Rattle.rpsl_reader.proofs.attribute.continue_value.Given as goal
 

@@ -1,4 +1,4 @@
-use Rattle.std.proofs.Common.{◌≡◌, ap, sym, refl, ◌∙◌}
+use Rattle.std.proofs.Common.{ap, sym, refl, ◌∙◌}
 use Rattle.rpsl_reader.specs.Attributes.{is_attribute}
 use Rattle.rpsl_reader.proofs.Wanted.{first_step, last_step, later_step}
 use Rattle.rpsl_reader.proofs.object.push_items.Goals as goal

@@ -1,4 +1,4 @@
-use Rattle.std.proofs.Common.{◌≡◌, ◌≢◌, ◌+◌, ◌∷◌, ◌++◌, All, length, length-append, sym, ap, ◌∙◌, arith}
+use Rattle.std.proofs.Common.{◌≡◌, ◌∷◌, ◌++◌, length, length-append, sym, ap, ◌∙◌, arith}
 use Rattle.rpsl_reader.specs.Changes.{open_group}
 use Rattle.rpsl_reader.proofs.Cuts.{all_before, cut_is}
 use Rattle.rpsl_reader.proofs.PieceLemmas.{end_found, end_state, step_found, step_state}

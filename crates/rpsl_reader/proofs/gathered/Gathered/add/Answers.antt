@@ -1,4 +1,4 @@
-use Rattle.std.proofs.Common.{◌≡◌, ◌-◌, ◌<◌, ◌++◌, [], None, cond, length, sym, ap, subst, ◌∙◌}
+use Rattle.std.proofs.Common.{◌≡◌, ◌-◌, ◌<◌, [], None, cond, length, sym, ap, subst, ◌∙◌}
 use Rattle.std.specs.Option.{is_some}
 use Rattle.rpsl_reader.specs.Changes.{Gathering, IsOpen, open_group, open_lines}
 use Rattle.rpsl_reader.specs.Objects.{longest}

@@ -1,4 +1,4 @@
-use Rattle.std.proofs.Common.{◌≡◌, true, false, [], sym, ap, subst, ◌∙◌}
+use Rattle.std.proofs.Common.{◌≡◌, true, false, [], sym, subst, ◌∙◌}
 use Rattle.rpsl_reader.specs.Changes.{Change, accepted}
 use Rattle.rpsl_reader.proofs.Changed.{gone_on, group_gone, reader}
 use Rattle.rpsl_reader.proofs.reader.Reader.accept.Goals as goal

@@ -1,8 +1,8 @@
-use Rattle.std.proofs.Common.{◌≡◌, ◌≤◌, ◌++◌, ◌∷◌, [], sym, ap, subst, ◌∙◌, arith}
+use Rattle.std.proofs.Common.{◌≤◌, ◌++◌, ◌∷◌, sym, ap, subst, ◌∙◌, arith}
 use Rattle.rpsl_reader.specs.Changes.{Change, IsChange, accepted, open_group}
 use Rattle.rpsl_reader.specs.Reading.{given, state_of}
 use Rattle.rpsl_reader.specs.Selections.{wanted}
-use Rattle.rpsl_reader.proofs.Changed.{whole, whole_after, whole_change, whole_given}
+use Rattle.rpsl_reader.proofs.Changed.{whole_after, whole_change, whole_given}
 use Rattle.rpsl_reader.proofs.reader.Reader.ended.Goals as goal
 
 pub returns-clause-change : goal.returns-clause-change

@@ -1,4 +1,4 @@
-use Rattle.std.proofs.Common.{◌≡◌, ◌++◌, ap, ◌∙◌}
+use Rattle.std.proofs.Common.{◌++◌, ap, ◌∙◌}
 use Rattle.rpsl_reader.specs.Changes.{accepted}
 use Rattle.rpsl_reader.proofs.Changed.{found_aside}
 use Rattle.rpsl_reader.proofs.Wanted.{wanted_all}

@@ -1,4 +1,4 @@
-use Rattle.std.proofs.Common.{◌++◌, ◌∷◌, [], ap, ◌∙◌}
+use Rattle.std.proofs.Common.{◌++◌, ◌∷◌, ap, ◌∙◌}
 use Rattle.rpsl_reader.specs.Changes.{open_group}
 use Rattle.rpsl_reader.specs.Reading.{given, state_of}
 use Rattle.rpsl_reader.specs.Selections.{wanted}

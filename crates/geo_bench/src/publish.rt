@@ -1,4 +1,4 @@
-//! The cases `paint-lines` and `lines`: a store painted with ranges of many leaves, and the least lines of IPv4.
+//! The cases `leaves` and `publish`: a store painted with ranges of many leaves, and the least lines of IPv4.
 ghost use Rattle.std.specs.Prelude.{◌≡◌, ◌<◌};
 ghost use Rattle.trie_core.specs.Paint.{IsAscending};
 
