@@ -287,11 +287,18 @@ fn read_in_two(alloc: Global, first: &[u8], second: &[u8]) -> Result<Dump, Sourc
     reader.finish()
 }
 
-const DUMP: &[u8] =
-    b"\xEF\xBB\xBF% An extract.\r\n\r\ninetnum: 192.0.2.0 - 192.0.2.255\r\nfoo\r\nremarks: Geofeed\r\n+  https://e.example/a.csv\r\nlast-modified: 2023-05-04T10:11:12Z\r\n \r\nbar\ninet6num: 2001:db8::/126\ngeofeed: https://e.example/b.csv # see mail\nbaz\nremarks: Geofeed https://e.example/old.csv\n\naut-num: AS64496\ngeofeed: https://e.example/c.csv";
+const DUMP: &[u8] = b"\xEF\xBB\xBF% An extract.\r\n\r\n\
+    inetnum: 192.0.2.0 - 192.0.2.255\r\nfoo\r\n\
+    remarks: Geofeed\r\n+  https://e.example/a.csv\r\n\
+    last-modified: 2023-05-04T10:11:12Z\r\n \r\nbar\n\
+    inet6num: 2001:db8::/126\n\
+    geofeed: https://e.example/b.csv # see mail\nbaz\n\
+    remarks: Geofeed https://e.example/old.csv\n\n\
+    aut-num: AS64496\ngeofeed: https://e.example/c.csv";
 
-const DUMP_SAYS: &str =
-    "5 192.0.2.0-192.0.2.255 20230504101112 https://e.example/a.csv\n11 2001:db8::-2001:db8::3 0 https://e.example/b.csv\nrpsl x 4 P02\nrpsl x 9 P02\nrpsl x 12 P02\nrpsl x 13 P10\n";
+const DUMP_SAYS: &str = "5 192.0.2.0-192.0.2.255 20230504101112 https://e.example/a.csv\n\
+    11 2001:db8::-2001:db8::3 0 https://e.example/b.csv\n\
+    rpsl x 4 P02\nrpsl x 9 P02\nrpsl x 12 P02\nrpsl x 13 P10\n";
 
 #[test]
 fn a_dump_in_two_pieces(rt: HostRuntime) -> Result<(), Fail> {
@@ -313,5 +320,42 @@ fn a_dump_byte_by_byte(rt: HostRuntime) -> Result<(), Fail> {
     let dump = reader.finish()?;
     assert!(rt; dump.slot.as_str() == "x");
     assert!(rt; dump_text(alloc, &dump)?.as_str() == DUMP_SAYS);
+    Ok(())
+}
+
+#[test]
+fn a_realistic_dump(rt: HostRuntime) -> Result<(), Fail> {
+    let alloc = rt.alloc();
+    let dump = read_in_two(
+        alloc,
+        b"% This is an extract.\n\n\
+            inetnum:        192.0.2.0 - 192.0.2.255\n\
+            netname:        EXAMPLE-NET\ncountry:        DE\n\
+            remarks:        Geofeed https://geo.example.net/a.csv\n\
+            last-modified:  2023-05-04T10:11:12Z\nsource:         RIPE\n\n\
+            inetnum:        192.0.0.0 - 192.0.255.255\n\
+            netname:        EXAMPLE-AGG\n\
+            geofeed:        https://geo.example.net/b.csv\n\
+            remarks:        Geofeed https://geo.example.net/old.csv\n\
+            last-modified:  2022-01-01T00:00:00Z\nsource:         RIPE\n\n\
+            inet6num:       2001:db8::/32\nnetname:        EXAMPLE-V6\n\
+            geofeed:        https://geo.example.net/c.csv # see mail\n\
+            last-modified:  2024-02-29T23:59:59Z\nsource:         RIPE\n\n",
+        b"inetnum:        198.51.100.0 - 198.51.100.255\n\
+            remarks:        Geofeed https://geo.example.net/x.csv\n\
+            remarks:        Geofeed https://geo.example.net/y.csv\n\
+            source:         RIPE\n\n\
+            inetnum:        203.0.113.0 - 203.0.113.255\n\
+            descr:          first line\n+               second line\n\
+            geofeed:        https://geo.example.org/d.csv\n\
+            last-modified:  yesterday\nsource:         RIPE\n\n\
+            aut-num:        AS64496\nsource:         RIPE\n",
+    )?;
+    let wanted = "6 192.0.2.0-192.0.2.255 20230504101112 https://geo.example.net/a.csv\n\
+        12 192.0.0.0-192.0.255.255 20220101000000 https://geo.example.net/b.csv\n\
+        19 2001:db8::-2001:db8:ffff:ffff:ffff:ffff:ffff:ffff 20240229235959 https://geo.example.net/c.csv\n\
+        31 203.0.113.0-203.0.113.255 0 https://geo.example.org/d.csv\n\
+        rpsl x 13 P10\nrpsl x 24 P04\nrpsl x 25 P04\nrpsl x 32 P07\n";
+    assert!(rt; dump_text(alloc, &dump)?.as_str() == wanted);
     Ok(())
 }
