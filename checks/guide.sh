@@ -1,11 +1,13 @@
 #!/usr/bin/env bash
 # The commands of docs/guide.md, taken from the page and run in its order, with a `curl` that copies a made file; and its
 # daily script on downloads that are broken in several ways, none of which may replace the file in use. And the example
-# lines of docs/statistics.md, each of which has to be noted with its code.
+# lines of docs/statistics.md, each of which has to be noted with its code, and the quick start of README.md.
 set -u
 cd "$(dirname "${BASH_SOURCE[0]}")/.." || exit 1
 guide=$PWD/docs/guide.md
 statistics=$PWD/docs/statistics.md
+readme=$PWD/README.md
+examples=$PWD/examples
 made=$PWD/bench/statistics.awk
 . checks/with_program.bash
 mkdir bin
@@ -60,13 +62,24 @@ sed 's/|allocated|/|alocated|/' ../whole > ../broken && daily "a file of another
 sed 's/|CH|/|DE|/' ../whole > ../broken && ./daily || fail "the daily script refuses a good file"
 [ "$(geofeed lookup country.mmdb 192.0.2.1)" = '{"country":{"iso_code":"DE"}}' ] || fail "the daily file is not replaced"
 
-examples=0
+count=0
 while read -r code line; do
     printf '%s\n' "${line//\\|/|}" > source
     printf 'epoch 1\nstats x source\nreport\n' > job
     [ "$(geofeed build job)" = "stats x 1 $code"$'\n''notes 1' ] || fail "'$line' of docs/statistics.md is not noted $code"
-    examples=$((examples + 1))
+    count=$((count + 1))
 done < <(sed -n 's/^| \(S[0-9][0-9]\) | `\(.*\)` | .*/\1 \2/p' "$statistics")
-[ "$examples" -eq 7 ] || fail "docs/statistics.md has $examples example lines, and not one for each code"
+[ "$count" -eq 7 ] || fail "docs/statistics.md has $count example lines, and not one for each code"
+
+# block TAG: the lines of the README's blocks of this tag.
+block() { sed -n "/^\`\`\`$1\$/,/^\`\`\`\$/p" "$readme" | grep -v '^```'; }
+
+cp -r "$examples" . && ln -s "$program" geofeed
+block sh > commands
+bash -eu commands > printed 2> told || fail "the README's commands end with status $?: $(cat printed told)"
+[ -s commands ] && block text | cmp -s - printed || fail "the README's commands print '$(cat printed)'"
+sed -n 's/^.* in that folder `\(.*\)` prints `\(.*\)`\.$/\1\n\2/p' "$readme" > lookup
+[ "$(wc -l < lookup)" -eq 2 ] && [ "$(cd examples/first && bash -c "$(head -n 1 ../../lookup)")" = "$(tail -n 1 lookup)" ] \
+    || fail "the README's lookup prints otherwise"
 
 verdict

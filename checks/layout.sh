@@ -15,7 +15,7 @@ for crate in crates/*/; do
     name=$(basename "$crate")
     grep -q "^$name:" crates.txt || fail "$name is not in crates.txt"
     grep -q "\`$name\`" docs/ARCHITECTURE.md || fail "$name is not in docs/ARCHITECTURE.md"
-    grep -q "\`$name\`" README.md || fail "$name is not in README.md"
+    grep -q "\`$name\`" docs/PROVED.md || fail "$name is not in docs/PROVED.md"
     if [ -f "$crate/src/lib.rt" ]; then
         edits=$(find "$crate/must-fail" -name '*.edit' 2>/dev/null | wc -l)
         [ "$edits" -ge 6 ] || fail "$name has $edits must-fail edits, fewer than six"
