@@ -4,7 +4,7 @@ ghost use Rattle.trie_core.specs.Store.{IsRootOf, leaf_at};
 use crate::{Emitted, Meta, Mmdb, OpenFault, WalkFault, write_file};
 use geo_addr::{Addr, Range, Text};
 use geo_outside::Steps;
-use geo_terms::{Places, country_place};
+use geo_terms::{Places, Texts, country_place};
 use std::alloc::Global;
 use std::marker::Brand;
 use std::process::Abort;
@@ -106,7 +106,7 @@ fn painted<L: Ledger>(
 fn number(alloc: Global, places: &mut Places, country: &[u8]) -> Result<u32, Fail>
     ensures { IfOk result (λ n. n ≤ length places.new) }
 {
-    if let Some(place) = country_place(alloc, country)? {
+    if let Some(place) = country_place(&mut Texts::new(alloc), country)? {
         places.intern(&place)?;
     }
     Ok(places.len())

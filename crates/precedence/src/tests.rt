@@ -3,14 +3,14 @@ ghost use Rattle.std.specs.Prelude.{◌≡◌, IfOk};
 use crate::Sources;
 use geo_addr::{Addr, List, Memory, Range, Text};
 use geo_terms::plain::{AllSources, chosen_at};
-use geo_terms::{Delegation, Note, Origin, Place, Rule, Stats, country_place, note_text};
+use geo_terms::{Delegation, Note, Origin, Place, Rule, Stats, Texts, country_place, note_text};
 use std::alloc::Global;
 use std::test::Fail;
 
 const TOP_V4: u128 = 0xFFFF_FFFF;
 
 fn country(alloc: Global, code: &[u8]) -> Result<Place, Fail> {
-    let place = country_place(alloc, code)?.ok_or("a country")?;
+    let place = country_place(&mut Texts::new(alloc), code)?.ok_or("a country")?;
     Ok(place)
 }
 

@@ -3,7 +3,7 @@ ghost use Rattle.std.specs.Prelude.{◌≡◌, ◌<◌, IfOk};
 use crate::Session;
 use geo_addr::{Addr, List, Memory, Range, Text};
 use geo_outside::Steps;
-use geo_terms::{Delegation, Note, Origin, Place, Rule, Stats, country_place, note_text};
+use geo_terms::{Delegation, Note, Origin, Place, Rule, Stats, Texts, country_place, note_text};
 use mmdb_data::decode;
 use mmdb_file::{Emitted, Meta, Mmdb, place_value};
 use precedence::Sources;
@@ -15,7 +15,7 @@ use std::test::Fail;
 const TOP_V4: u128 = 0xFFFF_FFFF;
 
 fn country(alloc: Global, code: &[u8]) -> Result<Place, Fail> {
-    let place = country_place(alloc, code)?.ok_or("a country")?;
+    let place = country_place(&mut Texts::new(alloc), code)?.ok_or("a country")?;
     Ok(place)
 }
 
