@@ -6,6 +6,7 @@ use std::io::Read;
 
 /// The page on which Linux tells the limits of this process, and the words before the one that counts.
 const LIMITS: &str = "/proc/self/limits";
+
 const FILE_SIZE: &[u8] = b"Max file size";
 
 /// Whether a file may have so many bytes. A write past that place would end the process by a signal.

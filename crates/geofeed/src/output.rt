@@ -7,6 +7,7 @@ use std::{fs, io};
 
 /// The name by which Linux leads to what standard output is open on, and the page that tells how far it is written.
 const OPEN_ON: &str = "/proc/self/fd/1";
+
 const OPEN_AT: &str = "/proc/self/fdinfo/1";
 
 /// Standard output. Where it is a file, a write that would pass the process's limit of file size is refused.
