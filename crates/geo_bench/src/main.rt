@@ -12,7 +12,6 @@ mod paint;
 mod publish;
 mod ranges;
 mod registries;
-mod wide;
 mod write;
 
 use anyhow::{Context, bail};
@@ -43,12 +42,6 @@ fn main(rt: HostRuntime) -> anyhow::Result<()> {
         "scattered" => feed::run(rt.alloc(), &rt, size, true, true),
         "prepare" => write::run(rt.alloc(), &rt, size, false),
         "write" => write::run(rt.alloc(), &rt, size, true),
-        "wide" => {
-            let name = words
-                .next()
-                .context("the third word is to be a file's name")?;
-            wide::run(rt.alloc(), &rt, size, name.as_str())
-        }
         "leaves" => publish::run(rt.alloc(), &rt, size, false),
         "publish" => publish::run(rt.alloc(), &rt, size, true),
         "serial" => fan::run(rt.alloc(), &rt, size, false),
