@@ -159,7 +159,7 @@ if strace -o trace true 2> told; then
     puts 0 'emit out.mmdb'
     left 0
     strace -o trace -e trace=openat,fchmod,fsync,rename "$program" build other > printed
-    calls=$(sed -n '/geofeed new/,$p' trace | sed -E 's/\(.*//' | tr '\n' ' ')
+    calls=$(sed -n '/geofeed new/,$p' trace | grep -v '"/proc/' | sed -E 's/\(.*//' | tr '\n' ' ')
     [[ "$calls" == 'openat fchmod fsync rename openat fsync '* ]] || fail "a put calls $calls"
     grep -q 'O_EXCL.*, 0600)' trace || fail "a private file's successor is made with another mode"
     for call in fchmod fsync rename; do
