@@ -1,13 +1,13 @@
 pub mod BitsLemmas
+pub mod Blocks
 pub mod Cuts
 pub mod Decimals
 pub mod LineLemmas
-pub mod Blocks
+pub mod PrefixLemmas
 mod DottedTexts
 mod GroupLemmas
 mod GroupTexts
 mod PartLemmas
-mod PrefixLemmas
 mod ReadBack
 mod SideLemmas
 mod SpanLemmas

@@ -1,6 +1,6 @@
 -- Addresses, ranges, blocks, grounds and cut points.
 -- An address is a number below 2 ^ 128; the IPv4 addresses are the numbers below 2 ^ 32.
-use Rattle.std.specs.Prelude.{◌≡◌, ℕ, ◌+◌, ◌-◌, ◌%◌, ◌^◌, ◌<◌, ◌≤◌, ◌↔◌, ◌⊎◌, ◌&&◌, Bool, nat_lt, nat_le, max, if◌then◌else◌, List, Any, Contains}
+use Rattle.std.specs.Prelude.{◌≡◌, ℕ, ◌+◌, ◌-◌, ◌%◌, ◌^◌, ◌<◌, ◌≤◌, ◌↔◌, ◌⊎◌, ◌&&◌, Bool, nat_lt, nat_le, max, if◌then◌else◌, List, [], ◌∷◌, Any, Contains}
 
 -- a range: its first and its last address, both in it
 pub record Ends : Type 0 where
@@ -47,7 +47,11 @@ holds r a = nat_le (ground_first r) a && nat_le a r.last
 abbrev pub IsWithin : Ends → ℕ → Type 0
 IsWithin r a = (r.first ≤ a) × (a ≤ r.last)
 
--- where a ground begins, and the place past its end
+-- the edges of a ground: where it begins, and the place past its end
+abbrev pub edges_of : Ends → List ℕ
+edges_of r = ground_first r ∷ (r.last + 1) ∷ []
+
+-- a place is an edge of a ground
 abbrev pub IsEdge : ℕ → Ends → Type 0
 IsEdge c r = (c ≡ ground_first r) ⊎ (c ≡ r.last + 1)
 

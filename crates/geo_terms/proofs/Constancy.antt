@@ -8,7 +8,7 @@ use Rattle.geo_terms.specs.Cuts.{ConstantBetweenCuts}
 use Rattle.geo_terms.specs.DelegationForm.{DelegationParts}
 use Rattle.geo_terms.specs.First.{first_at, first_of}
 use Rattle.geo_terms.specs.PlaceForm.{same_text}
-use Rattle.geo_terms.specs.Precedence.{reference_before, delegation_before, override_before, entry_before, speaker, speaking_entry, entry_of, entries_within, lies_within, first_delegation, first_override, chosen_at}
+use Rattle.geo_terms.specs.Precedence.{reference_before, delegation_before, override_before, entry_before, speaker, speaking_entry, entry_of, entries_within, lies_within, first_delegation, first_override, spoken_at}
 use Rattle.geo_terms.specs.SourceForm.{FeedParts}
 use Rattle.geo_terms.specs.Sources.{InForce, references, entries_in, entries, delegations, override_rows}
 use Rattle.geo_terms.specs.declared.statement.Entry.{Entry}
@@ -89,7 +89,7 @@ same_first : {X : Type 0} (before : X → X → Bool) (f : X → Ends) (xs : Lis
 same_first before f xs a b h = ap (λ ys. first_of before ys) (same_filter (λ x. holds (f x) a) (λ x. holds (f x) b) xs h)
 
 pub constant_between_cuts : ConstantBetweenCuts
-unfolding chosen_at speaker speaking_entry first_delegation first_override entry_ranges
+unfolding spoken_at speaker speaking_entry first_delegation first_override entry_ranges
 constant_between_cuts s a b le none =
     let refs = each_same (λ (r : Reference). r.range) (references s) _ a b le none in
     let speakers : speaker s a ≡ speaker s b = same_first reference_before (λ r. r.range) (references s) a b refs.0 in

@@ -1,3 +1,4 @@
+pub mod Alias
 pub mod AllSources
 pub mod Boundaries
 pub mod Covering

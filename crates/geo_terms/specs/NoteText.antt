@@ -7,7 +7,7 @@ use Rattle.geo_terms.specs.declared.note.Note.{Note}
 use Rattle.geo_terms.specs.declared.note.Origin.{Origin}
 use Rattle.geo_terms.specs.declared.note.Origin.TheVariants.{Rpsl, Feed, Stats, Overrides}
 use Rattle.geo_terms.specs.declared.note.Rule.{Rule}
-use Rattle.geo_terms.specs.declared.note.Rule.TheVariants.{P01, P02, P03, P04, P05, P06, P07, P08, P09, P10, F01, F02, F03, F04, F05, F06, F07, F08, F09, F10, F11, S01, S02, S03, S04, S05, S06, S07, O01, O02, O03, O04, O05, O06, O07, O08}
+use Rattle.geo_terms.specs.declared.note.Rule.TheVariants.{P01, P02, P03, P04, P05, P06, P07, P08, P09, P10, F01, F02, F03, F04, F05, F06, F07, F08, F09, F10, F11, S01, S02, S03, S04, S05, S06, S07, O01, O02, O03, O04, O05, O06, O07, O08, A01}
 
 -- the code of a rule, as it is printed
 unfoldable pub code_of : Rule → List ℕ
@@ -47,6 +47,7 @@ code_of O05 = codes "O05"
 code_of O06 = codes "O06"
 code_of O07 = codes "O07"
 code_of O08 = codes "O08"
+code_of A01 = codes "A01"
 
 -- the kind of a source, as it is printed
 unfoldable pub kind_of : Origin → List ℕ

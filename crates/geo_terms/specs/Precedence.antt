@@ -4,6 +4,7 @@ use Rattle.std.specs.Cmp.Lexicographic.{slice_cmp}
 use Rattle.std.specs.declared.cmp.Ordering.{Ordering}
 use Rattle.std.specs.Ordering.{is_lt, nat_cmp, ordering_then}
 use Rattle.geo_addr.specs.Ranges.{Ends, Prefix, range_of_block, size, holds}
+use Rattle.geo_terms.specs.Alias.{home}
 use Rattle.geo_terms.specs.DelegationForm.{DelegationParts}
 use Rattle.geo_terms.specs.First.{first_of, first_at}
 use Rattle.geo_terms.specs.PlaceForm.{PlaceParts}
@@ -103,14 +104,14 @@ chosen (Some o) e d = said_place o.said
 chosen None e d = placed_by_entry e d
 
 -- what the sources say of an address
-unfoldable pub chosen_at : InForce → ℕ → Option PlaceParts
-chosen_at s a = chosen (first_override s a) (speaking_entry s a) (first_delegation s a)
+unfoldable pub spoken_at : InForce → ℕ → Option PlaceParts
+spoken_at s a = chosen (first_override s a) (speaking_entry s a) (first_delegation s a)
 
--- the record of an address
+-- the record of an address: what the sources say of its home
 abbrev pub record_at : InForce → ℕ → Option PlaceParts
-record_at = chosen_at
+record_at s a = spoken_at s (home a)
 
--- why an address has its record: each part by its own rule, also where an override decides
+-- why an address has its record: each part by its own rule at the address's home, also where an override decides
 pub record Reasons : Type 0 where
   pub over : Option Override
   pub speaker : Option Reference
@@ -119,4 +120,5 @@ pub record Reasons : Type 0 where
   pub place : Option PlaceParts
 
 abbrev pub reasons_at : InForce → ℕ → Reasons
-reasons_at s a = record { over = first_override s a; speaker = speaker s a; entry = speaking_entry s a; delegation = first_delegation s a; place = record_at s a }
+reasons_at s a =
+    record { over = first_override s (home a); speaker = speaker s (home a); entry = speaking_entry s (home a); delegation = first_delegation s (home a); place = record_at s a }

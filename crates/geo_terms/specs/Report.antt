@@ -8,10 +8,12 @@ use Rattle.geo_terms.specs.NoteText.{note_cmp}
 use Rattle.geo_terms.specs.PlaceForm.{same_text}
 use Rattle.geo_terms.specs.Precedence.{reference_before, lies_within}
 use Rattle.geo_terms.specs.SourceForm.{FeedParts, OverridesParts}
-use Rattle.geo_terms.specs.Sources.{InForce, references, feed_of}
+use Rattle.geo_terms.specs.Alias.{lies_in_alias}
+use Rattle.geo_terms.specs.Sources.{InForce, references, feed_of, delegations, override_rows}
 use Rattle.geo_terms.specs.declared.note.Note.{Note}
-use Rattle.geo_terms.specs.declared.note.Origin.TheVariants.{Rpsl, Feed}
-use Rattle.geo_terms.specs.declared.note.Rule.TheVariants.{P08, P09, F09}
+use Rattle.geo_terms.specs.declared.note.Origin.{Origin}
+use Rattle.geo_terms.specs.declared.note.Origin.TheVariants.{Rpsl, Feed, Stats, Overrides}
+use Rattle.geo_terms.specs.declared.note.Rule.TheVariants.{P08, P09, F09, A01}
 use Rattle.geo_terms.specs.declared.statement.Reference.{Reference}
 
 abbrev pub same_ends : Ends → Ends → Bool
@@ -47,6 +49,18 @@ uncovered_in rs f =
 abbrev pub uncovered_notes : InForce → List Note
 uncovered_notes s = flat_map (uncovered_in (references s)) s.feeds
 
+-- a note on a statement whose ground lies within one alias block
+abbrev pub alias_note : Origin → Ends → ℕ → List Note
+alias_note origin r line = if lies_in_alias r then record { origin = origin; line = line; rule = A01 } ∷ [] else []
+
+-- the notes on statements that speak nowhere, since their ground lies within one alias block
+abbrev pub alias_notes : InForce → List Note
+alias_notes s =
+    flat_map (λ r. alias_note (Rpsl r.slot) r.range r.line) (references s)
+    ++ (flat_map (λ f. flat_map (λ e. alias_note (Feed f.url) (range_of_block e.block) e.line) f.entries) s.feeds
+    ++ (flat_map (λ d. alias_note (Stats d.slot) d.range d.line) (delegations s)
+    ++ flat_map (λ o. alias_note Overrides o.range o.line) (override_rows s)))
+
 -- a list in an order: each member is put before the first one that is not before it
 abbrev pub put_in : {X : Type 0} → (X → X → Ordering) → X → List X → List X
 put_in cmp x [] = x ∷ []
@@ -70,4 +84,4 @@ joint_notes s = outranked_notes s ++ (unfed_notes s ++ uncovered_notes s)
 
 -- the notes of all sources in force, by kind, slot or URL, line and code
 unfoldable pub report : InForce → List Note
-report s = in_order note_cmp (reader_notes s ++ joint_notes s)
+report s = in_order note_cmp (reader_notes s ++ (joint_notes s ++ alias_notes s))

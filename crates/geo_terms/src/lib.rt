@@ -1,6 +1,7 @@
 //! Places, statements, notes and sources: what the readers make, and the definitions of who speaks for an address.
 #![tactic(auto)]
 
+mod alias;
 mod boundaries;
 mod fields;
 mod first_index;
@@ -16,6 +17,7 @@ mod statement;
 mod tests;
 mod texts;
 
+pub use alias::{home, is_alias, lies_in_alias};
 pub use fields::{country_place, place_in, place_of};
 pub use first_index::FirstIndex;
 pub use note::{Note, Origin, Rule, note_text};

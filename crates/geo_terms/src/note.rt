@@ -1,8 +1,9 @@
 ghost use Rattle.std.specs.Prelude.{◌≡◌, IfOk};
-ghost use Rattle.geo_terms.specs.NoteText.{code_of, kind_of, name_of, note_line};
+ghost use Rattle.geo_terms.specs.NoteText.{code_of, kind_of, kind_rank, name_of, note_cmp, note_line};
 
 use geo_addr::{Memory, Text};
 use std::alloc::Global;
+use std::cmp::Ordering;
 
 /// The source that a note is about.
 #[derive(Debug, Drop, PartialEq, Eq)]
@@ -91,6 +92,8 @@ pub enum Rule {
     O07,
     /// One of the override lines of one range that differ.
     O08,
+    /// A statement whose ground lies within a block of IPv6 addresses that carry IPv4 addresses.
+    A01,
 }
 
 /// A line of a source to which a rule applies.
@@ -144,6 +147,7 @@ impl Rule {
             Rule::O06 => "O06",
             Rule::O07 => "O07",
             Rule::O08 => "O08",
+            Rule::A01 => "A01",
         }
     }
 }
@@ -162,6 +166,18 @@ impl Origin {
         }
     }
 
+    // The place of the kind in a report.
+    fn rank(&self) -> u8
+        ensures { result ≡ kind_rank self.now }
+    {
+        match self {
+            Origin::Rpsl(_) => 0,
+            Origin::Feed(_) => 1,
+            Origin::Stats(_) => 2,
+            Origin::Overrides => 3,
+        }
+    }
+
     /// The slot or the URL of the source, and `-` for the overrides.
     #[tactic(auto, unfolding(crate::specs::NoteText::name_of))]
     pub fn name(&self) -> &str
@@ -172,6 +188,19 @@ impl Origin {
             Origin::Feed(url) => url.as_str(),
             Origin::Overrides => "-",
         }
+    }
+}
+
+impl Note {
+    /// How the note stands to another one in a report: by kind of source, by slot or URL, by line, by code.
+    #[tactic(auto, unfolding(crate::specs::NoteText::note_cmp))]
+    pub fn order(&self, other: &Note) -> Ordering
+        ensures { result ≡ note_cmp self.now other.now }
+    {
+        (self.origin.rank().cmp(&other.origin.rank()))
+            .then_with(|| self.origin.name().cmp(other.origin.name()))
+            .then(self.line.cmp(&other.line))
+            .then_with(|| self.rule.code().cmp(other.rule.code()))
     }
 }
 

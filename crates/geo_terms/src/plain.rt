@@ -5,7 +5,7 @@ ghost use Rattle.std.specs.Ordering.{is_lt};
 ghost use Rattle.geo_terms.specs.AllSources.{in_force};
 ghost use Rattle.geo_terms.specs.First.{better, first_of, holders};
 ghost use Rattle.geo_terms.specs.PlaceForm.{same_text};
-ghost use Rattle.geo_terms.specs.Precedence.{chosen_at, entries_within, entry_before, first_delegation, first_override, lies_within, said_place, speaker, speaking_entry};
+ghost use Rattle.geo_terms.specs.Precedence.{spoken_at, entries_within, entry_before, first_delegation, first_override, lies_within, said_place, speaker, speaking_entry};
 
 use crate::order::Statement;
 use crate::place::{Place, Said};
@@ -113,9 +113,9 @@ pub fn override_at<'a>(sources: &AllSources<'a>, at: Addr) -> Option<&'a Overrid
 
 /// What the sources say of an address: an override decides, without one the entry, and without an
 /// entry the delegation.
-#[tactic(auto, unfolding(crate::specs::Precedence::chosen_at))]
-pub fn chosen_at<'a>(sources: &AllSources<'a>, at: Addr) -> Option<&'a Place>
-    ensures { option_copied result ≡ chosen_at (in_force sources.entry.now) at.0 }
+#[tactic(auto, unfolding(crate::specs::Precedence::spoken_at))]
+pub fn spoken_at<'a>(sources: &AllSources<'a>, at: Addr) -> Option<&'a Place>
+    ensures { option_copied result ≡ spoken_at (in_force sources.entry.now) at.0 }
 {
     if let Some(row) = override_at(sources, at) {
         return said_place(&row.said);

@@ -1,7 +1,8 @@
 use crate::{
-    Note, Origin, PlaceFault, Places, Rule, Said, Texts, country_place, note_text, place_of,
+    Note, Origin, PlaceFault, Places, Rule, Said, Texts, country_place, home, is_alias,
+    lies_in_alias, note_text, place_of,
 };
-use geo_addr::{Memory, Text};
+use geo_addr::{Memory, Text, parse_addr, parse_span};
 use std::alloc::Global;
 use std::test::Fail;
 
@@ -111,6 +112,44 @@ fn texts_come_again(rt: HostRuntime) -> Result<(), Fail> {
     let mut texts = Texts::new(rt.alloc());
     for text in ["Zürich", "", "ZH", "Zürich", "", "ZH"] {
         assert!(rt; texts.shared(text)?.as_str() == text);
+    }
+    Ok(())
+}
+
+#[test]
+fn homes_of_addresses(rt: HostRuntime) -> Result<(), Fail> {
+    let rows = [
+        ("::ffff:128.0.0.1", "128.0.0.1"),
+        ("::fffe:ffff:ffff", "::fffe:ffff:ffff"),
+        ("::1:0:0:0", "::1:0:0:0"),
+        ("2002:a00:1::", "10.0.0.1"),
+        ("2002:a00:1:ffff:ffff:ffff:ffff:ffff", "10.0.0.1"),
+        ("2001:ffff::1", "2001:ffff::1"),
+        ("2003::", "2003::"),
+        ("10.0.0.1", "10.0.0.1"),
+    ];
+    for (at, at_home) in rows {
+        let at = parse_addr(at.as_bytes())?;
+        let at_home = parse_addr(at_home.as_bytes())?;
+        assert!(rt; home(at) == at_home);
+        assert!(rt; is_alias(at) == (at != at_home));
+    }
+    Ok(())
+}
+
+#[test]
+fn statements_that_speak_nowhere(rt: HostRuntime) -> Result<(), Fail> {
+    let rows = [
+        ("2002:a00::/24", true),
+        ("2002::/16", true),
+        ("2002::/15", false),
+        ("::ffff:0:0/96", true),
+        ("::ffff:0:0-::1:0:0:0", false),
+        ("::1-2002::", false),
+        ("0.0.0.0/0", false),
+    ];
+    for (range, nowhere) in rows {
+        assert!(rt; lies_in_alias(parse_span(range.as_bytes())?) == nowhere);
     }
     Ok(())
 }

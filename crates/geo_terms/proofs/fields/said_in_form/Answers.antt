@@ -1,6 +1,6 @@
 -- The texts are those of the fields, and the place was asked for before it was made.
-use Rattle.std.proofs.Common.{◌≡◌, ◌∙◌, ap, subst, sym, List, ℕ, false}
-use Rattle.geo_terms.specs.PlaceForm.{IsPlace, PlaceParts, parts_of, says_nothing}
+use Rattle.std.proofs.Common.{◌≡◌, ◌∙◌, ap, subst, sym, false}
+use Rattle.geo_terms.specs.PlaceForm.{IsPlace, parts_of, says_nothing}
 use Rattle.geo_terms.proofs.PlaceLemmas.{place_in_form}
 use Rattle.geo_terms.proofs.fields.said_in_form.Goals as goal
 
