@@ -1,5 +1,5 @@
 //! A folder in memory, for tests.
-ghost use Rattle.std.specs.Prelude.{◌≡◌, ◌+◌, ◌-◌, ◌^◌, ◌≤◌, ◌<◌, ◌↔◌, min, List, ℕ, [], length, take, drop, IsTrue, IsSome, IfOk, OnOk, OnErr, MatchOption};
+ghost use Rattle.std.specs.Prelude.{◌≡◌, ◌≢◌, ◌+◌, ◌-◌, ◌^◌, ◌≤◌, ◌<◌, ◌↔◌, min, List, ℕ, [], length, take, drop, IsTrue, IsSome, IfOk, OnOk, OnErr, MatchOption};
 ghost use Rattle.std.specs.FinMap as map;
 ghost use Rattle.geo_outside.specs.Count.{Rose};
 ghost use Rattle.geo_outside.specs.Files.{Told, after_put, Spoils, IsReadFrom, files_after};
@@ -122,14 +122,15 @@ impl Folder for MemFolder {
         ensures held { OnOk result (IsSome (map.get self.old.told.held name.now)) }
         ensures bytes { (file : List ℕ) → map.get self.old.told.held name.now ≡ Some file → IfOk result (IsReadFrom file from into.new) }
         ensures failed { result ≡ Err FolderErr.Failed → Rose (faults_of self.old.read_calls) (faults_of self.new.read_calls) }
-        ensures missing { result ≡ Err FolderErr.Missing → Rose self.old.misses self.new.misses }
+        ensures missing { result ≡ Err FolderErr.Missing → self.new.misses ≡ min (self.old.misses + 1) u64.MAX }
+        ensures no_miss { result ≢ Err FolderErr.Missing → self.new.misses ≡ self.old.misses }
         ensures absent { result ≡ Err FolderErr.Missing → map.get self.old.told.held name.now ≡ None }
         ensures same { self.new.told ≡ self.old.told }
         ensures read_faults { faults_of self.old.read_calls ≤ faults_of self.new.read_calls }
         ensures put_faults { faults_of self.old.put_calls ≤ faults_of self.new.put_calls }
         ensures misses { self.old.misses ≤ self.new.misses }
-        ensures given { IfOk result (λ n. self.new.given ≤ self.old.given + n) }
-        ensures none_given { OnErr result (self.new.given ≤ self.old.given) }
+        ensures given { IfOk result (λ n. self.new.given ≡ min (self.old.given + n) u64.MAX) }
+        ensures none_given { OnErr result (self.new.given ≡ self.old.given) }
     {
         if self.read_calls.next_fails() {
             return Err(FolderErr::Failed);
