@@ -1,11 +1,13 @@
 //! A map over a list whose pieces run side by side, with results that do not tell how many pieces there were.
 #![tactic(auto)]
 
+mod forks;
 mod map;
 mod part;
 #[cfg(test)]
 mod tests;
 mod work;
 
+pub use forks::Forks;
 pub use map::map_pieces;
 pub use work::Work;

@@ -1,4 +1,4 @@
-use crate::{Work, map_pieces};
+use crate::{Forks, Work, map_pieces};
 use geo_addr::Memory;
 use geo_outside::{Gate, OpenGate};
 use std::alloc::Global;
@@ -92,13 +92,31 @@ impl Gate for Meeting {
 fn results_stand_in_the_items_order(rt: HostRuntime) -> Result<(), Memory> {
     let alloc = rt.alloc();
     for pieces in [1u32, 3, 64] {
-        let results = map_pieces(&rt, alloc, &OpenGate, pieces, &[1, 2, 3, 4, 5], &AddOne)?;
+        let results = map_pieces(
+            &Forks {
+                rt: &rt,
+                alloc,
+                gate: &OpenGate,
+                pieces,
+            },
+            &[1, 2, 3, 4, 5],
+            &AddOne,
+        )?;
         assert_eq!(rt;
             results.as_slice(),
             [2, 3, 4, 5, 6].as_slice(),
             "{pieces} pieces"
         );
-        let none = map_pieces(&rt, alloc, &OpenGate, pieces, &[], &AddOne)?;
+        let none = map_pieces(
+            &Forks {
+                rt: &rt,
+                alloc,
+                gate: &OpenGate,
+                pieces,
+            },
+            &[],
+            &AddOne,
+        )?;
         assert_eq!(rt; none.len(), 0, "{pieces} pieces");
     }
     Ok(())
@@ -120,7 +138,16 @@ fn each_piece_with_items_enters_once_before_its_first(rt: HostRuntime) -> Result
             gate: &gate,
             pieces: of_items,
         };
-        let seen = map_pieces(&rt, alloc, &gate, pieces, &[0, 1, 2, 3, 4], &work)?;
+        let seen = map_pieces(
+            &Forks {
+                rt: &rt,
+                alloc,
+                gate: &gate,
+                pieces,
+            },
+            &[0, 1, 2, 3, 4],
+            &work,
+        )?;
         assert_eq!(rt; seen.as_slice(), [true; 5].as_slice(), "{pieces} pieces");
         let came = gate.came.load(Ordering::SeqCst);
         let calls = gate.calls.load(Ordering::SeqCst);
@@ -137,7 +164,16 @@ fn two_pieces_meet(rt: HostRuntime) -> Result<(), Memory> {
         second: AtomicU64::new(0),
         met: AtomicU64::new(0),
     };
-    map_pieces(&rt, rt.alloc(), &gate, 2, &[1, 2], &AddOne)?;
+    map_pieces(
+        &Forks {
+            rt: &rt,
+            alloc: rt.alloc(),
+            gate: &gate,
+            pieces: 2,
+        },
+        &[1, 2],
+        &AddOne,
+    )?;
     assert_eq!(rt; gate.met.load(Ordering::SeqCst), 2);
     Ok(())
 }
