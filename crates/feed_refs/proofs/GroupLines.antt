@@ -29,29 +29,37 @@ abbrev stray_notes : List ℕ → List Numbered → List Note
 stray_notes slot ls = noted slot (strays ls)
 
 -- attributes rise, and so do the lines that are none
-attributes_rise : (low : ℕ) (ls : List Numbered) → Rises low (numbers ls) → Rises low (part_lines (attributes ls))
+attributes_rise : (low : ℕ) (ls : List Numbered) → Rises low (numbers ls)
+    → Rises low (part_lines (attributes ls))
 unfolding attributes
 attributes_rise low [] r = tt
 attributes_rise low (l ∷ ls) r =
     let later = attributes_rise (l.0 + 1) ls r.1 in
-    cond_both (is_attribute l.1) (attribute l ls ∷ attributes ls) (attributes ls) (λ ps. Rises low (part_lines ps))
-    (λ e. (r.0, later)) (λ e. rises_from_less low (l.0 + 1) (part_lines (attributes ls)) (omega (arith, r.0)) later)
+    cond_both (is_attribute l.1) (attribute l ls ∷ attributes ls) (attributes ls)
+    (λ ps. Rises low (part_lines ps))
+    (λ e. (r.0, later))
+    (λ e. rises_from_less low (l.0 + 1) (part_lines (attributes ls)) (omega (arith, r.0)) later)
 
-strays_rise : (slot : List ℕ) (low : ℕ) (ls : List Numbered) → Rises low (numbers ls) → Rises low (note_lines (stray_notes slot ls))
+strays_rise : (slot : List ℕ) (low : ℕ) (ls : List Numbered) → Rises low (numbers ls)
+    → Rises low (note_lines (stray_notes slot ls))
 unfolding noted
 strays_rise slot low [] r = tt
 strays_rise slot low (l ∷ ls) r =
     let later = strays_rise slot (l.0 + 1) ls r.1 in
-    cond_both (is_stray l.1) (l ∷ filter (λ m. is_stray m.1) ls) (filter (λ m. is_stray m.1) ls) (λ ms. Rises low (note_lines (noted slot (map stray ms))))
+    cond_both (is_stray l.1) (l ∷ filter (λ m. is_stray m.1) ls) (filter (λ m. is_stray m.1) ls)
+    (λ ms. Rises low (note_lines (noted slot (map stray ms))))
     (λ e. (r.0, later)) (λ e. rises_from_less low (l.0 + 1) (note_lines (stray_notes slot ls)) (omega (arith, r.0)) later)
 
-attribute_in : (l : Numbered) (ls : List Numbered) (x : ℕ) → In x (part_lines (attributes (l ∷ ls))) → ((x ≡ l.0) × (is_attribute l.1 ≡ true)) ⊎ In x (part_lines (attributes ls))
+attribute_in : (l : Numbered) (ls : List Numbered) (x : ℕ) → In x (part_lines (attributes (l ∷ ls)))
+    → ((x ≡ l.0) × (is_attribute l.1 ≡ true)) ⊎ In x (part_lines (attributes ls))
 unfolding attributes
 attribute_in l ls x =
     cond_both (is_attribute l.1) (attribute l ls ∷ attributes ls) (attributes ls) (λ ps. In x (part_lines ps) → ((x ≡ l.0) × (is_attribute l.1 ≡ true)) ⊎ In x (part_lines (attributes ls)))
     (λ e i. elim i [ inl h ↦ inl (h, e) | inr j ↦ inr j ]) (λ e i. inr i)
 
-stray_in : (slot : List ℕ) (l : Numbered) (ls : List Numbered) (x : ℕ) → In x (note_lines (stray_notes slot (l ∷ ls))) → ((x ≡ l.0) × (is_stray l.1 ≡ true)) ⊎ In x (note_lines (stray_notes slot ls))
+stray_in : (slot : List ℕ) (l : Numbered) (ls : List Numbered) (x : ℕ)
+    → In x (note_lines (stray_notes slot (l ∷ ls)))
+    → ((x ≡ l.0) × (is_stray l.1 ≡ true)) ⊎ In x (note_lines (stray_notes slot ls))
 unfolding noted
 stray_in slot l ls x =
     cond_both (is_stray l.1) (l ∷ filter (λ m. is_stray m.1) ls) (filter (λ m. is_stray m.1) ls)
@@ -63,7 +71,8 @@ unfolding attributes
 attribute_none x i = i
 
 -- no line is both
-apart : (slot : List ℕ) (low : ℕ) (ls : List Numbered) → Rises low (numbers ls) → (x y : ℕ) → In x (part_lines (attributes ls)) → In y (note_lines (stray_notes slot ls)) → x ≡ y → ⊥
+apart : (slot : List ℕ) (low : ℕ) (ls : List Numbered) → Rises low (numbers ls) → (x y : ℕ)
+    → In x (part_lines (attributes ls)) → In y (note_lines (stray_notes slot ls)) → x ≡ y → ⊥
 apart slot low [] r x y i j e = absurd (attribute_none x i)
 apart slot low (l ∷ ls) r x y i j e =
     elim (attribute_in l ls x i) [
@@ -90,24 +99,30 @@ fits_nothing : (slot : List ℕ) (low high : ℕ) → Fits slot low high []
 unfolding noted references IsDistinct
 fits_nothing slot low high = record { distinct = tt; between = λ x i. absurd i; own = tt; refs = tt; refs_below = λ x i. absurd i; slots = tt }
 
-all-append : {X : Type 0} (P : X → Type 0) (xs ys : List X) → AllByRecursion P xs → AllByRecursion P ys → AllByRecursion P (xs ++ ys)
+all-append : {X : Type 0} (P : X → Type 0) (xs ys : List X) → AllByRecursion P xs
+    → AllByRecursion P ys → AllByRecursion P (xs ++ ys)
 all-append P [] ys a b = b
 all-append P (x ∷ xs) ys a b = (a.0, all-append P xs ys a.1 b)
 
-noted-append : (slot : List ℕ) (xs ys : List Item) → noted slot (xs ++ ys) ≡ noted slot xs ++ noted slot ys
+noted-append : (slot : List ℕ) (xs ys : List Item)
+    → noted slot (xs ++ ys) ≡ noted slot xs ++ noted slot ys
 unfolding noted
 noted-append slot xs ys = flat_map-append (notes_of slot) xs ys
 
-references-append : (slot : List ℕ) (xs ys : List Item) → references slot (xs ++ ys) ≡ references slot xs ++ references slot ys
+references-append : (slot : List ℕ) (xs ys : List Item)
+    → references slot (xs ++ ys) ≡ references slot xs ++ references slot ys
 unfolding references
 references-append slot xs ys = flat_map-append (references_of slot) xs ys
 
-fits-append : (slot : List ℕ) (low mid high : ℕ) (xs ys : List Item) → low ≤ mid → mid ≤ high → Fits slot low mid xs → Fits slot mid high ys → Fits slot low high (xs ++ ys)
+fits-append : (slot : List ℕ) (low mid high : ℕ) (xs ys : List Item) → low ≤ mid → mid ≤ high
+    → Fits slot low mid xs → Fits slot mid high ys → Fits slot low high (xs ++ ys)
 fits-append slot low mid high xs ys le le' f g =
     let lines : note_lines (noted slot (xs ++ ys)) ≡ note_lines (noted slot xs) ++ note_lines (noted slot ys) =
-    ap note_lines (noted-append slot xs ys) ∙ map-append (λ (n : Note). n.line) (noted slot xs) (noted slot ys) in
+    ap note_lines (noted-append slot xs ys)
+    ∙ map-append (λ (n : Note). n.line) (noted slot xs) (noted slot ys) in
     let ref_lines : reference_lines (references slot (xs ++ ys)) ≡ reference_lines (references slot xs) ++ reference_lines (references slot ys) =
-    ap reference_lines (references-append slot xs ys) ∙ map-append (λ (r : Reference). r.line) (references slot xs) (references slot ys) in
+    ap reference_lines (references-append slot xs ys)
+    ∙ map-append (λ (r : Reference). r.line) (references slot xs) (references slot ys) in
     record {
       distinct = subst (λ l. IsDistinct nat_eq l) (sym lines) (distinct-append (note_lines (noted slot xs)) (note_lines (noted slot ys)) f.distinct g.distinct
           (λ x y i j e. let h : x < mid = (f.between x i).1 in let k : mid ≤ y = (g.between y j).0 in omega arith));
@@ -125,7 +140,8 @@ fits-append slot low mid high xs ys le le' f g =
     }
 
 -- a note alone
-fits_passed : (slot : List ℕ) (low high line : ℕ) (rule : Rule) → low ≤ line → line < high → Fits slot low high (Passed line rule ∷ [])
+fits_passed : (slot : List ℕ) (low high line : ℕ) (rule : Rule) → low ≤ line → line < high
+    → Fits slot low high (Passed line rule ∷ [])
 unfolding noted references IsDistinct
 fits_passed slot low high line rule le lt = record {
   distinct = (tt, tt);
@@ -136,7 +152,8 @@ fits_passed slot low high line rule le lt = record {
   slots = tt;
 }
 
-strays_own : (slot : List ℕ) (ms : List Numbered) → AllByRecursion (λ n. n.origin ≡ Rpsl slot) (noted slot (map stray ms))
+strays_own : (slot : List ℕ) (ms : List Numbered)
+    → AllByRecursion (λ n. n.origin ≡ Rpsl slot) (noted slot (map stray ms))
 unfolding noted
 strays_own slot [] = tt
 strays_own slot (m ∷ ms) = (refl, strays_own slot ms)
@@ -146,53 +163,72 @@ unfolding references
 strays_none slot [] = refl
 strays_none slot (m ∷ ms) = strays_none slot ms
 
-attribute_number : (ls : List Numbered) (x : ℕ) → In x (part_lines (attributes ls)) → In x (numbers ls)
+attribute_number : (ls : List Numbered) (x : ℕ) → In x (part_lines (attributes ls))
+    → In x (numbers ls)
 unfolding attributes
 attribute_number [] x i = i
-attribute_number (l ∷ ls) x i = elim (attribute_in l ls x i) [ inl h ↦ inl h.0 | inr j ↦ inr (attribute_number ls x j) ]
+attribute_number (l ∷ ls) x i =
+    elim (attribute_in l ls x i) [ inl h ↦ inl h.0 | inr j ↦ inr (attribute_number ls x j) ]
 
-stray_number : (slot : List ℕ) (ls : List Numbered) (x : ℕ) → In x (note_lines (stray_notes slot ls)) → In x (numbers ls)
+stray_number : (slot : List ℕ) (ls : List Numbered) (x : ℕ)
+    → In x (note_lines (stray_notes slot ls)) → In x (numbers ls)
 unfolding noted
 stray_number slot [] x i = i
-stray_number slot (l ∷ ls) x i = elim (stray_in slot l ls x i) [ inl h ↦ inl h.0 | inr j ↦ inr (stray_number slot ls x j) ]
+stray_number slot (l ∷ ls) x i =
+    elim (stray_in slot l ls x i) [ inl h ↦ inl h.0 | inr j ↦ inr (stray_number slot ls x j) ]
 
-whole_lines : (slot : List ℕ) (o : Object) (ls : List Numbered) → note_lines (noted slot (Whole o ∷ strays ls)) ≡ note_lines (found slot o).notes ++ note_lines (stray_notes slot ls)
+whole_lines : (slot : List ℕ) (o : Object) (ls : List Numbered)
+    → note_lines (noted slot (Whole o ∷ strays ls)) ≡ note_lines (found slot o).notes ++ note_lines (stray_notes slot ls)
 unfolding noted
 whole_lines slot o ls = map-append (λ (n : Note). n.line) (found slot o).notes (stray_notes slot ls)
 
-whole_references : (slot : List ℕ) (o : Object) (ls : List Numbered) → references slot (Whole o ∷ strays ls) ≡ reference_in (found slot o).what
+whole_references : (slot : List ℕ) (o : Object) (ls : List Numbered)
+    → references slot (Whole o ∷ strays ls) ≡ reference_in (found slot o).what
 unfolding references
 whole_references slot o ls = ap (λ t. reference_in (found slot o).what ++ t) (strays_none slot (filter (λ m. is_stray m.1) ls)) ∙ append-nil (reference_in (found slot o).what)
 
-whole_own : (slot : List ℕ) (o : Object) (ls : List Numbered) → AllByRecursion (λ n. n.origin ≡ Rpsl slot) (found slot o).notes → AllByRecursion (λ n. n.origin ≡ Rpsl slot) (noted slot (Whole o ∷ strays ls))
+whole_own : (slot : List ℕ) (o : Object) (ls : List Numbered)
+    → AllByRecursion (λ n. n.origin ≡ Rpsl slot) (found slot o).notes
+    → AllByRecursion (λ n. n.origin ≡ Rpsl slot) (noted slot (Whole o ∷ strays ls))
 unfolding noted
 whole_own slot o ls own = all-append (λ n. n.origin ≡ Rpsl slot) (found slot o).notes (stray_notes slot ls) own (strays_own slot (filter (λ m. is_stray m.1) ls))
 
-part_in_below : (low : ℕ) (ls : List Numbered) (x : ℕ) → Rises low (numbers ls) → In x (part_lines (attributes ls)) → x < past low (numbers ls)
+part_in_below : (low : ℕ) (ls : List Numbered) (x : ℕ) → Rises low (numbers ls)
+    → In x (part_lines (attributes ls)) → x < past low (numbers ls)
 part_in_below low ls x r i = in-lt-past low (numbers ls) x r (attribute_number ls x i)
 
-stray_in_below : (slot : List ℕ) (low : ℕ) (ls : List Numbered) (x : ℕ) → Rises low (numbers ls) → In x (note_lines (stray_notes slot ls)) → x < past low (numbers ls)
+stray_in_below : (slot : List ℕ) (low : ℕ) (ls : List Numbered) (x : ℕ) → Rises low (numbers ls)
+    → In x (note_lines (stray_notes slot ls)) → x < past low (numbers ls)
 stray_in_below slot low ls x r i = in-lt-past low (numbers ls) x r (stray_number slot ls x i)
 
 -- the object that some lines make, and the notes on lines that are none of its attributes
-object_fits : (slot : List ℕ) (low : ℕ) (l : Numbered) (ls : List Numbered) (o : Object) → o.parts ≡ attribute l ls ∷ attributes ls → Rises low (numbers (l ∷ ls))
+object_fits : (slot : List ℕ) (low : ℕ) (l : Numbered) (ls : List Numbered) (o : Object)
+    → o.parts ≡ attribute l ls ∷ attributes ls → Rises low (numbers (l ∷ ls))
     → Fits slot low (past low (numbers (l ∷ ls))) (Whole o ∷ strays ls)
 object_fits slot low l ls o made r =
-    let parts_rise : Rises low (part_lines o.parts) = subst (λ ps. Rises low (part_lines ps)) (sym made) (r.0, attributes_rise (l.0 + 1) ls r.1) in
+    let parts_rise : Rises low (part_lines o.parts) =
+    subst (λ ps. Rises low (part_lines ps)) (sym made)
+    (r.0, attributes_rise (l.0 + 1) ls r.1) in
     let s : Stands slot low o.parts (found slot o) = stands slot low o parts_rise in
     let high : ℕ = past (l.0 + 1) (numbers ls) in
     let least : l.0 + 1 ≤ high = low-le-past (l.0 + 1) (numbers ls) r.1 in
-    let on_part = λ (x : ℕ) (i : In x (part_lines o.parts)). subst (λ ps. In x (part_lines ps)) made i in
+    let on_part =
+    λ (x : ℕ) (i : In x (part_lines o.parts)). subst (λ ps. In x (part_lines ps)) made i in
     let part_below : (x : ℕ) → In x (part_lines o.parts) → x < high =
-    λ x i. elim (on_part x i) [ inl e ↦ omega (arith, e) | inr j ↦ part_in_below (l.0 + 1) ls x r.1 j ] in
-    let stray_rise : Rises (l.0 + 1) (note_lines (stray_notes slot ls)) = strays_rise slot (l.0 + 1) ls r.1 in
+    λ x i. elim (on_part x i)
+    [ inl e ↦ omega (arith, e) | inr j ↦ part_in_below (l.0 + 1) ls x r.1 j ] in
+    let stray_rise : Rises (l.0 + 1) (note_lines (stray_notes slot ls)) =
+    strays_rise slot (l.0 + 1) ls r.1 in
     let lines : note_lines (noted slot (Whole o ∷ strays ls)) ≡ note_lines (found slot o).notes ++ note_lines (stray_notes slot ls) = whole_lines slot o ls in
-    let refs : references slot (Whole o ∷ strays ls) ≡ reference_in (found slot o).what = whole_references slot o ls in
+    let refs : references slot (Whole o ∷ strays ls) ≡ reference_in (found slot o).what =
+    whole_references slot o ls in
     record {
       distinct = subst (λ t. IsDistinct nat_eq t) (sym lines) (distinct-append (note_lines (found slot o).notes) (note_lines (stray_notes slot ls))
-          (distinct_from_rises low (note_lines (found slot o).notes) s.rises) (distinct_from_rises (l.0 + 1) (note_lines (stray_notes slot ls)) stray_rise)
+          (distinct_from_rises low (note_lines (found slot o).notes) s.rises)
+          (distinct_from_rises (l.0 + 1) (note_lines (stray_notes slot ls)) stray_rise)
           (λ x y i j e. elim (on_part x (s.inside x i)) [
-            | inl h ↦ let k : l.0 + 1 ≤ y = low-le-in (l.0 + 1) (note_lines (stray_notes slot ls)) y stray_rise j in omega arith
+            | inl h ↦ let k : l.0 + 1 ≤ y =
+                low-le-in (l.0 + 1) (note_lines (stray_notes slot ls)) y stray_rise j in omega arith
             | inr h ↦ apart slot (l.0 + 1) ls r.1 x y h j e
           ]));
       between = λ x i. elim (in-append (note_lines (found slot o).notes) (note_lines (stray_notes slot ls)) x (subst (λ t. In x t) lines i)) [
@@ -201,31 +237,38 @@ object_fits slot low l ls o made r =
       ];
       own = whole_own slot o ls s.own;
       refs = subst (λ t. Rises low (reference_lines t)) (sym refs) s.refs_rise;
-      refs_below = λ x i. part_below x (s.refs_inside x (subst (λ t. In x (reference_lines t)) refs i));
+      refs_below =
+          λ x i. part_below x (s.refs_inside x (subst (λ t. In x (reference_lines t)) refs i));
       slots = subst (λ t. AllByRecursion (λ n. n.slot ≡ slot) t) (sym refs) s.slots;
     }
 
-too_long_fits : (slot : List ℕ) (low : ℕ) (ls : List Numbered) → Rises low (numbers ls) → Fits slot low (past low (numbers ls)) (too_long ls)
+too_long_fits : (slot : List ℕ) (low : ℕ) (ls : List Numbered) → Rises low (numbers ls)
+    → Fits slot low (past low (numbers ls)) (too_long ls)
 too_long_fits slot low [] r = fits_nothing slot low low
 too_long_fits slot low (l ∷ ls) r =
     let least : l.0 + 1 ≤ past (l.0 + 1) (numbers ls) = low-le-past (l.0 + 1) (numbers ls) r.1 in
     fits_passed slot low (past (l.0 + 1) (numbers ls)) l.0 P01 r.0 (omega arith)
 
-items_fit : (slot : List ℕ) (low : ℕ) (ls : List Numbered) → Rises low (numbers ls) → Fits slot low (past low (numbers ls)) (items ls)
+items_fit : (slot : List ℕ) (low : ℕ) (ls : List Numbered) → Rises low (numbers ls)
+    → Fits slot low (past low (numbers ls)) (items ls)
 unfolding items
 items_fit slot low [] r = fits_nothing slot low low
 items_fit slot low (l ∷ ls) r =
     let high : ℕ = past (l.0 + 1) (numbers ls) in
     let least : l.0 + 1 ≤ high = low-le-past (l.0 + 1) (numbers ls) r.1 in
-    cond_both (is_attribute l.1) (Whole (record { line = l.0; parts = attribute l ls ∷ attributes ls }) ∷ strays ls) (stray l ∷ items ls) (λ these. Fits slot low high these)
+    cond_both (is_attribute l.1)
+    (Whole (record { line = l.0; parts = attribute l ls ∷ attributes ls }) ∷ strays ls)
+    (stray l ∷ items ls) (λ these. Fits slot low high these)
     (λ e. object_fits slot low l ls (record { line = l.0; parts = attribute l ls ∷ attributes ls }) refl r)
     (λ e. fits-append slot low (l.0 + 1) high (stray l ∷ []) (items ls) (omega (arith, r.0)) least
     (fits_passed slot low (l.0 + 1) l.0 P02 r.0 (omega arith)) (items_fit slot (l.0 + 1) ls r.1))
 
-group_fits : (slot : List ℕ) (low : ℕ) (ls : List Numbered) → Rises low (numbers ls) → Fits slot low (past low (numbers ls)) (group_items ls)
+group_fits : (slot : List ℕ) (low : ℕ) (ls : List Numbered) → Rises low (numbers ls)
+    → Fits slot low (past low (numbers ls)) (group_items ls)
 unfolding group_items
 group_fits slot low ls r =
-    cond_both (nat_lt longest (size ls)) (too_long ls) (items ls) (λ these. Fits slot low (past low (numbers ls)) these)
+    cond_both (nat_lt longest (size ls)) (too_long ls) (items ls)
+    (λ these. Fits slot low (past low (numbers ls)) these)
     (λ e. too_long_fits slot low ls r) (λ e. items_fit slot low ls r)
 
 -- groups of lines that rise
@@ -233,35 +276,42 @@ abbrev GroupsRise : ℕ → List (List Numbered) → Type 0
 GroupsRise low [] = Unit {0}
 GroupsRise low (g ∷ gs) = Rises low (numbers g) × GroupsRise (past low (numbers g)) gs
 
-groups_from_less : (low high : ℕ) (gs : List (List Numbered)) → low ≤ high → GroupsRise high gs → GroupsRise low gs
+groups_from_less : (low high : ℕ) (gs : List (List Numbered)) → low ≤ high → GroupsRise high gs
+    → GroupsRise low gs
 groups_from_less low high [] le r = tt
 groups_from_less low high ([] ∷ gs) le r = (tt, groups_from_less low high gs le r.1)
 groups_from_less low high ((l ∷ ls) ∷ gs) le r = ((omega (arith, r.0.0), r.0.1), r.1)
 
-onto_first_rises : (low : ℕ) (l : Numbered) (gs : List (List Numbered)) → low ≤ l.0 → GroupsRise (l.0 + 1) gs → GroupsRise low (onto_first l gs)
+onto_first_rises : (low : ℕ) (l : Numbered) (gs : List (List Numbered)) → low ≤ l.0
+    → GroupsRise (l.0 + 1) gs → GroupsRise low (onto_first l gs)
 onto_first_rises low l [] le r = ((le, tt), tt)
 onto_first_rises low l (g ∷ gs) le r = ((le, r.0), r.1)
 
-split_rises : (p : Numbered → Bool) (low : ℕ) (ls : List Numbered) → Rises low (numbers ls) → GroupsRise low (slice_split p ls)
+split_rises : (p : Numbered → Bool) (low : ℕ) (ls : List Numbered) → Rises low (numbers ls)
+    → GroupsRise low (slice_split p ls)
 split_rises p low [] r = (tt, tt)
 split_rises p low (l ∷ ls) r =
     let later = split_rises p (l.0 + 1) ls r.1 in
-    cond_both (p l) ([] ∷ slice_split p ls) (onto_first l (slice_split p ls)) (λ gs. GroupsRise low gs)
+    cond_both (p l) ([] ∷ slice_split p ls) (onto_first l (slice_split p ls))
+    (λ gs. GroupsRise low gs)
     (λ e. (tt, groups_from_less low (l.0 + 1) (slice_split p ls) (omega (arith, r.0)) later))
     (λ e. onto_first_rises low l (slice_split p ls) r.0 later)
 
-filter_rises : (p : Numbered → Bool) (low : ℕ) (ls : List Numbered) → Rises low (numbers ls) → Rises low (numbers (filter p ls))
+filter_rises : (p : Numbered → Bool) (low : ℕ) (ls : List Numbered) → Rises low (numbers ls)
+    → Rises low (numbers (filter p ls))
 filter_rises p low [] r = tt
 filter_rises p low (l ∷ ls) r =
     let later = filter_rises p (l.0 + 1) ls r.1 in
     cond_both (p l) (l ∷ filter p ls) (filter p ls) (λ ms. Rises low (numbers ms))
-    (λ e. (r.0, later)) (λ e. rises_from_less low (l.0 + 1) (numbers (filter p ls)) (omega (arith, r.0)) later)
+    (λ e. (r.0, later))
+    (λ e. rises_from_less low (l.0 + 1) (numbers (filter p ls)) (omega (arith, r.0)) later)
 
 numbers_rise : (n : ℕ) (ls : List (List ℕ)) → Rises n (numbers (enumerate_from n ls))
 numbers_rise n [] = tt
 numbers_rise n (l ∷ ls) = (omega arith, numbers_rise (n + 1) ls)
 
-groups_fit : (slot : List ℕ) (low : ℕ) (gs : List (List Numbered)) → GroupsRise low gs → (high : ℕ) × (low ≤ high) × Fits slot low high (flat_map group_items gs)
+groups_fit : (slot : List ℕ) (low : ℕ) (gs : List (List Numbered)) → GroupsRise low gs
+    → (high : ℕ) × (low ≤ high) × Fits slot low high (flat_map group_items gs)
 groups_fit slot low [] r = (low, omega arith, fits_nothing slot low low)
 groups_fit slot low (g ∷ gs) r =
     let later = groups_fit slot (past low (numbers g)) gs r.1 in

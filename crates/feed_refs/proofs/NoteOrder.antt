@@ -18,7 +18,8 @@ Has (m ∷ ms) n = (n ≡ m) ⊎ Has ms n
 pub has_from_contains : (ns : List Note) (n : Note) → Contains ns n → Has ns n
 has_from_contains [] n (k, below, is) = absurd (omega (arith, below))
 has_from_contains (m ∷ ms) n (zero, below, is) = inl (sym is)
-has_from_contains (m ∷ ms) n (suc k, below, is) = inr (has_from_contains ms n (k, omega (arith, below), is))
+has_from_contains (m ∷ ms) n (suc k, below, is) =
+    inr (has_from_contains ms n (k, omega (arith, below), is))
 
 pub contains_from_has : (ns : List Note) (n : Note) → Has ns n → Contains ns n
 contains_from_has [] n h = absurd h
@@ -27,15 +28,18 @@ contains_from_has (m ∷ ms) n h = elim h [
   | inr i ↦ let c = contains_from_has ms n i in (suc c.0, omega (arith, c.1), c.2)
 ]
 
-low-le-line : (low : ℕ) (ns : List Note) (n : Note) → Rises low (note_lines ns) → Has ns n → low ≤ n.line
+low-le-line : (low : ℕ) (ns : List Note) (n : Note) → Rises low (note_lines ns) → Has ns n
+    → low ≤ n.line
 low-le-line low [] n r h = absurd h
 low-le-line low (m ∷ ms) n r h = elim h [
   | inl e ↦ subst (λ (k : Note). low ≤ k.line) (sym e) r.0
-  | inr i ↦ let later : m.line + 1 ≤ n.line = low-le-line (m.line + 1) ms n r.1 i in omega (arith, r.0)
+  | inr i ↦ let later : m.line + 1 ≤ n.line =
+      low-le-line (m.line + 1) ms n r.1 i in omega (arith, r.0)
 ]
 
 -- the same notes in line order are the same list
-pub one_order : (low : ℕ) (xs ys : List Note) → Rises low (note_lines xs) → Rises low (note_lines ys)
+pub one_order : (low : ℕ) (xs ys : List Note) → Rises low (note_lines xs)
+    → Rises low (note_lines ys)
     → ((n : Note) → Has xs n → Has ys n) → ((n : Note) → Has ys n → Has xs n) → xs ≡ ys
 one_order low [] [] r s there back = refl
 one_order low [] (y ∷ ys) r s there back = absurd (back y (inl refl))
@@ -52,7 +56,9 @@ one_order low (x ∷ xs) (y ∷ ys) r s there back =
       ]
     ] in
     let line : x.line ≡ y.line = ap (λ (n : Note). n.line) head in
-    let tail : xs ≡ ys = one_order (x.line + 1) xs ys r.1 (subst (λ (k : ℕ). Rises (k + 1) (note_lines ys)) (sym line) s.1)
+    let tail : xs ≡ ys =
+    one_order (x.line + 1) xs ys r.1
+    (subst (λ (k : ℕ). Rises (k + 1) (note_lines ys)) (sym line) s.1)
     (λ n h. elim (there n (inr h)) [
       | inl e ↦ let a : x.line + 1 ≤ n.line = low-le-line (x.line + 1) xs n r.1 h in let b : n.line ≡ y.line = ap (λ (m : Note). m.line) e in absurd (omega arith)
       | inr i ↦ i
@@ -64,18 +70,21 @@ one_order low (x ∷ xs) (y ∷ ys) r s there back =
     λ i. head i ∷ tail i
 
 -- a note in its place stands among the others
-has_placed : (n : Note) (ns : List Note) (m : Note) → (Has (placed n ns) m → Has (n ∷ ns) m) × (Has (n ∷ ns) m → Has (placed n ns) m)
+has_placed : (n : Note) (ns : List Note) (m : Note)
+    → (Has (placed n ns) m → Has (n ∷ ns) m) × (Has (n ∷ ns) m → Has (placed n ns) m)
 has_placed n [] m = (λ h. h, λ h. h)
 has_placed n (k ∷ ks) m =
     let later = has_placed n ks m in
-    cond_both (nat_lt k.line n.line) (k ∷ placed n ks) (n ∷ k ∷ ks) (λ l. (Has l m → Has (n ∷ k ∷ ks) m) × (Has (n ∷ k ∷ ks) m → Has l m))
+    cond_both (nat_lt k.line n.line) (k ∷ placed n ks) (n ∷ k ∷ ks)
+    (λ l. (Has l m → Has (n ∷ k ∷ ks) m) × (Has (n ∷ k ∷ ks) m → Has l m))
     (λ lt. (
       λ h. elim h [ inl e ↦ inr (inl e) | inr i ↦ elim (later.0 i) [ inl e ↦ inl e | inr j ↦ inr (inr j) ] ],
       λ h. elim h [ inl e ↦ inr (later.1 (inl e)) | inr i ↦ elim i [ inl e ↦ inl e | inr j ↦ inr (later.1 (inr j)) ] ],
     ))
     (λ ge. (λ h. h, λ h. h))
 
-pub has_ordered : (ns : List Note) (m : Note) → (Has (in_line_order ns) m → Has ns m) × (Has ns m → Has (in_line_order ns) m)
+pub has_ordered : (ns : List Note) (m : Note)
+    → (Has (in_line_order ns) m → Has ns m) × (Has ns m → Has (in_line_order ns) m)
 unfolding in_line_order
 has_ordered [] m = (λ h. h, λ h. h)
 has_ordered (n ∷ ns) m =
@@ -90,15 +99,18 @@ pub each : (P : Note → Type 0) (ns : List Note) → AllByRecursion P ns → (m
 each P [] a m h = absurd h
 each P (n ∷ ns) a m h = elim h [ inl e ↦ subst P (sym e) a.0 | inr i ↦ each P ns a.1 m i ]
 
-pub all_from_each : (P : Note → Type 0) (ns : List Note) → ((m : Note) → Has ns m → P m) → AllByRecursion P ns
+pub all_from_each : (P : Note → Type 0) (ns : List Note) → ((m : Note) → Has ns m → P m)
+    → AllByRecursion P ns
 all_from_each P [] h = tt
 all_from_each P (n ∷ ns) h = (h n (inl refl), all_from_each P ns (λ m i. h m (inr i)))
 
-all_of_lines : (P : ℕ → Type 0) (ns : List Note) → AllByRecursion P (note_lines ns) → AllByRecursion (λ m. P m.line) ns
+all_of_lines : (P : ℕ → Type 0) (ns : List Note) → AllByRecursion P (note_lines ns)
+    → AllByRecursion (λ m. P m.line) ns
 all_of_lines P [] a = tt
 all_of_lines P (n ∷ ns) a = (a.0, all_of_lines P ns a.1)
 
-rises_placed : (low : ℕ) (n : Note) (ns : List Note) → low ≤ n.line → Rises low (note_lines ns) → AllByRecursion (λ m. nat_eq n.line m.line ≡ false) ns → Rises low (note_lines (placed n ns))
+rises_placed : (low : ℕ) (n : Note) (ns : List Note) → low ≤ n.line → Rises low (note_lines ns)
+    → AllByRecursion (λ m. nat_eq n.line m.line ≡ false) ns → Rises low (note_lines (placed n ns))
 rises_placed low n [] le r other = (le, tt)
 rises_placed low n (m ∷ ms) le r other =
     cond_both (nat_lt m.line n.line) (m ∷ placed n ms) (n ∷ m ∷ ms) (λ l. Rises low (note_lines l))
@@ -109,7 +121,8 @@ rises_placed low n (m ∷ ms) le r other =
     (le, (omega (arith, ne), r.1)))
 
 -- notes on distinct lines rise once they are in line order
-pub ordered_rises : (ns : List Note) → IsDistinct nat_eq (note_lines ns) → Rises 0 (note_lines (in_line_order ns))
+pub ordered_rises : (ns : List Note) → IsDistinct nat_eq (note_lines ns)
+    → Rises 0 (note_lines (in_line_order ns))
 unfolding in_line_order IsDistinct
 ordered_rises [] d = tt
 ordered_rises (n ∷ ns) d =
@@ -118,13 +131,17 @@ ordered_rises (n ∷ ns) d =
     (λ m h. each (λ k. nat_eq n.line k.line ≡ false) ns (all_of_lines (λ l. nat_eq n.line l ≡ false) ns d.0) m ((has_ordered ns m).0 h)))
 
 -- the first of notes whose lines do not fall is on no later line than another
-first_le : (y : Note) (ys : List Note) → IsNonDecreasingBy (λ n. n.line) (y ∷ ys) → (m : Note) → Has ys m → y.line ≤ m.line
+first_le : (y : Note) (ys : List Note) → IsNonDecreasingBy (λ n. n.line) (y ∷ ys) → (m : Note)
+    → Has ys m → y.line ≤ m.line
 first_le y ys up m h =
     let c = contains_from_has ys m h in
-    let at : y.line ≤ (get_or ys c.0 m).line = up zero (suc c.0) m (omega arith) (omega (arith, c.1)) in
+    let at : y.line ≤ (get_or ys c.0 m).line =
+    up zero (suc c.0) m (omega arith) (omega (arith, c.1)) in
     subst (λ (n : Note). y.line ≤ n.line) c.2 at
 
-rises_sorted : (low : ℕ) (ys : List Note) → ((m : Note) → Has ys m → low ≤ m.line) → IsNonDecreasingBy (λ n. n.line) ys → IsDistinct nat_eq (note_lines ys) → Rises low (note_lines ys)
+rises_sorted : (low : ℕ) (ys : List Note) → ((m : Note) → Has ys m → low ≤ m.line)
+    → IsNonDecreasingBy (λ n. n.line) ys → IsDistinct nat_eq (note_lines ys)
+    → Rises low (note_lines ys)
 unfolding IsDistinct
 rises_sorted low [] from up d = tt
 rises_sorted low (y ∷ ys) from up d = (
@@ -144,9 +161,13 @@ nat_eq_flips x y = elim (cases_eq x y) [
 ]
 
 -- what a sort by line makes of notes on distinct lines
-pub sorted_is : (xs ys : List Note) → IsPermutation xs ys → IsNonDecreasingBy (λ n. n.line) ys → IsDistinct nat_eq (note_lines xs) → ys ≡ in_line_order xs
+pub sorted_is : (xs ys : List Note) → IsPermutation xs ys → IsNonDecreasingBy (λ n. n.line) ys
+    → IsDistinct nat_eq (note_lines xs) → ys ≡ in_line_order xs
 sorted_is xs ys same up d =
-    let e = IsDistinct-IsPermutation nat_eq nat_eq_flips (note_lines xs) (note_lines ys) (IsPermutation-map (λ (n : Note). n.line) xs ys same) d in
-    one_order 0 ys (in_line_order xs) (rises_sorted 0 ys (λ m h. omega arith) up e) (ordered_rises xs d)
+    let e =
+    IsDistinct-IsPermutation nat_eq nat_eq_flips (note_lines xs) (note_lines ys)
+    (IsPermutation-map (λ (n : Note). n.line) xs ys same) d in
+    one_order 0 ys (in_line_order xs) (rises_sorted 0 ys (λ m h. omega arith) up e)
+    (ordered_rises xs d)
     (λ m h. (has_ordered xs m).1 (has_from_contains xs m (Contains-permutation ys xs m (IsPermutation-sym xs ys same) (contains_from_has ys m h))))
     (λ m h. has_from_contains ys m (Contains-permutation xs ys m same (contains_from_has xs m ((has_ordered xs m).0 h))))

@@ -32,25 +32,36 @@ abbrev pub reference_lines : List Reference → List ℕ
 reference_lines = map (λ r. r.line)
 
 -- a note on a line before other notes
-one_rises : (slot : List ℕ) (low line : ℕ) (r : Option Rule) (ns : List Note) → low ≤ line → Rises (line + 1) (note_lines ns) → Rises low (note_lines (option_to_list (note_by slot line r) ++ ns))
-one_rises slot low line None ns le h = rises_from_less low (line + 1) (note_lines ns) (omega arith) h
+one_rises : (slot : List ℕ) (low line : ℕ) (r : Option Rule) (ns : List Note) → low ≤ line
+    → Rises (line + 1) (note_lines ns)
+    → Rises low (note_lines (option_to_list (note_by slot line r) ++ ns))
+one_rises slot low line None ns le h =
+    rises_from_less low (line + 1) (note_lines ns) (omega arith) h
 one_rises slot low line (Some rule) ns le h = (le, h)
 
-one_in : (slot : List ℕ) (line : ℕ) (r : Option Rule) (ns : List Note) (x : ℕ) → In x (note_lines (option_to_list (note_by slot line r) ++ ns)) → (x ≡ line) ⊎ In x (note_lines ns)
+one_in : (slot : List ℕ) (line : ℕ) (r : Option Rule) (ns : List Note) (x : ℕ)
+    → In x (note_lines (option_to_list (note_by slot line r) ++ ns))
+    → (x ≡ line) ⊎ In x (note_lines ns)
 one_in slot line None ns x i = inr i
 one_in slot line (Some rule) ns x i = i
 
-one_of : (slot : List ℕ) (line : ℕ) (r : Option Rule) (ns : List Note) → AllByRecursion (λ n. n.origin ≡ Rpsl slot) ns → AllByRecursion (λ n. n.origin ≡ Rpsl slot) (option_to_list (note_by slot line r) ++ ns)
+one_of : (slot : List ℕ) (line : ℕ) (r : Option Rule) (ns : List Note)
+    → AllByRecursion (λ n. n.origin ≡ Rpsl slot) ns
+    → AllByRecursion (λ n. n.origin ≡ Rpsl slot) (option_to_list (note_by slot line r) ++ ns)
 one_of slot line None ns a = a
 one_of slot line (Some rule) ns a = (refl, a)
 
 module _ (slot : List ℕ) (kind : Kind) (used : Option Rule) where
-  notes_rise : (seen : Bool) (parts : List Attribute) (low : ℕ) → Rises low (part_lines parts) → Rises low (note_lines (notes_from slot kind used seen parts))
+  notes_rise : (seen : Bool) (parts : List Attribute) (low : ℕ) → Rises low (part_lines parts)
+      → Rises low (note_lines (notes_from slot kind used seen parts))
   notes_rise seen [] low r = tt
   notes_rise seen (a ∷ more) low r =
-      one_rises slot low a.line (rule_on kind used seen a) (notes_from slot kind used (seen || is_last_modified a) more) r.0 (notes_rise (seen || is_last_modified a) more (a.line + 1) r.1)
+      one_rises slot low a.line (rule_on kind used seen a)
+      (notes_from slot kind used (seen || is_last_modified a) more) r.0
+      (notes_rise (seen || is_last_modified a) more (a.line + 1) r.1)
 
-  notes_in : (seen : Bool) (parts : List Attribute) (x : ℕ) → In x (note_lines (notes_from slot kind used seen parts)) → In x (part_lines parts)
+  notes_in : (seen : Bool) (parts : List Attribute) (x : ℕ)
+      → In x (note_lines (notes_from slot kind used seen parts)) → In x (part_lines parts)
   notes_in seen [] x i = i
   notes_in seen (a ∷ more) x i =
       elim (one_in slot a.line (rule_on kind used seen a) (notes_from slot kind used (seen || is_last_modified a) more) x i) [
@@ -58,7 +69,8 @@ module _ (slot : List ℕ) (kind : Kind) (used : Option Rule) where
         | inr j ↦ inr (notes_in (seen || is_last_modified a) more x j)
       ]
 
-  notes_own : (seen : Bool) (parts : List Attribute) → AllByRecursion (λ n. n.origin ≡ Rpsl slot) (notes_from slot kind used seen parts)
+  notes_own : (seen : Bool) (parts : List Attribute)
+      → AllByRecursion (λ n. n.origin ≡ Rpsl slot) (notes_from slot kind used seen parts)
   notes_own seen [] = tt
   notes_own seen (a ∷ more) = one_of slot a.line (rule_on kind used seen a) (notes_from slot kind used (seen || is_last_modified a) more) (notes_own (seen || is_last_modified a) more)
 
@@ -71,17 +83,21 @@ pub record Stands (slot : List ℕ) (low : ℕ) (parts : List Attribute) (f : Fo
   pub refs_inside : (x : ℕ) → In x (reference_lines (reference_in f.what)) → In x (part_lines parts)
   pub slots : AllByRecursion (λ r. r.slot ≡ slot) (reference_in f.what)
 
-some_in : (p : Attribute → Bool) (parts : List Attribute) (x : ℕ) → In x (part_lines (filter p parts)) → In x (part_lines parts)
+some_in : (p : Attribute → Bool) (parts : List Attribute) (x : ℕ)
+    → In x (part_lines (filter p parts)) → In x (part_lines parts)
 some_in p [] x i = i
 some_in p (a ∷ more) x i =
     let one : In x (part_lines (cond (p a) (a ∷ filter p more) (filter p more))) → In x (part_lines (a ∷ more)) =
-    cond_both (p a) (a ∷ filter p more) (filter p more) (λ ps. In x (part_lines ps) → In x (part_lines (a ∷ more)))
+    cond_both (p a) (a ∷ filter p more) (filter p more)
+    (λ ps. In x (part_lines ps) → In x (part_lines (a ∷ more)))
     (λ e j. elim j [ inl h ↦ inl h | inr k ↦ inr (some_in p more x k) ])
     (λ e j. inr (some_in p more x j)) in
     one i
 
-module _ (slot : List ℕ) (low : ℕ) (range : Ends) (parts : List Attribute) (r : Rises low (part_lines parts)) where
-  stands_by : (a : Attribute) (u : UrlRead) → In a.line (part_lines parts) → Stands slot low parts (found_by slot range parts a u)
+module _ (slot : List ℕ) (low : ℕ) (range : Ends) (parts : List Attribute)
+    (r : Rises low (part_lines parts)) where
+  stands_by : (a : Attribute) (u : UrlRead) → In a.line (part_lines parts)
+      → Stands slot low parts (found_by slot range parts a u)
   stands_by a Refused here = record {
     rises = notes_rise slot (used_kind parts) (Some P05) false parts low r;
     inside = notes_in slot (used_kind parts) (Some P05) false parts;
@@ -107,9 +123,11 @@ module _ (slot : List ℕ) (low : ℕ) (range : Ends) (parts : List Attribute) (
     slots = (refl, tt);
   }
 
-  stands_among : (us : List Attribute) → ((x : ℕ) → In x (part_lines us) → In x (part_lines parts)) → Stands slot low parts (found_among slot range parts us)
+  stands_among : (us : List Attribute) → ((x : ℕ) → In x (part_lines us) → In x (part_lines parts))
+      → Stands slot low parts (found_among slot range parts us)
   stands_among [] inside = record { rises = tt; inside = λ x i. absurd i; own = tt; refs_rise = tt; refs_inside = λ x i. absurd i; slots = tt }
-  stands_among (a ∷ []) inside = stands_by a (url_read (url_text (used_kind parts) a)) (inside a.line (inl refl))
+  stands_among (a ∷ []) inside =
+      stands_by a (url_read (url_text (used_kind parts) a)) (inside a.line (inl refl))
   stands_among (a ∷ b ∷ more) inside = record {
     rises = notes_rise slot (used_kind parts) (Some P04) false parts low r;
     inside = notes_in slot (used_kind parts) (Some P04) false parts;
@@ -119,7 +137,9 @@ module _ (slot : List ℕ) (low : ℕ) (range : Ends) (parts : List Attribute) (
     slots = tt;
   }
 
-stands_as : (slot : List ℕ) (low : ℕ) (a : Attribute) (more : List Attribute) (c : Class) → Rises low (part_lines (a ∷ more)) → Stands slot low (a ∷ more) (found_as slot a.line (a ∷ more) c)
+stands_as : (slot : List ℕ) (low : ℕ) (a : Attribute) (more : List Attribute) (c : Class)
+    → Rises low (part_lines (a ∷ more))
+    → Stands slot low (a ∷ more) (found_as slot a.line (a ∷ more) c)
 stands_as slot low a more Other r = record { rises = tt; inside = λ x i. absurd i; own = tt; refs_rise = tt; refs_inside = λ x i. absurd i; slots = tt }
 stands_as slot low a more Unread r = record {
   rises = (r.0, tt);
@@ -131,11 +151,13 @@ stands_as slot low a more Unread r = record {
 }
 stands_as slot low a more (Inet range) r = stands_among slot low range (a ∷ more) r (filter (is_of_kind (used_kind (a ∷ more))) (a ∷ more)) (some_in (is_of_kind (used_kind (a ∷ more))) (a ∷ more))
 
-pub stands : (slot : List ℕ) (low : ℕ) (o : Object) → Rises low (part_lines o.parts) → Stands slot low o.parts (found slot o)
+pub stands : (slot : List ℕ) (low : ℕ) (o : Object) → Rises low (part_lines o.parts)
+    → Stands slot low o.parts (found slot o)
 unfolding found
 stands slot low o r =
     let one : (parts : List Attribute) → Rises low (part_lines parts) → Stands slot low parts (found_in_parts slot parts) =
-    λ parts. elim parts as (λ ps. Rises low (part_lines ps) → Stands slot low ps (found_in_parts slot ps)) [
+    λ parts. elim parts as
+    (λ ps. Rises low (part_lines ps) → Stands slot low ps (found_in_parts slot ps)) [
       | [] ↦ λ h. record { rises = tt; inside = λ x i. absurd i; own = tt; refs_rise = tt; refs_inside = λ x i. absurd i; slots = tt }
       | a ∷ more ↦ λ h. stands_as slot low a more (class_named a) h
     ] in

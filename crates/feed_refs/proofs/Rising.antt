@@ -25,7 +25,8 @@ rises_from_less low high (x ∷ xs) le r = (omega (arith, r.0), r.1)
 
 pub low-le-past : (low : ℕ) (xs : List ℕ) → Rises low xs → low ≤ past low xs
 low-le-past low [] r = omega arith
-low-le-past low (x ∷ xs) r = let h : x + 1 ≤ past (x + 1) xs = low-le-past (x + 1) xs r.1 in omega (arith, r.0)
+low-le-past low (x ∷ xs) r =
+    let h : x + 1 ≤ past (x + 1) xs = low-le-past (x + 1) xs r.1 in omega (arith, r.0)
 
 pub low-le-in : (low : ℕ) (xs : List ℕ) (x : ℕ) → Rises low xs → In x xs → low ≤ x
 low-le-in low [] x r i = absurd i
@@ -42,7 +43,8 @@ in-lt-past low (y ∷ ys) x r i = elim i [
 ]
 
 -- what rises below a number, and what rises from there on
-pub rises-append : (low high : ℕ) (xs ys : List ℕ) → low ≤ high → Rises low xs → ((x : ℕ) → In x xs → x < high) → Rises high ys → Rises low (xs ++ ys)
+pub rises-append : (low high : ℕ) (xs ys : List ℕ) → low ≤ high → Rises low xs
+    → ((x : ℕ) → In x xs → x < high) → Rises high ys → Rises low (xs ++ ys)
 rises-append low high [] ys le r below s = rises_from_less low high ys le s
 rises-append low high (x ∷ xs) ys le r below s =
     let h : x < high = below x (inl refl) in
@@ -64,7 +66,8 @@ all_from_in P (x ∷ xs) h = (h x (inl refl), all_from_in P xs (λ z i. h z (inr
 
 pub in_from_all : (P : ℕ → Type 0) (xs : List ℕ) → AllByRecursion P xs → (x : ℕ) → In x xs → P x
 in_from_all P [] a x i = absurd i
-in_from_all P (y ∷ ys) a x i = elim i [ inl e ↦ subst P (sym e) a.0 | inr j ↦ in_from_all P ys a.1 x j ]
+in_from_all P (y ∷ ys) a x i =
+    elim i [ inl e ↦ subst P (sym e) a.0 | inr j ↦ in_from_all P ys a.1 x j ]
 
 pub in-append : (xs ys : List ℕ) (x : ℕ) → In x (xs ++ ys) → In x xs ⊎ In x ys
 in-append [] ys x i = inr i
@@ -81,7 +84,8 @@ distinct_from_rises low (x ∷ xs) r =
     (all_from_in (λ y. nat_eq x y ≡ false) xs (λ y i. let h : x + 1 ≤ y = low-le-in (x + 1) xs y r.1 i in ne_eqb x y (λ e. omega (arith, e))), distinct_from_rises (x + 1) xs r.1)
 
 -- two lists of distinct numbers that share none
-pub distinct-append : (xs ys : List ℕ) → IsDistinct nat_eq xs → IsDistinct nat_eq ys → ((x y : ℕ) → In x xs → In y ys → x ≡ y → ⊥) → IsDistinct nat_eq (xs ++ ys)
+pub distinct-append : (xs ys : List ℕ) → IsDistinct nat_eq xs → IsDistinct nat_eq ys
+    → ((x y : ℕ) → In x xs → In y ys → x ≡ y → ⊥) → IsDistinct nat_eq (xs ++ ys)
 unfolding IsDistinct
 distinct-append [] ys d e apart = e
 distinct-append (x ∷ xs) ys d e apart = (

@@ -287,6 +287,15 @@ fn read_in_two(alloc: Global, first: &[u8], second: &[u8]) -> Result<Dump, Sourc
     reader.finish()
 }
 
+// The dump of a text that is given byte by byte.
+fn read_bytes(alloc: Global, text: &[u8]) -> Result<Dump, SourceFault> {
+    let mut reader = DumpReader::new(alloc, "x")?;
+    for byte in text {
+        reader.feed(&[*byte])?;
+    }
+    reader.finish()
+}
+
 const DUMP: &[u8] = b"\xEF\xBB\xBF% An extract.\r\n\r\n\
     inetnum: 192.0.2.0 - 192.0.2.255\r\nfoo\r\n\
     remarks: Geofeed\r\n+  https://e.example/a.csv\r\n\
@@ -313,13 +322,48 @@ fn a_dump_in_two_pieces(rt: HostRuntime) -> Result<(), Fail> {
 #[test]
 fn a_dump_byte_by_byte(rt: HostRuntime) -> Result<(), Fail> {
     let alloc = rt.alloc();
-    let mut reader = DumpReader::new(alloc, "x")?;
-    for byte in DUMP {
-        reader.feed(&[*byte])?;
-    }
-    let dump = reader.finish()?;
+    let dump = read_bytes(alloc, DUMP)?;
     assert!(rt; dump.slot.as_str() == "x");
     assert!(rt; dump_text(alloc, &dump)?.as_str() == DUMP_SAYS);
+    Ok(())
+}
+
+#[test]
+fn objects_however_cut(rt: HostRuntime) -> Result<(), Fail> {
+    let alloc = rt.alloc();
+    let table: [(&[u8], &str); 4] = [
+        (
+            b"inetnum: 192.0.2.0 - 192.0.2.255\n\
+                geofeed: https://e.example/f.csv\n\
+                geofeed: https://e.example/g.csv\n",
+            "rpsl x 2 P04\nrpsl x 3 P04\n",
+        ),
+        (
+            b"inetnum: 192.0.2.0 - 192.0.2.255\n\
+                remarks: Geofeed https://e.example/f.csv\n\
+                remarks: Geofeed https://e.example/g.csv\n",
+            "rpsl x 2 P04\nrpsl x 3 P04\n",
+        ),
+        (
+            b"inetnum: 192.0.2.0 - 192.0.2.255\n\
+                geofeed: https://e.example/f.csv\n\
+                remarks: Geofeed https://e.example/g.csv\n",
+            "2 192.0.2.0-192.0.2.255 0 https://e.example/f.csv\nrpsl x 3 P10\n",
+        ),
+        (
+            b"inetnum: 192.0.2.0 - 192.0.2.255\n\
+                remarks: geofeed https://e.example/f.csv\n",
+            "",
+        ),
+    ];
+    for (text, wanted) in table {
+        let dump = read_bytes(alloc, text)?;
+        assert!(rt; dump_text(alloc, &dump)?.as_str() == wanted);
+        for cut in 0..text.len() {
+            let dump = read_in_two(alloc, &text[..cut], &text[cut..])?;
+            assert!(rt; dump_text(alloc, &dump)?.as_str() == wanted);
+        }
+    }
     Ok(())
 }
 

@@ -11,5 +11,7 @@ returns-in-Err c = bytes_refused c.args.text.now (c.in-Err.ensures.cases.0)
 
 pub returns-in-Ok : goal.returns-in-Ok
 returns-in-Ok c =
-    let is = text_read c.args.text.now c.in-Ok.ensures.cases.1 ∙ ap (λ t. parsed_read (parse_url None t)) (sym c.in-Ok.ensures.cases.0) in
+    let is =
+    text_read c.args.text.now c.in-Ok.ensures.cases.1
+    ∙ ap (λ t. parsed_read (parse_url None t)) (sym c.in-Ok.ensures.cases.0) in
     subst (λ v. IfOk c.parsed.result (λ read. read ≡ v)) (sym is) c.parsed.ensures

@@ -9,27 +9,60 @@ use Rattle.feed_refs.proofs.dump.DumpReader.feed.Goals as goal
 
 pub returns-in-Some-clause-read : goal.returns-in-Some-clause-read
 returns-in-Some-clause-read c = λ ne text h.
-    let k : Kept = record { reader = c.self.inside.reader; refs = c.self.inside.found.refs.items; notes = c.self.inside.found.notes.items } in
+    let k : Kept =
+    record {
+      reader = c.self.inside.reader;
+      refs = c.self.inside.found.refs.items;
+      notes = c.self.inside.found.notes.items;
+    } in
     (fault_read c.self.inside.slot c.in-Some.fault c.args.self.now (is_faulty c.self.inside.slot k c.self.inside.fault c.in-Some.fault c.in-Some.is c.args.self.now c.self.view_is) text c.args.piece.now h).0
 
 pub returns-in-Some-clause-answer : goal.returns-in-Some-clause-answer
 returns-in-Some-clause-answer c = λ ne text h.
-    let k : Kept = record { reader = c.self.inside.reader; refs = c.self.inside.found.refs.items; notes = c.self.inside.found.notes.items } in
+    let k : Kept =
+    record {
+      reader = c.self.inside.reader;
+      refs = c.self.inside.found.refs.items;
+      notes = c.self.inside.found.notes.items;
+    } in
     (fault_read c.self.inside.slot c.in-Some.fault c.args.self.now (is_faulty c.self.inside.slot k c.self.inside.fault c.in-Some.fault c.in-Some.is c.args.self.now c.self.view_is) text c.args.piece.now h).1
 
 pub read-requires : goal.read-requires
 read-requires c =
-    let k : Kept = record { reader = c.self.inside.reader; refs = c.self.inside.found.refs.items; notes = c.self.inside.found.notes.items } in
-    let few : k.reader.fed ≤ longest = fed-le-longest c.self.inside.slot k c.self.inside.fault c.in_default.is c.self.invariant.fed in
-    let is = cut_is k.reader.fed c.self.inside.fed c.saturating_sub.result c.args.piece.now c.first_bytes-within.result.now c.first_bytes-within.ensures c.saturating_sub.ensures c.self.invariant.counted in
-    let short : length c.first_bytes-within.result.now ≤ longest - k.reader.fed = length-cut-le k.reader.fed c.args.piece.now c.first_bytes-within.result.now is in
+    let k : Kept =
+    record {
+      reader = c.self.inside.reader;
+      refs = c.self.inside.found.refs.items;
+      notes = c.self.inside.found.notes.items;
+    } in
+    let few : k.reader.fed ≤ longest =
+    fed-le-longest c.self.inside.slot k c.self.inside.fault c.in_default.is
+    c.self.invariant.fed in
+    let is =
+    cut_is k.reader.fed c.self.inside.fed c.saturating_sub.result c.args.piece.now
+    c.first_bytes-within.result.now c.first_bytes-within.ensures c.saturating_sub.ensures
+    c.self.invariant.counted in
+    let short : length c.first_bytes-within.result.now ≤ longest - k.reader.fed =
+    length-cut-le k.reader.fed c.args.piece.now c.first_bytes-within.result.now is in
     omega arith
 
 pub invariant_of-self-then-len-gt-MOST : goal.invariant_of-self-then-len-gt-MOST
 invariant_of-self-then-len-gt-MOST c =
-    let k : Kept = record { reader = c.self.inside.reader; refs = c.self.inside.found.refs.items; notes = c.self.inside.found.notes.items } in
-    let is = cut_is k.reader.fed c.self.inside.fed c.saturating_sub.result c.args.piece.now c.first_bytes-within.result.now c.first_bytes-within.ensures c.saturating_sub.ensures c.self.invariant.counted in
-    let said = refs_are c.self.inside.slot c.items.result.now c.in_ok-progress.progress.found (given k.reader.state c.first_bytes-within.result.now) c.self.inside.selection c.items.ensures c.in_ok-progress.ensures.items c.self.invariant.asked c.in_ok-more.more.refs.items c.in_ok-more.ensures.refs in
+    let k : Kept =
+    record {
+      reader = c.self.inside.reader;
+      refs = c.self.inside.found.refs.items;
+      notes = c.self.inside.found.notes.items;
+    } in
+    let is =
+    cut_is k.reader.fed c.self.inside.fed c.saturating_sub.result c.args.piece.now
+    c.first_bytes-within.result.now c.first_bytes-within.ensures c.saturating_sub.ensures
+    c.self.invariant.counted in
+    let said =
+    refs_are c.self.inside.slot c.items.result.now c.in_ok-progress.progress.found
+    (given k.reader.state c.first_bytes-within.result.now) c.self.inside.selection
+    c.items.ensures c.in_ok-progress.ensures.items c.self.invariant.asked
+    c.in_ok-more.more.refs.items c.in_ok-more.ensures.refs in
     let over : most < length k.refs + length c.in_ok-more.more.refs.items = omega (arith, c.if-len-gt-MOST.true, c.len.ensures, c.len-2.ensures, c.self.inside.found.refs.ok, c.in_ok-more.more.refs.ok) in
     record {
       asked = c.self.invariant.asked;
@@ -39,25 +72,61 @@ invariant_of-self-then-len-gt-MOST c =
 
 pub returns-then-len-gt-MOST-clause-read : goal.returns-then-len-gt-MOST-clause-read
 returns-then-len-gt-MOST-clause-read c = λ ne text h.
-    let k : Kept = record { reader = c.self.inside.reader; refs = c.self.inside.found.refs.items; notes = c.self.inside.found.notes.items } in
-    let is = cut_is k.reader.fed c.self.inside.fed c.saturating_sub.result c.args.piece.now c.first_bytes-within.result.now c.first_bytes-within.ensures c.saturating_sub.ensures c.self.invariant.counted in
-    let said = refs_are c.self.inside.slot c.items.result.now c.in_ok-progress.progress.found (given k.reader.state c.first_bytes-within.result.now) c.self.inside.selection c.items.ensures c.in_ok-progress.ensures.items c.self.invariant.asked c.in_ok-more.more.refs.items c.in_ok-more.ensures.refs in
+    let k : Kept =
+    record {
+      reader = c.self.inside.reader;
+      refs = c.self.inside.found.refs.items;
+      notes = c.self.inside.found.notes.items;
+    } in
+    let is =
+    cut_is k.reader.fed c.self.inside.fed c.saturating_sub.result c.args.piece.now
+    c.first_bytes-within.result.now c.first_bytes-within.ensures c.saturating_sub.ensures
+    c.self.invariant.counted in
+    let said =
+    refs_are c.self.inside.slot c.items.result.now c.in_ok-progress.progress.found
+    (given k.reader.state c.first_bytes-within.result.now) c.self.inside.selection
+    c.items.ensures c.in_ok-progress.ensures.items c.self.invariant.asked
+    c.in_ok-more.more.refs.items c.in_ok-more.ensures.refs in
     let over : most < length k.refs + length c.in_ok-more.more.refs.items = omega (arith, c.if-len-gt-MOST.true, c.len.ensures, c.len-2.ensures, c.self.inside.found.refs.ok, c.in_ok-more.more.refs.ok) in
     (fault_found c.self.inside.slot k c.self.inside.fault c.in_default.is c.args.piece.now TooMany (leads_many c.self.inside.slot k c.args.piece.now c.first_bytes-within.result.now c.in_ok-more.more.refs.items is said over) c.args.self.now c.self.view_is text h).0
 
 pub returns-then-len-gt-MOST-clause-answer : goal.returns-then-len-gt-MOST-clause-answer
 returns-then-len-gt-MOST-clause-answer c = λ ne text h.
-    let k : Kept = record { reader = c.self.inside.reader; refs = c.self.inside.found.refs.items; notes = c.self.inside.found.notes.items } in
-    let is = cut_is k.reader.fed c.self.inside.fed c.saturating_sub.result c.args.piece.now c.first_bytes-within.result.now c.first_bytes-within.ensures c.saturating_sub.ensures c.self.invariant.counted in
-    let said = refs_are c.self.inside.slot c.items.result.now c.in_ok-progress.progress.found (given k.reader.state c.first_bytes-within.result.now) c.self.inside.selection c.items.ensures c.in_ok-progress.ensures.items c.self.invariant.asked c.in_ok-more.more.refs.items c.in_ok-more.ensures.refs in
+    let k : Kept =
+    record {
+      reader = c.self.inside.reader;
+      refs = c.self.inside.found.refs.items;
+      notes = c.self.inside.found.notes.items;
+    } in
+    let is =
+    cut_is k.reader.fed c.self.inside.fed c.saturating_sub.result c.args.piece.now
+    c.first_bytes-within.result.now c.first_bytes-within.ensures c.saturating_sub.ensures
+    c.self.invariant.counted in
+    let said =
+    refs_are c.self.inside.slot c.items.result.now c.in_ok-progress.progress.found
+    (given k.reader.state c.first_bytes-within.result.now) c.self.inside.selection
+    c.items.ensures c.in_ok-progress.ensures.items c.self.invariant.asked
+    c.in_ok-more.more.refs.items c.in_ok-more.ensures.refs in
     let over : most < length k.refs + length c.in_ok-more.more.refs.items = omega (arith, c.if-len-gt-MOST.true, c.len.ensures, c.len-2.ensures, c.self.inside.found.refs.ok, c.in_ok-more.more.refs.ok) in
     (fault_found c.self.inside.slot k c.self.inside.fault c.in_default.is c.args.piece.now TooMany (leads_many c.self.inside.slot k c.args.piece.now c.first_bytes-within.result.now c.in_ok-more.more.refs.items is said over) c.args.self.now c.self.view_is text h).1
 
 pub invariant_of-self-then-within-piece : goal.invariant_of-self-then-within-piece
 invariant_of-self-then-within-piece c =
-    let k : Kept = record { reader = c.self.inside.reader; refs = c.self.inside.found.refs.items; notes = c.self.inside.found.notes.items } in
-    let is = cut_is k.reader.fed c.self.inside.fed c.saturating_sub.result c.args.piece.now c.first_bytes-within.result.now c.first_bytes-within.ensures c.saturating_sub.ensures c.self.invariant.counted in
-    let said = refs_are c.self.inside.slot c.items.result.now c.in_ok-progress.progress.found (given k.reader.state c.first_bytes-within.result.now) c.self.inside.selection c.items.ensures c.in_ok-progress.ensures.items c.self.invariant.asked c.in_ok-more.more.refs.items c.in_ok-more.ensures.refs in
+    let k : Kept =
+    record {
+      reader = c.self.inside.reader;
+      refs = c.self.inside.found.refs.items;
+      notes = c.self.inside.found.notes.items;
+    } in
+    let is =
+    cut_is k.reader.fed c.self.inside.fed c.saturating_sub.result c.args.piece.now
+    c.first_bytes-within.result.now c.first_bytes-within.ensures c.saturating_sub.ensures
+    c.self.invariant.counted in
+    let said =
+    refs_are c.self.inside.slot c.items.result.now c.in_ok-progress.progress.found
+    (given k.reader.state c.first_bytes-within.result.now) c.self.inside.selection
+    c.items.ensures c.in_ok-progress.ensures.items c.self.invariant.asked
+    c.in_ok-more.more.refs.items c.in_ok-more.ensures.refs in
     let few : length k.refs + length c.in_ok-more.more.refs.items ≤ most = omega (arith, c.if-len-gt-MOST.false, c.len.ensures, c.len-2.ensures, c.self.inside.found.refs.ok, c.in_ok-more.more.refs.ok) in
     record {
       asked = c.self.invariant.asked;
@@ -67,34 +136,87 @@ invariant_of-self-then-within-piece c =
 
 pub returns-then-within-piece-clause-read : goal.returns-then-within-piece-clause-read
 returns-then-within-piece-clause-read c = λ ne text h.
-    let k : Kept = record { reader = c.self.inside.reader; refs = c.self.inside.found.refs.items; notes = c.self.inside.found.notes.items } in
-    let is = cut_is k.reader.fed c.self.inside.fed c.saturating_sub.result c.args.piece.now c.first_bytes-within.result.now c.first_bytes-within.ensures c.saturating_sub.ensures c.self.invariant.counted in
-    let said = refs_are c.self.inside.slot c.items.result.now c.in_ok-progress.progress.found (given k.reader.state c.first_bytes-within.result.now) c.self.inside.selection c.items.ensures c.in_ok-progress.ensures.items c.self.invariant.asked c.in_ok-more.more.refs.items c.in_ok-more.ensures.refs in
+    let k : Kept =
+    record {
+      reader = c.self.inside.reader;
+      refs = c.self.inside.found.refs.items;
+      notes = c.self.inside.found.notes.items;
+    } in
+    let is =
+    cut_is k.reader.fed c.self.inside.fed c.saturating_sub.result c.args.piece.now
+    c.first_bytes-within.result.now c.first_bytes-within.ensures c.saturating_sub.ensures
+    c.self.invariant.counted in
+    let said =
+    refs_are c.self.inside.slot c.items.result.now c.in_ok-progress.progress.found
+    (given k.reader.state c.first_bytes-within.result.now) c.self.inside.selection
+    c.items.ensures c.in_ok-progress.ensures.items c.self.invariant.asked
+    c.in_ok-more.more.refs.items c.in_ok-more.ensures.refs in
     let few : length k.refs + length c.in_ok-more.more.refs.items ≤ most = omega (arith, c.if-len-gt-MOST.false, c.len.ensures, c.len-2.ensures, c.self.inside.found.refs.ok, c.in_ok-more.more.refs.ok) in
     (fault_found c.self.inside.slot k c.self.inside.fault c.in_default.is c.args.piece.now TooLong (leads_long c.self.inside.slot k c.args.piece.now c.first_bytes-within.result.now c.in_ok-more.more.refs.items is said few c.if-within-piece.true) c.args.self.now c.self.view_is text h).0
 
 pub returns-then-within-piece-clause-answer : goal.returns-then-within-piece-clause-answer
 returns-then-within-piece-clause-answer c = λ ne text h.
-    let k : Kept = record { reader = c.self.inside.reader; refs = c.self.inside.found.refs.items; notes = c.self.inside.found.notes.items } in
-    let is = cut_is k.reader.fed c.self.inside.fed c.saturating_sub.result c.args.piece.now c.first_bytes-within.result.now c.first_bytes-within.ensures c.saturating_sub.ensures c.self.invariant.counted in
-    let said = refs_are c.self.inside.slot c.items.result.now c.in_ok-progress.progress.found (given k.reader.state c.first_bytes-within.result.now) c.self.inside.selection c.items.ensures c.in_ok-progress.ensures.items c.self.invariant.asked c.in_ok-more.more.refs.items c.in_ok-more.ensures.refs in
+    let k : Kept =
+    record {
+      reader = c.self.inside.reader;
+      refs = c.self.inside.found.refs.items;
+      notes = c.self.inside.found.notes.items;
+    } in
+    let is =
+    cut_is k.reader.fed c.self.inside.fed c.saturating_sub.result c.args.piece.now
+    c.first_bytes-within.result.now c.first_bytes-within.ensures c.saturating_sub.ensures
+    c.self.invariant.counted in
+    let said =
+    refs_are c.self.inside.slot c.items.result.now c.in_ok-progress.progress.found
+    (given k.reader.state c.first_bytes-within.result.now) c.self.inside.selection
+    c.items.ensures c.in_ok-progress.ensures.items c.self.invariant.asked
+    c.in_ok-more.more.refs.items c.in_ok-more.ensures.refs in
     let few : length k.refs + length c.in_ok-more.more.refs.items ≤ most = omega (arith, c.if-len-gt-MOST.false, c.len.ensures, c.len-2.ensures, c.self.inside.found.refs.ok, c.in_ok-more.more.refs.ok) in
     (fault_found c.self.inside.slot k c.self.inside.fault c.in_default.is c.args.piece.now TooLong (leads_long c.self.inside.slot k c.args.piece.now c.first_bytes-within.result.now c.in_ok-more.more.refs.items is said few c.if-within-piece.true) c.args.self.now c.self.view_is text h).1
 
 pub invariant_of-self-2 : goal.invariant_of-self-2
 invariant_of-self-2 c =
-    let k : Kept = record { reader = c.self.inside.reader; refs = c.self.inside.found.refs.items; notes = c.self.inside.found.notes.items } in
-    let is = cut_is k.reader.fed c.self.inside.fed c.saturating_sub.result c.args.piece.now c.first_bytes-within.result.now c.first_bytes-within.ensures c.saturating_sub.ensures c.self.invariant.counted in
-    let said = refs_are c.self.inside.slot c.items.result.now c.in_ok-progress.progress.found (given k.reader.state c.first_bytes-within.result.now) c.self.inside.selection c.items.ensures c.in_ok-progress.ensures.items c.self.invariant.asked c.in_ok-more.more.refs.items c.in_ok-more.ensures.refs in
-    let told = notes_are c.self.inside.slot c.items.result.now c.in_ok-progress.progress.found (given k.reader.state c.first_bytes-within.result.now) c.self.inside.selection c.items.ensures c.in_ok-progress.ensures.items c.self.invariant.asked c.in_ok-more.more.notes.items c.in_ok-more.ensures.notes in
+    let k : Kept =
+    record {
+      reader = c.self.inside.reader;
+      refs = c.self.inside.found.refs.items;
+      notes = c.self.inside.found.notes.items;
+    } in
+    let is =
+    cut_is k.reader.fed c.self.inside.fed c.saturating_sub.result c.args.piece.now
+    c.first_bytes-within.result.now c.first_bytes-within.ensures c.saturating_sub.ensures
+    c.self.invariant.counted in
+    let said =
+    refs_are c.self.inside.slot c.items.result.now c.in_ok-progress.progress.found
+    (given k.reader.state c.first_bytes-within.result.now) c.self.inside.selection
+    c.items.ensures c.in_ok-progress.ensures.items c.self.invariant.asked
+    c.in_ok-more.more.refs.items c.in_ok-more.ensures.refs in
+    let told =
+    notes_are c.self.inside.slot c.items.result.now c.in_ok-progress.progress.found
+    (given k.reader.state c.first_bytes-within.result.now) c.self.inside.selection
+    c.items.ensures c.in_ok-progress.ensures.items c.self.invariant.asked
+    c.in_ok-more.more.notes.items c.in_ok-more.ensures.notes in
     let few : length k.refs + length c.in_ok-more.more.refs.items ≤ most = omega (arith, c.if-len-gt-MOST.false, c.len.ensures, c.len-2.ensures, c.self.inside.found.refs.ok, c.in_ok-more.more.refs.ok) in
-    let next : Kept = record { reader = c.accept.new.self; refs = c.join.new.self.refs.items; notes = c.join.new.self.notes.items } in
-    let fed : next.reader.fed ≡ k.reader.fed + length c.first_bytes-within.result.now = ap (λ (r : Fed). r.fed) c.in_ok-accept.ensures.ok ∙ c.in_ok-progress.ensures.fed in
-    let leads = leads_on c.self.inside.slot k c.args.piece.now c.first_bytes-within.result.now c.in_ok-more.more.refs.items is said few c.if-within-piece.false
-    c.in_ok-more.more.notes.items told next fed (ap (λ (r : Fed). r.state) c.in_ok-accept.ensures.ok ∙ c.in_ok-progress.ensures.state)
+    let next : Kept =
+    record {
+      reader = c.accept.new.self;
+      refs = c.join.new.self.refs.items;
+      notes = c.join.new.self.notes.items;
+    } in
+    let fed : next.reader.fed ≡ k.reader.fed + length c.first_bytes-within.result.now =
+    ap (λ (r : Fed). r.fed) c.in_ok-accept.ensures.ok ∙ c.in_ok-progress.ensures.fed in
+    let leads =
+    leads_on c.self.inside.slot k c.args.piece.now c.first_bytes-within.result.now
+    c.in_ok-more.more.refs.items is said few c.if-within-piece.false
+    c.in_ok-more.more.notes.items told next fed
+    (ap (λ (r : Fed). r.state) c.in_ok-accept.ensures.ok ∙ c.in_ok-progress.ensures.state)
     (c.join.ensures.refs ∙ ap (λ t. t ++ c.in_ok-more.more.refs.items) c.reserve.ensures.refs) (c.join.ensures.notes ∙ ap (λ t. t ++ c.in_ok-more.more.notes.items) c.reserve.ensures.notes) in
-    let short : k.reader.fed ≤ longest = fed-le-longest c.self.inside.slot k c.self.inside.fault c.in_default.is c.self.invariant.fed in
-    let whole = is_whole k.reader.fed c.args.piece.now c.first_bytes-within.result.now short is c.if-within-piece.false in
+    let short : k.reader.fed ≤ longest =
+    fed-le-longest c.self.inside.slot k c.self.inside.fault c.in_default.is
+    c.self.invariant.fed in
+    let whole =
+    is_whole k.reader.fed c.args.piece.now c.first_bytes-within.result.now short is
+    c.if-within-piece.false in
     record {
       asked = c.self.invariant.asked;
       counted = omega (arith, fed, c.self.invariant.counted, ap length whole.1);
@@ -103,28 +225,78 @@ invariant_of-self-2 c =
 
 pub returns-clause-read : goal.returns-clause-read
 returns-clause-read c = λ ne text h.
-    let k : Kept = record { reader = c.self.inside.reader; refs = c.self.inside.found.refs.items; notes = c.self.inside.found.notes.items } in
-    let is = cut_is k.reader.fed c.self.inside.fed c.saturating_sub.result c.args.piece.now c.first_bytes-within.result.now c.first_bytes-within.ensures c.saturating_sub.ensures c.self.invariant.counted in
-    let said = refs_are c.self.inside.slot c.items.result.now c.in_ok-progress.progress.found (given k.reader.state c.first_bytes-within.result.now) c.self.inside.selection c.items.ensures c.in_ok-progress.ensures.items c.self.invariant.asked c.in_ok-more.more.refs.items c.in_ok-more.ensures.refs in
-    let told = notes_are c.self.inside.slot c.items.result.now c.in_ok-progress.progress.found (given k.reader.state c.first_bytes-within.result.now) c.self.inside.selection c.items.ensures c.in_ok-progress.ensures.items c.self.invariant.asked c.in_ok-more.more.notes.items c.in_ok-more.ensures.notes in
+    let k : Kept =
+    record {
+      reader = c.self.inside.reader;
+      refs = c.self.inside.found.refs.items;
+      notes = c.self.inside.found.notes.items;
+    } in
+    let is =
+    cut_is k.reader.fed c.self.inside.fed c.saturating_sub.result c.args.piece.now
+    c.first_bytes-within.result.now c.first_bytes-within.ensures c.saturating_sub.ensures
+    c.self.invariant.counted in
+    let said =
+    refs_are c.self.inside.slot c.items.result.now c.in_ok-progress.progress.found
+    (given k.reader.state c.first_bytes-within.result.now) c.self.inside.selection
+    c.items.ensures c.in_ok-progress.ensures.items c.self.invariant.asked
+    c.in_ok-more.more.refs.items c.in_ok-more.ensures.refs in
+    let told =
+    notes_are c.self.inside.slot c.items.result.now c.in_ok-progress.progress.found
+    (given k.reader.state c.first_bytes-within.result.now) c.self.inside.selection
+    c.items.ensures c.in_ok-progress.ensures.items c.self.invariant.asked
+    c.in_ok-more.more.notes.items c.in_ok-more.ensures.notes in
     let few : length k.refs + length c.in_ok-more.more.refs.items ≤ most = omega (arith, c.if-len-gt-MOST.false, c.len.ensures, c.len-2.ensures, c.self.inside.found.refs.ok, c.in_ok-more.more.refs.ok) in
-    let next : Kept = record { reader = c.accept.new.self; refs = c.join.new.self.refs.items; notes = c.join.new.self.notes.items } in
-    let fed : next.reader.fed ≡ k.reader.fed + length c.first_bytes-within.result.now = ap (λ (r : Fed). r.fed) c.in_ok-accept.ensures.ok ∙ c.in_ok-progress.ensures.fed in
-    let leads = leads_on c.self.inside.slot k c.args.piece.now c.first_bytes-within.result.now c.in_ok-more.more.refs.items is said few c.if-within-piece.false
-    c.in_ok-more.more.notes.items told next fed (ap (λ (r : Fed). r.state) c.in_ok-accept.ensures.ok ∙ c.in_ok-progress.ensures.state)
+    let next : Kept =
+    record {
+      reader = c.accept.new.self;
+      refs = c.join.new.self.refs.items;
+      notes = c.join.new.self.notes.items;
+    } in
+    let fed : next.reader.fed ≡ k.reader.fed + length c.first_bytes-within.result.now =
+    ap (λ (r : Fed). r.fed) c.in_ok-accept.ensures.ok ∙ c.in_ok-progress.ensures.fed in
+    let leads =
+    leads_on c.self.inside.slot k c.args.piece.now c.first_bytes-within.result.now
+    c.in_ok-more.more.refs.items is said few c.if-within-piece.false
+    c.in_ok-more.more.notes.items told next fed
+    (ap (λ (r : Fed). r.state) c.in_ok-accept.ensures.ok ∙ c.in_ok-progress.ensures.state)
     (c.join.ensures.refs ∙ ap (λ t. t ++ c.in_ok-more.more.refs.items) c.reserve.ensures.refs) (c.join.ensures.notes ∙ ap (λ t. t ++ c.in_ok-more.more.notes.items) c.reserve.ensures.notes) in
     (read_on c.self.inside.slot k c.self.inside.fault c.in_default.is c.args.piece.now next leads c.args.self.now c.self.view_is text h).0
 
 pub returns-clause-answer : goal.returns-clause-answer
 returns-clause-answer c = λ ne text h.
-    let k : Kept = record { reader = c.self.inside.reader; refs = c.self.inside.found.refs.items; notes = c.self.inside.found.notes.items } in
-    let is = cut_is k.reader.fed c.self.inside.fed c.saturating_sub.result c.args.piece.now c.first_bytes-within.result.now c.first_bytes-within.ensures c.saturating_sub.ensures c.self.invariant.counted in
-    let said = refs_are c.self.inside.slot c.items.result.now c.in_ok-progress.progress.found (given k.reader.state c.first_bytes-within.result.now) c.self.inside.selection c.items.ensures c.in_ok-progress.ensures.items c.self.invariant.asked c.in_ok-more.more.refs.items c.in_ok-more.ensures.refs in
-    let told = notes_are c.self.inside.slot c.items.result.now c.in_ok-progress.progress.found (given k.reader.state c.first_bytes-within.result.now) c.self.inside.selection c.items.ensures c.in_ok-progress.ensures.items c.self.invariant.asked c.in_ok-more.more.notes.items c.in_ok-more.ensures.notes in
+    let k : Kept =
+    record {
+      reader = c.self.inside.reader;
+      refs = c.self.inside.found.refs.items;
+      notes = c.self.inside.found.notes.items;
+    } in
+    let is =
+    cut_is k.reader.fed c.self.inside.fed c.saturating_sub.result c.args.piece.now
+    c.first_bytes-within.result.now c.first_bytes-within.ensures c.saturating_sub.ensures
+    c.self.invariant.counted in
+    let said =
+    refs_are c.self.inside.slot c.items.result.now c.in_ok-progress.progress.found
+    (given k.reader.state c.first_bytes-within.result.now) c.self.inside.selection
+    c.items.ensures c.in_ok-progress.ensures.items c.self.invariant.asked
+    c.in_ok-more.more.refs.items c.in_ok-more.ensures.refs in
+    let told =
+    notes_are c.self.inside.slot c.items.result.now c.in_ok-progress.progress.found
+    (given k.reader.state c.first_bytes-within.result.now) c.self.inside.selection
+    c.items.ensures c.in_ok-progress.ensures.items c.self.invariant.asked
+    c.in_ok-more.more.notes.items c.in_ok-more.ensures.notes in
     let few : length k.refs + length c.in_ok-more.more.refs.items ≤ most = omega (arith, c.if-len-gt-MOST.false, c.len.ensures, c.len-2.ensures, c.self.inside.found.refs.ok, c.in_ok-more.more.refs.ok) in
-    let next : Kept = record { reader = c.accept.new.self; refs = c.join.new.self.refs.items; notes = c.join.new.self.notes.items } in
-    let fed : next.reader.fed ≡ k.reader.fed + length c.first_bytes-within.result.now = ap (λ (r : Fed). r.fed) c.in_ok-accept.ensures.ok ∙ c.in_ok-progress.ensures.fed in
-    let leads = leads_on c.self.inside.slot k c.args.piece.now c.first_bytes-within.result.now c.in_ok-more.more.refs.items is said few c.if-within-piece.false
-    c.in_ok-more.more.notes.items told next fed (ap (λ (r : Fed). r.state) c.in_ok-accept.ensures.ok ∙ c.in_ok-progress.ensures.state)
+    let next : Kept =
+    record {
+      reader = c.accept.new.self;
+      refs = c.join.new.self.refs.items;
+      notes = c.join.new.self.notes.items;
+    } in
+    let fed : next.reader.fed ≡ k.reader.fed + length c.first_bytes-within.result.now =
+    ap (λ (r : Fed). r.fed) c.in_ok-accept.ensures.ok ∙ c.in_ok-progress.ensures.fed in
+    let leads =
+    leads_on c.self.inside.slot k c.args.piece.now c.first_bytes-within.result.now
+    c.in_ok-more.more.refs.items is said few c.if-within-piece.false
+    c.in_ok-more.more.notes.items told next fed
+    (ap (λ (r : Fed). r.state) c.in_ok-accept.ensures.ok ∙ c.in_ok-progress.ensures.state)
     (c.join.ensures.refs ∙ ap (λ t. t ++ c.in_ok-more.more.refs.items) c.reserve.ensures.refs) (c.join.ensures.notes ∙ ap (λ t. t ++ c.in_ok-more.more.notes.items) c.reserve.ensures.notes) in
     (read_on c.self.inside.slot k c.self.inside.fault c.in_default.is c.args.piece.now next leads c.args.self.now c.self.view_is text h).1
