@@ -18,9 +18,8 @@ use Rattle.geo_terms.specs.Report.{same_ends}
 use Rattle.geo_terms.specs.declared.place.Said.{Said}
 use Rattle.geo_terms.specs.declared.place.Said.TheVariants.{Nothing, At}
 use Rattle.csv_lines.specs.Repeats.{Rises, fate, fault_by, is_kept_by, kept, is_contradicted, is_repetition, repeat_faults, same_range, same_said}
-use Rattle.csv_lines.specs.Seen.{IsBelow, fate_by, more, shown, with_row}
+use Rattle.csv_lines.specs.Seen.{IsBelow, Shown, fate_by, more, shown, with_row}
 use Rattle.csv_lines.specs.declared.fate.Fate.{Fate}
-use Rattle.csv_lines.specs.declared.fate.Seen.{Seen}
 use Rattle.csv_lines.specs.declared.fate.RepeatRules.{RepeatRules}
 use Rattle.csv_lines.specs.declared.fate.Fate.TheVariants.{Kept, Repeats, Differs}
 
@@ -159,10 +158,10 @@ module _ {X : Type 0} (line : X → ℕ) (range : X → Ends) (said : X → Said
     abbrev differs_from : Said → X → Bool
     differs_from s y = of_range y && not (same_said (said y) s)
 
-    abbrev after : Option Seen → List X → Option Seen
+    abbrev after : Option Shown → List X → Option Shown
     after s xs = fold (λ s x. with_row line range said s x k) s xs
 
-    shown_some : (s : Seen) (xs : List X) → after (Some s) xs ≡ Some (record { line = s.line; said = s.said; differs = s.differs || list_any (differs_from s.said) xs })
+    shown_some : (s : Shown) (xs : List X) → after (Some s) xs ≡ Some (record { line = s.line; said = s.said; differs = s.differs || list_any (differs_from s.said) xs })
     shown_some s [] = ap Some (λ i. record { line = s.line; said = s.said; differs = sym (or_false s.differs) i })
     shown_some s (x ∷ xs) = some_step (of_range x) refl (shown_some s xs) (shown_some (more line range said (Some s) x) xs)
       where
@@ -173,7 +172,7 @@ module _ {X : Type 0} (line : X → ℕ) (range : X → Ends) (said : X → Said
         some_step true e without with_it = with_it ∙ ap Some (λ i. record { line = s.line; said = s.said; differs = or_assoc s.differs (not (same_said (said x) s.said)) (list_any (differs_from s.said) xs) i })
         some_step false e without with_it = without
 
-    abbrev summed : List X → X → Seen
+    abbrev summed : List X → X → Shown
     summed xs f = record { line = line f; said = said f; differs = list_any (differs_from (said f)) xs }
 
     shown_found : (xs : List X) (f : X) → find of_range xs ≡ Some f → after None xs ≡ Some (summed xs f)
@@ -238,7 +237,7 @@ module _ {X : Type 0} (line : X → ℕ) (range : X → Ends) (said : X → Said
       ∙ ap (λ b. cond (is_contradicted line range said all x) Differs (cond b Repeats Kept)) repeated
 
   -- one more line in the map
-  pub new_row : (old new : Ends → Option Seen) (x : X) (s : Seen) → old (range x) ≡ None → s ≡ more line range said None x
+  pub new_row : (old new : Ends → Option Shown) (x : X) (s : Shown) → old (range x) ≡ None → s ≡ more line range said None x
       → ((q : Ends) → new q ≡ cond (same_ends (range x) q) (Some s) (old q)) → (k : Ends) → new k ≡ with_row line range said (old k) x k
   new_row old new x s none is updates k = updates k ∙ by (same_ends (range x) k) refl
     where
@@ -265,31 +264,44 @@ module _ {X : Type 0} (line : X → ℕ) (range : X → Ends) (said : X → Said
   below_chain a b c (inr x) (inl y) = inl (omega (arith, x.0))
   below_chain a b c (inr x) (inr y) = inr (x.0 ∙ y.0, omega (arith, x.1, y.1))
 
+  -- no line has the range of another one
+  abbrev pub Apart : List X → Type 0
+  Apart all = AllPairs (λ x y. (same_ends (range x) (range y) ≡ false) × (same_ends (range y) (range x) ≡ false)) all
+
   abbrev Rising : List X → Type 0
   Rising all = AllPairs (λ x y. IsBelow (range x) (range y)) all
 
-  alone : (all : List X) → Rising all → (i : ℕ) (d : X) → i < length all → (q : X → Bool) → q (get_or all i d) ≡ false → list_any (λ y. same_range line range said y (get_or all i d) && q y) all ≡ false
-  alone all up i d l q fails = list_any_none _ all (λ j e m. elim (cases_order i j) [
+  rising_apart : (all : List X) → Rising all → Apart all
+  rising_apart all up i j d less m = below_apart (range (get_or all i d)) (range (get_or all j d)) (up i j d less m)
+
+  alone : (all : List X) → Apart all → (i : ℕ) (d : X) → i < length all → (q : X → Bool) → q (get_or all i d) ≡ false → list_any (λ y. same_range line range said y (get_or all i d) && q y) all ≡ false
+  alone all apart i d l q fails = list_any_none _ all (λ j e m. elim (cases_order i j) [
     | inl same ↦ let at : get_or all j e ≡ get_or all i d = rw (← same) (get_or_same all i e d l) in rw at (and_right (same_range line range said (get_or all i d) (get_or all i d)) (q (get_or all i d)) fails)
-    | inr apart ↦ elim apart [
-      | inl less ↦ and_left (same_range line range said (get_or all j e) (get_or all i d)) (q (get_or all j e)) (rw (get_or_same all i d e l) ((below_apart (range (get_or all i e)) (range (get_or all j e)) (up i j e less m)).1))
-      | inr more ↦ and_left (same_range line range said (get_or all j e) (get_or all i d)) (q (get_or all j e)) (rw (get_or_same all i d e l) ((below_apart (range (get_or all j e)) (range (get_or all i e)) (up j i e more l)).0))
+    | inr other ↦ elim other [
+      | inl less ↦ and_left (same_range line range said (get_or all j e) (get_or all i d)) (q (get_or all j e)) (rw (get_or_same all i d e l) ((apart i j e less m).1))
+      | inr more ↦ and_left (same_range line range said (get_or all j e) (get_or all i d)) (q (get_or all j e)) (rw (get_or_same all i d e l) ((apart j i e more l).0))
     ]
   ])
 
-  each_kept : (all : List X) → Rising all → All (λ x. fate line range said all x ≡ Kept) all
+  each_kept : (all : List X) → Apart all → All (λ x. fate line range said all x ≡ Kept) all
   unfolding fate
-  each_kept all up i d l =
+  each_kept all apart i d l =
       let x = get_or all i d in
-      let one = alone all up i d l (λ y. not (same_said (said y) (said x))) (rw (said_itself (said x)) refl) in
-      let two = alone all up i d l (λ y. ltb (line y) (line x)) (le-ltb (line x) (line x) (omega arith)) in
+      let one = alone all apart i d l (λ y. not (same_said (said y) (said x))) (rw (said_itself (said x)) refl) in
+      let two = alone all apart i d l (λ y. ltb (line y) (line x)) (le-ltb (line x) (line x) (omega arith)) in
       rw (one, two) refl
 
+  pub apart_kept : (all : List X) → Apart all → kept line range said all ≡ all
+  apart_kept all apart = filter_whole (λ x. is_kept_by (fate line range said all x)) all (All-weaker (λ x. fate line range said all x ≡ Kept) (λ x. is_kept_by (fate line range said all x) ≡ true) (λ x (e : fate line range said all x ≡ Kept). rw e refl) all (each_kept all apart))
+
+  pub apart_silent : (rules : RepeatRules) (all : List X) → Apart all → repeat_faults line range said rules all ≡ []
+  apart_silent rules all apart = filter_map_none (λ x. fault_by rules (line x) (fate line range said all x)) all (All-weaker (λ x. fate line range said all x ≡ Kept) (λ x. fault_by rules (line x) (fate line range said all x) ≡ None) (λ x (e : fate line range said all x ≡ Kept). rw e refl) all (each_kept all apart))
+
   pub all_kept : (all : List X) → Rising all → kept line range said all ≡ all
-  all_kept all up = filter_whole (λ x. is_kept_by (fate line range said all x)) all (All-weaker (λ x. fate line range said all x ≡ Kept) (λ x. is_kept_by (fate line range said all x) ≡ true) (λ x (e : fate line range said all x ≡ Kept). rw e refl) all (each_kept all up))
+  all_kept all up = apart_kept all (rising_apart all up)
 
   pub none_repeats : (rules : RepeatRules) (all : List X) → Rising all → repeat_faults line range said rules all ≡ []
-  none_repeats rules all up = filter_map_none (λ x. fault_by rules (line x) (fate line range said all x)) all (All-weaker (λ x. fate line range said all x ≡ Kept) (λ x. fault_by rules (line x) (fate line range said all x) ≡ None) (λ x (e : fate line range said all x ≡ Kept). rw e refl) all (each_kept all up))
+  none_repeats rules all up = apart_silent rules all (rising_apart all up)
 
   pub rising_more : (rows : List X) (i : ℕ) (x : X) (before : Option Ends) → i < length rows → x ≡ get_or rows i x → Rising (take i rows)
       → MatchOption before (i ≡ 0) (λ b. (0 < i) × ((d : X) → range (get_or rows (i - 1) d) ≡ b)) → MatchOption before (Unit {0}) (λ b. IsBelow b (range x)) → Rising (take (i + 1) rows)

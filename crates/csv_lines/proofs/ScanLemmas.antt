@@ -1,7 +1,9 @@
 -- One byte of the scan: whether a text passes is whether what follows the byte passes from the next spot.
-use Rattle.std.proofs.Common.{◌≡◌, ℕ, Bool, true, false, cond, ◌&&◌, List, ◌∷◌, Option, Some, None, refl, ap, ne_eqb}
-use Rattle.std.specs.Prelude.{is_some, option_map}
+use Rattle.std.proofs.Common.{◌≡◌, ℕ, suc, ◌<◌, Bool, true, false, cond, ◌&&◌, ◌==◌, List, [], ◌∷◌, length, Option, Some, None, refl, sym, ap, ◌∙◌, ne_eqb, arith}
+use Rattle.std.specs.Prelude.{is_some, option_map, slice_index}
 use Rattle.std.specs.List.{list_all}
+use Rattle.std.proofs.lemmas.Bool.{eq-eqb, eqb-true}
+use Rattle.memchr.specs.Find.{Nowhere, Passes, is_byte3}
 use Rattle.csv_lines.specs.Fields.{fields, is_inner, passes, scan, with_byte, with_plain, with_quoted, values_of, value}
 use Rattle.csv_lines.specs.declared.scan.Spot.{Spot}
 use Rattle.csv_lines.specs.declared.scan.Spot.TheVariants.{Start, Inside, Within, Closed}
@@ -78,3 +80,32 @@ has_values text = by (list_all is_inner text)
     by : (x : Bool) → is_some (cond x (option_map (Rattle.std.specs.Prelude.map value) (fields text)) None) ≡ (x && is_some (scan Start text))
     by true = is_some-map _ (fields text)
     by false = refl
+
+-- without quotes and line ends a text passes from the start of a field, and inside a plain one
+bare : (text : List ℕ) → ((k : ℕ) → k < length text → is_byte3 34 10 13 (slice_index text k) ≡ true → ⊥)
+    → (passes Start text ≡ true) × (passes Inside text ≡ true)
+unfolding scan
+bare [] free = (refl, refl)
+bare (b ∷ bs) free = by (bare bs (λ k below is. free (suc k) (omega arith) is)) (b == 44) refl
+  where
+    no : is_byte3 34 10 13 b ≡ true → ⊥
+    no is = free 0 (omega arith) is
+
+    q : b ≡ 34 → ⊥
+    q e = no (rw e refl)
+
+    n : b ≡ 10 → ⊥
+    n e = no (rw e refl)
+
+    r : b ≡ 13 → ⊥
+    r e = no (rw e refl)
+
+    by : (passes Start bs ≡ true) × (passes Inside bs ≡ true) → (x : Bool) → (b == 44) ≡ x
+        → (passes Start (b ∷ bs) ≡ true) × (passes Inside (b ∷ bs) ≡ true)
+    by left true is = (start_comma Start b refl (eqb-true b 44 is) bs ∙ left.0, inside_comma Inside b refl (eqb-true b 44 is) bs ∙ left.0)
+    by left false is =
+        let d : b ≡ 44 → ⊥ = λ e. let f : true ≡ false = sym (eq-eqb b 44 e) ∙ is in absurd cc in
+        (start_other Start b refl n r q d bs ∙ left.1, inside_other Inside b refl n r q d bs ∙ left.1)
+
+pub bare_passes : (text : List ℕ) → Nowhere (Passes (is_byte3 34 10 13) text) 0 (length text) → passes Start text ≡ true
+bare_passes text none = (bare text (λ k below is. none k (omega arith) below is)).0

@@ -26,7 +26,7 @@ at_seam (x ∷ xs) b ys =
     let step : suc (length xs) + 1 ≡ suc (length xs + 1) = omega arith in
     (ap (λ t. x ∷ t) before, rw step after, at, omega (arith, within))
 
-cut_ascii : (xs : List ℕ) (b : ℕ) (ys : List ℕ) → b < 128 → IsUtf8 (xs ++ (b ∷ ys)) → IsUtf8 xs × IsUtf8 ys
+pub cut_ascii : (xs : List ℕ) (b : ℕ) (ys : List ℕ) → b < 128 → IsUtf8 (xs ++ (b ∷ ys)) → IsUtf8 xs × IsUtf8 ys
 cut_ascii xs b ys ascii u =
     let (before, after, at, within) = at_seam xs b ys in
     let text = xs ++ (b ∷ ys) in
@@ -299,7 +299,7 @@ inner_of rest vs e = by (list_all is_inner rest) refl e
     by true i h = (i, h)
     by false i h = absurd cc
 
-both_all : (p q : ℕ → Bool) (xs : List ℕ) → list_all p xs ≡ true → list_all q xs ≡ true → list_all (λ b. p b && q b) xs ≡ true
+pub both_all : (p q : ℕ → Bool) (xs : List ℕ) → list_all p xs ≡ true → list_all q xs ≡ true → list_all (λ b. p b && q b) xs ≡ true
 both_all p q [] e f = refl
 both_all p q (x ∷ xs) e f =
     let (one, more) = and_parts (p x) (list_all p xs) e in

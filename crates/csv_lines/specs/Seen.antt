@@ -1,10 +1,9 @@
 -- How lines of the same range are found: by the first line of each range.
-use Rattle.std.specs.Prelude.{◌≡◌, ℕ, ◌<◌, ◌⊎◌, false, not, ◌||◌, nat_lt, List, fold, Option, Some, None, if◌then◌else◌}
+use Rattle.std.specs.Prelude.{◌≡◌, ℕ, ◌<◌, ◌⊎◌, Bool, false, not, ◌||◌, nat_lt, List, fold, Option, Some, None, if◌then◌else◌}
 use Rattle.geo_addr.specs.Ranges.{Ends}
 use Rattle.geo_terms.specs.Report.{same_ends}
 use Rattle.geo_terms.specs.declared.place.Said.{Said}
 use Rattle.csv_lines.specs.Repeats.{same_said}
-use Rattle.csv_lines.specs.declared.fate.Seen.{Seen}
 use Rattle.csv_lines.specs.declared.fate.Fate.{Fate}
 use Rattle.csv_lines.specs.declared.fate.Fate.TheVariants.{Kept, Repeats, Differs}
 
@@ -12,21 +11,27 @@ use Rattle.csv_lines.specs.declared.fate.Fate.TheVariants.{Kept, Repeats, Differ
 abbrev pub IsBelow : Ends → Ends → Type 0
 IsBelow a b = (a.first < b.first) ⊎ ((a.first ≡ b.first) × (a.last < b.last))
 
+-- the first line of a range, what it says, and whether a later one says something else
+pub record Shown : Type 0 where
+  pub line : ℕ
+  pub said : Said
+  pub differs : Bool
+
 -- what becomes of a line whose range shows this
-abbrev pub fate_by : Option Seen → ℕ → Fate
+abbrev pub fate_by : Option Shown → ℕ → Fate
 fate_by None line = Kept
 fate_by (Some s) line = if s.differs then Differs else (if nat_lt s.line line then Repeats else Kept)
 
 module _ {X : Type 0} (line : X → ℕ) (range : X → Ends) (said : X → Said) where
   -- what is shown with one more line of the range
-  abbrev pub more : Option Seen → X → Seen
+  abbrev pub more : Option Shown → X → Shown
   more None x = record { line = line x; said = said x; differs = false }
   more (Some s) x = record { line = s.line; said = s.said; differs = s.differs || not (same_said (said x) s.said) }
 
   -- what is shown of a range with one more line
-  abbrev pub with_row : Option Seen → X → Ends → Option Seen
+  abbrev pub with_row : Option Shown → X → Ends → Option Shown
   with_row s x k = if same_ends (range x) k then Some (more s x) else s
 
   -- what lines show of a range
-  abbrev pub shown : List X → Ends → Option Seen
+  abbrev pub shown : List X → Ends → Option Shown
   shown rows k = fold (λ s x. with_row s x k) None rows

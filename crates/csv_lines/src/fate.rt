@@ -14,6 +14,7 @@ use geo_addr::{Memory, Range, range_of};
 use geo_terms::{Entry, Override, Rule, Said};
 use indexmap::IndexMap;
 use std::alloc::Global;
+use std::marker::Model;
 
 /// A line that was accepted: what it is about and what it says.
 pub trait Accepted {
@@ -178,17 +179,25 @@ fn fates<T: Accepted>(alloc: Global, rows: &[T]) -> Result<Vec<Fate>, Memory>
 
 // The first line of a range, and whether a later one differs from it.
 #[derive(Debug, Drop)]
-struct Seen {
+struct Seen<'a> {
     line: u64,
-    said: Said,
+    said: &'a Said,
     differs: bool,
 }
 
+impl<'a> Model for Seen<'a> {
+    ghost use Rattle.csv_lines.specs.Seen.{Shown};
+
+    ghost Value = { Shown };
+
+    ghost view = { λ s. record { line = s.line; said = s.said.now; differs = s.differs } };
+}
+
 // What the lines show, by their ranges.
-fn seen_in<T: Accepted>(alloc: Global, rows: &[T]) -> Result<IndexMap<Range, Seen>, Memory>
+fn seen_in<T: Accepted>(alloc: Global, rows: &[T]) -> Result<IndexMap<Range, Seen<'_>>, Memory>
     ensures { IfOk result (λ seen. (k : Ends) → get same_ends seen k ≡ shown T.line T.range T.said rows.now k) }
 {
-    let mut seen: IndexMap<Range, Seen> = IndexMap::with_capacity(alloc, rows.len())?;
+    let mut seen: IndexMap<Range, Seen<'_>> = IndexMap::with_capacity(alloc, rows.len())?;
     for row in rows {
         see(&mut seen, row)?;
     }
@@ -196,38 +205,25 @@ fn seen_in<T: Accepted>(alloc: Global, rows: &[T]) -> Result<IndexMap<Range, See
 }
 
 // Takes one more line.
-fn see<T: Accepted>(seen: &mut IndexMap<Range, Seen>, row: &T) -> Result<(), Memory>
+fn see<'a, T: Accepted>(seen: &mut IndexMap<Range, Seen<'a>>, row: &'a T) -> Result<(), Memory>
     ensures { (k : Ends) → OnOk result (get same_ends seen.new k ≡ with_row T.line T.range T.said (get same_ends seen.old k) row.now k) }
 {
     let range = row.range();
     if let Some(found) = seen.get_mut(&range) {
-        if !says_same(row.said(), &found.said) {
+        if !says_same(row.said(), found.said) {
             found.differs = true;
         }
         return Ok(());
     }
     let first = Seen {
         line: row.line(),
-        said: said_again(row.said())?,
+        said: row.said(),
         differs: false,
     };
     let Ok(_) = seen.insert(range, first) else {
         return Err(Memory);
     };
     Ok(())
-}
-
-// A second copy of what a line says.
-fn said_again(said: &Said) -> Result<Said, Memory>
-    ensures { IfOk result (λ copy. copy ≡ said.now) }
-{
-    match said {
-        Said::Nothing => Ok(Said::Nothing),
-        Said::At(place) => {
-            let place = place.copied()?;
-            Ok(Said::At(place))
-        }
-    }
 }
 
 fn says_same(one: &Said, other: &Said) -> bool
@@ -245,13 +241,13 @@ fn says_same(one: &Said, other: &Said) -> bool
     }
 }
 
-fn fate_in<T: Accepted>(seen: &IndexMap<Range, Seen>, row: &T) -> Fate
+fn fate_in<T: Accepted>(seen: &IndexMap<Range, Seen<'_>>, row: &T) -> Fate
     ensures { result ≡ fate_by (get same_ends seen.now (T.range row.now)) (T.line row.now) }
 {
     fate_of(seen.get(&row.range()), row.line())
 }
 
-fn fate_of(seen: Option<&Seen>, line: u64) -> Fate
+fn fate_of(seen: Option<&Seen<'_>>, line: u64) -> Fate
     ensures { result ≡ fate_by (option_copied seen.entry) line }
 {
     let Some(seen) = seen else {

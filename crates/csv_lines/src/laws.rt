@@ -1,5 +1,5 @@
 //! Laws over the definitions alone.
-ghost use Rattle.csv_lines.specs.Clean.{FieldsAreTexts};
+ghost use Rattle.csv_lines.specs.Clean.{FieldsAreTexts, PlacesAreClean};
 ghost use Rattle.csv_lines.specs.FieldsLaw.{FieldsAreUnique};
 
 /// The fields of a text are the only list of plain and quoted fields that, joined with commas, is the text.
@@ -11,4 +11,9 @@ pub fn fields_are_unique()
 /// ends.
 pub fn fields_are_texts()
     ensures { FieldsAreTexts }
+{}
+
+/// Nor has any text of the place that such fields make.
+pub fn places_are_clean()
+    ensures { PlacesAreClean }
 {}

@@ -1,7 +1,9 @@
 //! Whether a text is fields with commas between them.
-ghost use Rattle.std.specs.Prelude.{◌≡◌, ℕ, [], ◌∷◌, List, MatchOption, false, is_some};
+ghost use Rattle.std.specs.Prelude.{◌≡◌, ℕ, [], ◌∷◌, List, MatchOption, IsTrue, false, is_some};
 ghost use Rattle.csv_lines.specs.Fields.{passes, values_of};
 ghost use Rattle.csv_lines.specs.declared.scan.Spot.TheVariants.{Start};
+
+use memchr::memchr3;
 
 /// Where a text stands, byte by byte.
 #[derive(Clone, Copy, Debug)]
@@ -21,7 +23,21 @@ pub(crate) enum Spot {
 pub fn has_fields(text: &[u8]) -> bool
     ensures { result ≡ is_some (values_of text.now) }
 {
+    if is_bare(text) {
+        return true;
+    }
     passes(text)
+}
+
+// Whether a text has neither quotes nor line ends, as most have: then it has fields.
+#[tactic(auto, using(crate::proofs::ScanLemmas::bare_passes))]
+fn is_bare(text: &[u8]) -> bool
+    ensures { IsTrue result → IsTrue (passes Start text.now) }
+{
+    match memchr3(b'"', b'\n', b'\r', text) {
+        Some(_) => false,
+        None => true,
+    }
 }
 
 fn passes(text: &[u8]) -> bool

@@ -1,5 +1,5 @@
 -- What a feed says (RFC 8805).
-use Rattle.std.specs.Prelude.{ℕ, List, map, filter_map, Option, None, Some}
+use Rattle.std.specs.Prelude.{ℕ, List, All, map, filter_map, Option, None, Some}
 use Rattle.geo_addr.specs.Lines.{numbered_lines}
 use Rattle.geo_addr.specs.Ranges.{Ends, range_of_block}
 use Rattle.geo_terms.specs.SourceForm.{FeedParts}
@@ -8,6 +8,7 @@ use Rattle.geo_terms.specs.declared.note.Origin.TheVariants.{Feed}
 use Rattle.geo_terms.specs.declared.note.Rule.TheVariants.{F07, F08}
 use Rattle.geo_terms.specs.declared.place.Said.{Said}
 use Rattle.geo_terms.specs.declared.statement.Entry.{Entry}
+use Rattle.csv_lines.specs.Clean.{IsCleanSaid}
 use Rattle.csv_lines.specs.Repeats.{fate, fault_by, kept}
 use Rattle.csv_lines.specs.declared.fate.RepeatRules.{RepeatRules}
 use Rattle.csv_lines.specs.declared.fault.Fault.{Fault}
@@ -69,6 +70,10 @@ note_of url fault = record { origin = Feed url; line = fault.line; rule = fault.
 -- the entries of a file, in line order
 abbrev pub entries : List ℕ → List Entry
 entries file = kept entry_line entry_range entry_said (accepted file)
+
+-- no text of these entries has a `#`, a line end, or a blank at an end
+abbrev pub AreClean : List Entry → Type 0
+AreClean es = All (λ e. IsCleanSaid e.said) es
 
 -- the notes on a file, in line order
 abbrev pub notes : (url file : List ℕ) → List Note

@@ -1,7 +1,7 @@
 //! A feed.
 ghost use Rattle.std.specs.Prelude.{◌≡◌, ◌≢◌, ◌<◌, ◌≤◌, ◌↔◌, ◌++◌, ℕ, List, Some, length, map, IfOk, IsSome, OnOk, option_to_list};
 ghost use Rattle.csv_lines.specs.Rests.{CanRead, Stands, handed};
-ghost use Rattle.feed_csv.specs.File.{accepted, refused, entry_of, fault_of, feed, longest, most, note_of};
+ghost use Rattle.feed_csv.specs.File.{AreClean, accepted, refused, entry_of, fault_of, feed, longest, most, note_of};
 
 use crate::verdict::{Verdict, read_line};
 use csv::{ByteRecord, Reader};
@@ -22,6 +22,7 @@ const MOST: usize = 2_097_152;
 /// pass the rules of a line by itself.
 pub fn read_feed(alloc: Global, url: &str, bytes: &[u8]) -> Result<Feed, SourceFault>
     ensures read { IfOk result (λ found. found ≡ feed url.now bytes.now) }
+    ensures clean { IfOk result (λ found. AreClean found.entries) }
     ensures within { OnOk result (length (accepted bytes.now) ≤ most) }
     ensures too_long { (result ≡ Err SourceFault.TooLong) ↔ (longest < length bytes.now) }
     ensures too_many { result ≡ Err SourceFault.TooMany → most < length (accepted bytes.now) }

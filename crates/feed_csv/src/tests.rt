@@ -108,13 +108,17 @@ fn one_line(rt: HostRuntime) -> Result<(), Fail> {
 #[test]
 fn lines_of_one_prefix(rt: HostRuntime) -> Result<(), Fail> {
     let alloc = rt.alloc();
-    let table: [(&[u8], &str); 6] = [
+    let table: [(&[u8], &str); 7] = [
         (
             b"10.0.0.0/8,FR\n10.0.0.0/8,DE\n10.0.0.0/8,DE\n10.0.0.0/8,DE",
             "feed u 1 F08\nfeed u 2 F08\nfeed u 3 F08\nfeed u 4 F08\n",
         ),
         (
             b"10.0.0.0/8,DE\n10.0.0.0/8,FR\n10.0.0.0/8,DE\n10.0.0.0/8,DE",
+            "feed u 1 F08\nfeed u 2 F08\nfeed u 3 F08\nfeed u 4 F08\n",
+        ),
+        (
+            b"10.0.0.0/8,DE\n10.0.0.0/8,DE\n10.0.0.0/8,FR\n10.0.0.0/8,DE",
             "feed u 1 F08\nfeed u 2 F08\nfeed u 3 F08\nfeed u 4 F08\n",
         ),
         (

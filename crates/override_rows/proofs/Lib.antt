@@ -1,1 +1,2 @@
+mod CleanLemmas
 pub mod FileLemmas

@@ -1,5 +1,5 @@
 -- What a file of overrides says.
-use Rattle.std.specs.Prelude.{ℕ, List, map, filter_map, Option, None, Some}
+use Rattle.std.specs.Prelude.{ℕ, List, All, map, filter_map, Option, None, Some}
 use Rattle.geo_addr.specs.Lines.{numbered_lines}
 use Rattle.geo_addr.specs.Ranges.{Ends}
 use Rattle.geo_terms.specs.SourceForm.{OverridesParts}
@@ -8,6 +8,7 @@ use Rattle.geo_terms.specs.declared.note.Origin.TheVariants.{Overrides}
 use Rattle.geo_terms.specs.declared.note.Rule.TheVariants.{O07, O08}
 use Rattle.geo_terms.specs.declared.place.Said.{Said}
 use Rattle.geo_terms.specs.declared.statement.Override.{Override}
+use Rattle.csv_lines.specs.Clean.{IsCleanSaid}
 use Rattle.csv_lines.specs.Repeats.{fate, fault_by, kept}
 use Rattle.csv_lines.specs.declared.fate.RepeatRules.{RepeatRules}
 use Rattle.csv_lines.specs.declared.fault.Fault.{Fault}
@@ -69,6 +70,10 @@ note_of fault = record { origin = Overrides; line = fault.line; rule = fault.rul
 -- the rows of a file that speak, in line order
 abbrev pub rows : List ℕ → List Override
 rows file = kept row_line row_range row_said (accepted file)
+
+-- no text of these rows has a `#`, a line end, or a blank at an end
+abbrev pub AreClean : List Override → Type 0
+AreClean rs = All (λ r. IsCleanSaid r.said) rs
 
 -- the notes on a file, in line order
 abbrev pub notes : List ℕ → List Note

@@ -1,7 +1,7 @@
 //! A file of overrides.
 ghost use Rattle.std.specs.Prelude.{◌≡◌, ◌≢◌, ◌<◌, ◌≤◌, ◌↔◌, ◌++◌, ℕ, List, Some, length, map, IfOk, IsSome, OnOk, option_to_list};
 ghost use Rattle.csv_lines.specs.Rests.{CanRead, Stands, handed};
-ghost use Rattle.override_rows.specs.File.{accepted, refused, row_of_line, fault_of, longest, most, note_of, overrides};
+ghost use Rattle.override_rows.specs.File.{AreClean, accepted, refused, row_of_line, fault_of, longest, most, note_of, overrides};
 
 use crate::verdict::{Verdict, read_line};
 use csv::{ByteRecord, Reader};
@@ -22,6 +22,7 @@ const MOST: usize = 2_097_152;
 /// pass the rules of a line by itself.
 pub fn read_overrides(alloc: Global, bytes: &[u8]) -> Result<Overrides, SourceFault>
     ensures read { IfOk result (λ found. found ≡ overrides bytes.now) }
+    ensures clean { IfOk result (λ found. AreClean found.rows) }
     ensures within { OnOk result (length (accepted bytes.now) ≤ most) }
     ensures too_long { (result ≡ Err SourceFault.TooLong) ↔ (longest < length bytes.now) }
     ensures too_many { result ≡ Err SourceFault.TooMany → most < length (accepted bytes.now) }

@@ -3,7 +3,8 @@ use Rattle.std.proofs.Common.{◌∙◌, ap, sym, subst, map, List}
 use Rattle.geo_terms.specs.declared.statement.Entry.{Entry}
 use Rattle.csv_lines.specs.Repeats.{Rises, kept, merged, repeat_faults}
 use Rattle.csv_lines.specs.declared.fault.Fault.{Fault}
-use Rattle.feed_csv.specs.File.{accepted, entry_line, entry_range, entry_said, note_of, repeat_rules}
+use Rattle.feed_csv.specs.File.{AreClean, accepted, entry_line, entry_range, entry_said, note_of, repeat_rules}
+use Rattle.feed_csv.proofs.CleanLemmas.{entries_clean}
 use Rattle.feed_csv.proofs.FileLemmas.{all_rise, faults_are, feed_in_form}
 use Rattle.feed_csv.proofs.read.read_feed.Goals as goal
 
@@ -36,3 +37,8 @@ returns-clause-read c =
     c.of-3.ensures ∙ c.in_ok-notes.ensures ∙ ap (λ u. map (note_of u) c.as_slice.result.now) c.in_ok-url.ensures
     ∙ ap (λ (fs : List Fault). map (note_of c.args.url.now) fs) faults in
     λ i. record { url = url i; entries = entries i; notes = notes i }
+
+pub returns-clause-clean : goal.returns-clause-clean
+returns-clause-clean c =
+    let entries = c.of-2.ensures ∙ c.in_ok-judged.ensures.rows ∙ ap (λ (es : List Entry). kept entry_line entry_range entry_said es) c.in_ok-found.ensures.entries in
+    subst AreClean (sym entries) (entries_clean c.args.bytes.now)

@@ -3,7 +3,8 @@ use Rattle.std.proofs.Common.{◌∙◌, ap, sym, subst, map, List}
 use Rattle.geo_terms.specs.declared.statement.Override.{Override}
 use Rattle.csv_lines.specs.Repeats.{Rises, kept, merged, repeat_faults}
 use Rattle.csv_lines.specs.declared.fault.Fault.{Fault}
-use Rattle.override_rows.specs.File.{accepted, note_of, repeat_rules, row_line, row_range, row_said}
+use Rattle.override_rows.specs.File.{AreClean, accepted, note_of, repeat_rules, row_line, row_range, row_said}
+use Rattle.override_rows.proofs.CleanLemmas.{rows_clean}
 use Rattle.override_rows.proofs.FileLemmas.{all_rise, faults_are, overrides_in_form}
 use Rattle.override_rows.proofs.read.read_overrides.Goals as goal
 
@@ -31,3 +32,8 @@ returns-clause-read c =
     ∙ faults_are c.args.bytes.now in
     let notes = c.of-2.ensures ∙ c.in_ok-notes.ensures ∙ ap (λ (fs : List Fault). map note_of fs) faults in
     λ i. record { rows = rows i; notes = notes i }
+
+pub returns-clause-clean : goal.returns-clause-clean
+returns-clause-clean c =
+    let rows = c.of.ensures ∙ c.in_ok-judged.ensures.rows ∙ ap (λ (rs : List Override). kept row_line row_range row_said rs) c.in_ok-found.ensures.rows in
+    subst AreClean (sym rows) (rows_clean c.args.bytes.now)
