@@ -42,7 +42,8 @@ is_summary_line _ = false
 -- these are the fields of a record: registry, country, type, start, value, date, status, and any more
 abbrev pub IsRecord : List (List ℕ) → Record → Type 0
 IsRecord (registry ∷ country ∷ kind ∷ start ∷ value ∷ date ∷ status ∷ more) r =
-    (r.country.now ≡ country) × (r.kind.now ≡ kind) × (r.start.now ≡ start) × (r.value.now ≡ value) × (r.status.now ≡ status)
+    (r.registry.now ≡ registry) × (r.country.now ≡ country) × (r.kind.now ≡ kind) × (r.start.now ≡ start)
+    × (r.value.now ≡ value) × (r.date.now ≡ date) × (r.status.now ≡ status)
 IsRecord _ r = ⊥
 
 -- there are fewer than seven

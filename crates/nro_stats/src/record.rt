@@ -1,5 +1,5 @@
 //! The fields of a line.
-ghost use Rattle.std.specs.Prelude.{◌≡◌, ◌∷◌, ◌&&◌, [], false, codes, MatchOption};
+ghost use Rattle.std.specs.Prelude.{◌≡◌, ◌∷◌, ◌&&◌, ◌||◌, [], false, codes, MatchOption};
 ghost use Rattle.std.specs.Char.{is_ascii_digit};
 ghost use Rattle.std.specs.List.{list_all};
 ghost use Rattle.std.specs.Option.{option_copied};
@@ -8,13 +8,15 @@ ghost use Rattle.nro_stats.specs.Fields.{IsRecord, IsShort, fields, fields_after
 
 use geo_addr::{cut_at, trim_blanks};
 
-/// The fields of a record that count; the registry, the date and what follows the status do not.
+/// The first seven fields of a line; what follows the status does not count.
 #[derive(Clone, Copy, Debug)]
 pub(crate) struct Record<'a> {
+    pub registry: &'a [u8],
     pub country: &'a [u8],
     pub kind: &'a [u8],
     pub start: &'a [u8],
     pub value: &'a [u8],
+    pub date: &'a [u8],
     pub status: &'a [u8],
 }
 
@@ -24,21 +26,31 @@ impl<'a> Record<'a> {
         ensures { MatchOption result (IsShort (fields line.now)) (λ found. IsRecord (fields line.now) found) }
     {
         let mut rest = Some(line);
-        let _registry = take_field(&mut rest)?;
+        let registry = take_field(&mut rest)?;
         let country = take_field(&mut rest)?;
         let kind = take_field(&mut rest)?;
         let start = take_field(&mut rest)?;
         let value = take_field(&mut rest)?;
-        let _date = take_field(&mut rest)?;
+        let date = take_field(&mut rest)?;
         let status = take_field(&mut rest)?;
         Some(Record {
+            registry,
             country,
             kind,
             start,
             value,
+            date,
             status,
         })
     }
+}
+
+/// Whether these are the fields of a version line or of a summary line.
+pub(crate) fn is_heading(found: &Record) -> bool
+    ensures { result ≡ (is_version found.now.registry.now || (same_text found.now.country.now (codes "*") && same_text found.now.date.now (codes "summary"))) }
+{
+    let is_summary = found.country == b"*".as_slice() && found.date == b"summary".as_slice();
+    is_version(found.registry) || is_summary
 }
 
 // Takes the field before the first bar, if any text is left.
@@ -67,8 +79,16 @@ fn is_comment(line: &[u8]) -> bool
     }
 }
 
-/// Whether the first field of a line is a version, as `2` or `2.3`.
-pub(crate) fn is_version_line(line: &[u8]) -> bool
+/// Whether a line is a version line, which has a version as its first field, or a summary line, which has `*`
+/// as its second field and `summary` as its sixth.
+pub(crate) fn is_heading_line(line: &[u8]) -> bool
+    ensures { result ≡ (is_version_line (fields line.now) || is_summary_line (fields line.now)) }
+{
+    is_version_line(line) || is_summary_line(line)
+}
+
+// Whether the first field of a line is a version, as `2` or `2.3`.
+fn is_version_line(line: &[u8]) -> bool
     ensures { result ≡ is_version_line (fields line.now) }
 {
     let (first, _) = cut_at(line, b'|');
@@ -93,8 +113,8 @@ fn are_digits(text: &[u8]) -> bool
     text.iter().all(|byte| byte.is_ascii_digit())
 }
 
-/// Whether the second field of a line is `*` and its sixth `summary`.
-pub(crate) fn is_summary_line(line: &[u8]) -> bool
+// Whether the second field of a line is `*` and its sixth `summary`.
+fn is_summary_line(line: &[u8]) -> bool
     ensures { result ≡ is_summary_line (fields line.now) }
 {
     match star_and_word(line) {

@@ -1,7 +1,7 @@
 use crate::read_stats;
 use geo_addr::Addr;
 use geo_terms::note_text;
-use geo_terms::plain::{AllSources, chosen_at};
+use geo_terms::plain::{AllSources, spoken_at};
 use std::alloc::Global;
 use std::test::Fail;
 
@@ -163,7 +163,7 @@ fn a_delegation_decides(rt: HostRuntime) -> Result<(), Fail> {
     };
     let table = [(0x0A00_0000, "AT"), (0x0A00_01FF, "CH"), (0x0A00_0200, "")];
     for (address, wanted) in table {
-        let found = match chosen_at(&sources, Addr(address)) {
+        let found = match spoken_at(&sources, Addr(address)) {
             Some(place) => place.country.as_str(),
             None => "",
         };

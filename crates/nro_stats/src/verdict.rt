@@ -4,7 +4,7 @@ ghost use Rattle.geo_addr.specs.AddressTexts.{is_six};
 ghost use Rattle.nro_stats.specs.Fields.{fields};
 ghost use Rattle.nro_stats.specs.Verdicts.{PlacesCountryAlone, is_kind, is_silent, is_status, judged, placed, range_in, v4_range, v4_start, v6_range, v6_start, verdict};
 
-use crate::record::{Record, is_skipped, is_summary_line, is_version_line};
+use crate::record::{Record, is_heading, is_heading_line, is_skipped};
 use geo_addr::{Block, Memory, Range, decimal, parse_addr, range_of};
 use geo_terms::{Place, Rule, Texts, country_place};
 
@@ -22,11 +22,13 @@ pub(crate) fn read_line(texts: &mut Texts, line: &[u8]) -> Result<Verdict, Memor
     ensures verdict { IfOk result (λ found. found ≡ verdict line.now) }
     ensures alone { IfOk result PlacesCountryAlone }
 {
-    if is_skipped(line) || is_version_line(line) || is_summary_line(line) {
+    if is_skipped(line) {
         return Ok(Verdict::Silent);
     }
     match Record::of(line) {
+        Some(found) if is_heading(&found) => Ok(Verdict::Silent),
         Some(found) => judged(texts, &found),
+        None if is_heading_line(line) => Ok(Verdict::Silent),
         None => Ok(Verdict::Broken(Rule::S01)),
     }
 }
