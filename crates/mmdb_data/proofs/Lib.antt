@@ -2,9 +2,16 @@ mod Vectors
 mod Places
 mod Heads
 mod Values
+mod Containers
 pub mod ReadsBack
 pub mod Views
 pub mod Fine
 pub mod Written
 pub mod Loops
 pub mod Bounds
+mod Pointed
+pub mod Packs
+pub mod Keeps
+pub mod PackedReads
+pub mod Appending
+mod PackedVectors

@@ -2,3 +2,6 @@ pub mod Tree
 pub mod Spelling
 pub mod Reading
 pub mod View
+pub mod Packing
+pub mod Section
+pub mod Laws

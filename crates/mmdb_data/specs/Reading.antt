@@ -5,21 +5,22 @@ use Rattle.std.specs.Int.{w32, cast_signed}
 use Rattle.std.specs.Str.{is_utf8}
 use Rattle.byteorder.specs.Endian.{big_number}
 use Rattle.mmdb_data.specs.declared.fault.DataCause.{DataCause}
-use Rattle.mmdb_data.specs.declared.fault.DataCause.TheVariants.{Truncated, Kind, PointerToPointer, OutOfSection, Utf8, Key, Deep, Many, Size}
+use Rattle.mmdb_data.specs.declared.fault.DataCause.TheVariants.{Truncated, Kind, PointerToPointer, OutOfSection, Utf8, Key, Deep, Many, Size, Big}
 use Rattle.mmdb_data.specs.declared.fault.DataFault.{DataFault}
 use Rattle.mmdb_data.specs.declared.fault.DataFault.TheVariants as faults
-use Rattle.mmdb_data.specs.Tree.{Tree, Members, Items, map, list, text, bytes, u16, u32, i32, u64, u128, bool, double, float, no_members, member, no_items, item, most}
+use Rattle.mmdb_data.specs.Tree.{Tree, Members, Items, map, list, text, bytes, u16, u32, i32, u64, u128, bool, double, float, no_members, member, no_items, item}
 
 -- the offset of the control byte of the value at fault, and its cause
 abbrev pub Fault : Type 0
 Fault = ℕ × DataCause
 
--- what reading may still spend
+-- what reading may still spend: values, and bytes of texts, keys and byte strings
 pub record Budget : Type 0 where
   pub values : ℕ
+  pub bytes : ℕ
 
-abbrev pub values_left : ℕ → Budget
-values_left n = record { values = n }
+abbrev pub left_of : ℕ → ℕ → Budget
+left_of n m = record { values = n; bytes = m }
 
 -- what was read, the place after it, and what is left of the budget
 abbrev pub Found : Type 0 → Type 0
@@ -41,7 +42,7 @@ number_from section place size fault = bytes_from section place size fault >>= �
 
 -- one more value
 unfoldable pub one_less : Budget → Fault → Result Budget Fault
-one_less left fault = if nat_lt 0 left.values then Ok (record { values = left.values - 1 }) else Err fault
+one_less left fault = if nat_lt 0 left.values then Ok (left_of (left.values - 1) left.bytes) else Err fault
 
 -- the type, and the place after the byte that tells it: the top three bits, where 0 says that the next byte plus 7 does
 unfoldable pub kind_from : List ℕ → ℕ → ℕ → Result (ℕ × ℕ) Fault
@@ -82,11 +83,10 @@ signed = record { least = 0; greatest = 4; value = λ content. i32 (cast_signed 
 abbrev pub kept : ℕ → ℕ → (List ℕ → Tree) → Scalar
 kept least greatest value = record { least = least; greatest = greatest; value = value }
 
--- the scalars; 12 and 13 stand in no section
+-- the scalars of a bounded size; 12 and 13 stand in no section
 unfoldable pub scalar_of : ℕ → Option Scalar
 scalar_of kind =
     if kind == 3 then Some (kept 8 8 double)
-    else if kind == 4 then Some (kept 0 most bytes)
     else if kind == 5 then Some (unsigned 2 u16)
     else if kind == 6 then Some (unsigned 4 u32)
     else if kind == 8 then Some signed
@@ -145,27 +145,39 @@ scalar_value_from section is_key at (Some scalar) size place =
 unfoldable pub scalar_from : List ℕ → Bool → ℕ → ℕ → ℕ → ℕ → Result Tree Fault
 scalar_from section is_key at kind size place = scalar_value_from section is_key at (scalar_of kind) size place
 
-unfoldable pub text_from : List ℕ → ℕ → ℕ → ℕ → Result (List ℕ) Fault
-text_from section at size place =
-    bytes_from section place size (at, Truncated) >>= λ content. if is_utf8 content then Ok content else Err (at, Utf8)
+-- content that spends bytes of the budget, each time that it is met
+unfoldable pub content_bytes_from : List ℕ → ℕ → ℕ → ℕ → Budget → Result (List ℕ × Budget) Fault
+content_bytes_from section at size place left =
+    bytes_from section place size (at, Truncated) >>= λ content.
+    if nat_lt left.bytes size then Err (at, Big) else Ok (content, left_of left.values (left.bytes - size))
+
+unfoldable pub text_from : List ℕ → ℕ → ℕ → ℕ → Budget → Result (List ℕ × Budget) Fault
+text_from section at size place left =
+    content_bytes_from section at size place left >>= λ found. if is_utf8 found.0 then Ok found else Err (at, Utf8)
+
+-- it is no key
+unfoldable pub byte_string_from : List ℕ → Bool → ℕ → ℕ → ℕ → Budget → Result (List ℕ × Budget) Fault
+byte_string_from section is_key at size place left =
+    content_bytes_from section at size place left >>= λ found. if is_key then Err (at, Key) else Ok found
 
 -- the size is the value
 unfoldable pub bool_from : Bool → ℕ → ℕ → Result Bool Fault
 bool_from is_key at size = if nat_lt 1 size then Err (at, Size) else if is_key then Err (at, Key) else Ok (size == 1)
 
--- a value without parts, and the place after it
-unfoldable pub leaf_from : List ℕ → Bool → ℕ → ℕ → ℕ → ℕ → Result (Tree × ℕ) Fault
-leaf_from section is_key at kind size place =
-    if kind == 2 then (text_from section at size place >>= λ content. Ok (text content, place + size))
-    else if kind == 14 then (bool_from is_key at size >>= λ b. Ok (bool b, place))
-    else (scalar_from section is_key at kind size place >>= λ value. Ok (value, place + size))
+-- a value without parts
+unfoldable pub leaf_from : List ℕ → Bool → ℕ → ℕ → ℕ → ℕ → Budget → Found Tree
+leaf_from section is_key at kind size place left =
+    if kind == 2 then (text_from section at size place left >>= λ found. Ok (text found.0, place + size, found.1))
+    else if kind == 4 then (byte_string_from section is_key at size place left >>= λ found. Ok (bytes found.0, place + size, found.1))
+    else if kind == 14 then (bool_from is_key at size >>= λ b. Ok (bool b, place, left))
+    else (scalar_from section is_key at kind size place >>= λ value. Ok (value, place + size, left))
 
 -- the value at a place by its type, its size and the place of its content: 7 is a map, and 11 a list
 unfoldable pub content_from : Read → List ℕ → Bool → ℕ → ℕ → ℕ → ℕ → Budget → Found Tree
 content_from read section is_key at kind size place left =
     if kind == 7 then (if is_key then Err (at, Key) else (members_from read size place left >>= λ found. Ok (map found.0, found.1, found.2)))
     else if kind == 11 then (if is_key then Err (at, Key) else (items_from read size place left >>= λ found. Ok (list found.0, found.1, found.2)))
-    else (leaf_from section is_key at kind size place >>= λ found. Ok (found.0, found.1, left))
+    else leaf_from section is_key at kind size place left
 
 -- the value at a place that is no pointer
 unfoldable pub plain_from : Read → List ℕ → Bool → ℕ → Budget → Found Tree
@@ -190,10 +202,10 @@ value_from section (suc levels) is_key at left = do
   if is_pointer control then target_from (value_from section levels) section is_key at control rest
       else plain_from (value_from section levels) section is_key at rest
 
--- the value at an offset of a section: at most 32 levels and 100,000 values, keys counted
+-- the value at an offset of a section: at most 32 levels, 100,000 values, keys counted, and 67,108,864 bytes of texts, keys and byte strings
 unfoldable pub reads : List ℕ → ℕ → Result Tree Fault
 reads section at =
-    if nat_lt at (length section) then (value_from section 32 false at (record { values = 100000 }) >>= λ found. Ok found.0)
+    if nat_lt at (length section) then (value_from section 32 false at (left_of 100000 67108864) >>= λ found. Ok found.0)
     else Err (at, OutOfSection)
 
 -- What a function returned, seen by view, is what reading gives, unless memory ran out.

@@ -83,6 +83,34 @@ abbrev mutual
   items_depth no_items = 0
   items_depth (item value items) = max (depth value) (items_depth items)
 
+-- how many bytes its texts, keys and byte strings have together
+abbrev mutual
+  pub bytes_in : Tree → ℕ
+  bytes_in (map members) = members_bytes members
+  bytes_in (list items) = items_bytes items
+  bytes_in (text content) = length content
+  bytes_in (bytes content) = length content
+  bytes_in (u16 n) = 0
+  bytes_in (u32 n) = 0
+  bytes_in (i32 n) = 0
+  bytes_in (u64 n) = 0
+  bytes_in (u128 n) = 0
+  bytes_in (bool b) = 0
+  bytes_in (double content) = 0
+  bytes_in (float content) = 0
+
+  pub members_bytes : Members → ℕ
+  members_bytes no_members = 0
+  members_bytes (member key value members) = length key + (bytes_in value + members_bytes members)
+
+  pub items_bytes : Items → ℕ
+  items_bytes no_items = 0
+  items_bytes (item value items) = bytes_in value + items_bytes items
+
+-- what one reading may give
+abbrev pub IsWithinLimits : Tree → Type 0
+IsWithinLimits value = (count value ≤ 100000) × (bytes_in value ≤ 67108864)
+
 -- the greatest size that a control byte and three size bytes can tell
 abbrev pub most : ℕ
 most = 16843036
@@ -162,3 +190,10 @@ abbrev mutual
   pub ItemsAreTyped : Items → Type 0
   ItemsAreTyped no_items = Unit {0}
   ItemsAreTyped (item value items) = IsTyped value × ItemsAreTyped items
+
+-- what a section can hold, and what one reading can give of it
+abbrev pub CanBePacked : Tree → Type 0
+CanBePacked value = CanBeSpelled value × IsTyped value
+
+abbrev pub CanBeReadBack : Tree → Type 0
+CanBeReadBack value = CanBePacked value × IsWithinLimits value

@@ -1,8 +1,10 @@
--- The tree that a `Value` stands for.
+-- The tree that a `Value` stands for, and what `Left` says may still be spent.
 use Rattle.std.specs.Prelude.{ℕ, List, [], ◌∷◌, map as map_list}
 use Rattle.mmdb_data.specs.Tree.{Tree, Members, Items, map, list, text, bytes, u16, u32, i32, u64, u128, bool, double, float, no_members, member, no_items, item}
 use Rattle.mmdb_data.specs.declared.value.Value.{Value, fold-Value}
 use Rattle.mmdb_data.specs.declared.value.Value.TheOpen.{Value-F}
+use Rattle.mmdb_data.specs.declared.budget.Left.{Left}
+use Rattle.mmdb_data.specs.Reading.{Budget, left_of}
 
 abbrev pub items_of : List Tree → Items
 items_of [] = no_items
@@ -38,3 +40,6 @@ pair_view pair = (pair.0, tree pair.1)
 
 abbrev pub members_view : List (List ℕ × Value) → Members
 members_view pairs = members_of (map_list pair_view pairs)
+
+abbrev pub budget : Left → Budget
+budget left = left_of left.values left.bytes

@@ -1,10 +1,11 @@
 //! Values with their parts.
 
 ghost use Rattle.std.specs.Prelude.{◌≡◌, ◌≤◌, ◌<◌, ◌-◌, ◌^◌, length, IfOk, true, false};
-ghost use Rattle.mmdb_data.specs.Tree.{depth, count, most as most_size};
-ghost use Rattle.mmdb_data.specs.Reading.{values_left, Gives, key_of, members_from, items_from, content_from, plain_from, target_from, value_from, reads};
-ghost use Rattle.mmdb_data.specs.View.{tree, items_view, members_view};
+ghost use Rattle.mmdb_data.specs.Tree.{depth, count, bytes_in, most as most_size};
+ghost use Rattle.mmdb_data.specs.Reading.{Gives, key_of, members_from, items_from, content_from, plain_from, target_from, value_from, reads};
+ghost use Rattle.mmdb_data.specs.View.{tree, budget, items_view, members_view};
 
+use crate::budget::{BYTES, Left, VALUES};
 use crate::fault::{DataCause, DataFault};
 use crate::leaves::leaf_at;
 use crate::reading::{Head, bad, byte_at, head_at, pointer_at};
@@ -13,11 +14,8 @@ use crate::value::Value;
 use geo_addr::Text;
 use std::alloc::Global;
 
-/// How many values are read at most, keys counted.
-const VALUES: u32 = 100_000;
-
-/// What was read, the place after it, and how many more values may be read.
-type Found<T> = Result<(T, usize, u32), DataFault>;
+/// What was read, the place after it, and what may still be spent.
+type Found<T> = Result<(T, usize, Left), DataFault>;
 
 /// The value that stands at the offset `at` of a data section, pointers followed
 /// (MaxMind DB 2.0, "Output Data Section").
@@ -29,6 +27,7 @@ pub fn decode(alloc: Global, section: &[u8], at: u64) -> Result<Value, DataFault
     ensures gives { Gives tree result (reads section.now at) }
     ensures shallow { IfOk result (λ value. depth (tree value) ≤ 32) }
     ensures few { IfOk result (λ value. count (tree value) ≤ 100000) }
+    ensures light { IfOk result (λ value. bytes_in (tree value) ≤ 67108864) }
 {
     if at >= section.len() as u64 {
         return Err(DataFault::Bad {
@@ -36,7 +35,11 @@ pub fn decode(alloc: Global, section: &[u8], at: u64) -> Result<Value, DataFault
             cause: DataCause::OutOfSection,
         });
     }
-    let (value, _, _) = value_at(alloc, section, LEVELS, false, at as usize, VALUES)?;
+    let left = Left {
+        values: VALUES,
+        bytes: BYTES,
+    };
+    let (value, _, _) = value_at(alloc, section, LEVELS, false, at as usize, left)?;
     Ok(value)
 }
 
@@ -48,23 +51,27 @@ fn value_at(
     levels: u8,
     is_key: bool,
     at: usize,
-    left: u32,
+    left: Left,
 ) -> Found<Value>
     requires { at ≤ length section.now }
-    ensures gives { Gives (λ x. (tree x.0, x.1, values_left x.2)) result (value_from section.now levels is_key at (values_left left)) }
+    ensures gives { Gives (λ x. (tree x.0, x.1, budget x.2)) result (value_from section.now levels is_key at (budget left)) }
     ensures room { IfOk result (λ x. x.1 ≤ length section.now) }
 {
     if levels == 0 {
         return Err(bad(at, DataCause::Deep));
     }
-    if left == 0 {
+    if left.values == 0 {
         return Err(bad(at, DataCause::Many));
     }
+    let rest = Left {
+        values: left.values - 1,
+        bytes: left.bytes,
+    };
     let control = byte_at(section, at, at, DataCause::Truncated)?;
     if control / 32 == 1 {
-        target_at(alloc, section, levels - 1, is_key, at, control, left - 1)
+        target_at(alloc, section, levels - 1, is_key, at, control, rest)
     } else {
-        plain_at(alloc, section, levels - 1, is_key, at, left - 1)
+        plain_at(alloc, section, levels - 1, is_key, at, rest)
     }
 }
 
@@ -77,10 +84,10 @@ fn target_at(
     is_key: bool,
     at: usize,
     control: u8,
-    left: u32,
+    left: Left,
 ) -> Found<Value>
     requires { at < length section.now }
-    ensures gives { Gives (λ x. (tree x.0, x.1, values_left x.2)) result (target_from (value_from section.now levels) section.now is_key at control (values_left left)) }
+    ensures gives { Gives (λ x. (tree x.0, x.1, budget x.2)) result (target_from (value_from section.now levels) section.now is_key at control (budget left)) }
     ensures room { IfOk result (λ x. x.1 ≤ length section.now) }
 {
     let (target, after) = pointer_at(section, at, control)?;
@@ -100,9 +107,9 @@ fn plain_at(
     levels: u8,
     is_key: bool,
     at: usize,
-    left: u32,
+    left: Left,
 ) -> Found<Value>
-    ensures gives { Gives (λ x. (tree x.0, x.1, values_left x.2)) result (plain_from (value_from section.now levels) section.now is_key at (values_left left)) }
+    ensures gives { Gives (λ x. (tree x.0, x.1, budget x.2)) result (plain_from (value_from section.now levels) section.now is_key at (budget left)) }
     ensures room { IfOk result (λ x. x.1 ≤ length section.now) }
 {
     let head = head_at(section, at)?;
@@ -118,11 +125,11 @@ fn content_at(
     is_key: bool,
     at: usize,
     head: Head,
-    left: u32,
+    left: Left,
 ) -> Found<Value>
     requires here { head.place ≤ length section.now }
     requires narrow { head.size ≤ most_size }
-    ensures gives { Gives (λ x. (tree x.0, x.1, values_left x.2)) result (content_from (value_from section.now levels) section.now is_key at head.kind head.size head.place (values_left left)) }
+    ensures gives { Gives (λ x. (tree x.0, x.1, budget x.2)) result (content_from (value_from section.now levels) section.now is_key at head.kind head.size head.place (budget left)) }
     ensures room { IfOk result (λ x. x.1 ≤ length section.now) }
 {
     match head.kind {
@@ -139,10 +146,7 @@ fn content_at(
             )?;
             Ok((Value::List(values), after, left))
         }
-        _ => {
-            let (value, after) = leaf_at(alloc, section, is_key, at, head)?;
-            Ok((value, after, left))
-        }
+        _ => leaf_at(alloc, section, is_key, at, head, left),
     }
 }
 
@@ -153,10 +157,10 @@ fn members_at(
     levels: u8,
     count: usize,
     place: usize,
-    left: u32,
+    left: Left,
 ) -> Found<Vec<(Text, Value)>>
     requires { place ≤ length section.now }
-    ensures gives { Gives (λ x. (members_view x.0.items, x.1, values_left x.2)) result (members_from (value_from section.now levels) count place (values_left left)) }
+    ensures gives { Gives (λ x. (members_view x.0.items, x.1, budget x.2)) result (members_from (value_from section.now levels) count place (budget left)) }
     ensures room { IfOk result (λ x. x.1 ≤ length section.now) }
 {
     let mut pairs = Vec::new(alloc);
@@ -180,10 +184,10 @@ fn items_at(
     levels: u8,
     count: usize,
     place: usize,
-    left: u32,
+    left: Left,
 ) -> Found<Vec<Value>>
     requires { place ≤ length section.now }
-    ensures gives { Gives (λ x. (items_view x.0.items, x.1, values_left x.2)) result (items_from (value_from section.now levels) count place (values_left left)) }
+    ensures gives { Gives (λ x. (items_view x.0.items, x.1, budget x.2)) result (items_from (value_from section.now levels) count place (budget left)) }
     ensures room { IfOk result (λ x. x.1 ≤ length section.now) }
 {
     let mut values = Vec::new(alloc);

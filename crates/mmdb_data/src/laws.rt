@@ -1,12 +1,28 @@
 //! Laws over the definitions.
 
 ghost use Rattle.std.specs.Prelude.{◌≡◌, ◌≤◌, ◌++◌, ℕ, List, length, Ok};
-ghost use Rattle.mmdb_data.specs.Tree.{Tree, CanBeSpelled, IsTyped, count};
+ghost use Rattle.mmdb_data.specs.Tree.{Tree, CanBeSpelled, IsTyped, IsWithinLimits};
 ghost use Rattle.mmdb_data.specs.Spelling.{spelling};
 ghost use Rattle.mmdb_data.specs.Reading.{reads};
+ghost use Rattle.mmdb_data.specs.Laws.{PackedReadsBack, PackedReadsEach, NewValueIsNoted, NotesStay, SpellingsTellApart};
 
 /// What is written of a value is read again, whatever stands before and after it in the section.
 pub fn reads_back()
-    ensures { (value : Tree) (before after : List ℕ) → CanBeSpelled value → IsTyped value → count value ≤ 100000
+    ensures { (value : Tree) (before after : List ℕ) → CanBeSpelled value → IsTyped value → IsWithinLimits value
         → reads (before ++ (spelling value ++ after)) (length before) ≡ Ok value }
+{}
+
+/// The law that reading where a value was packed gives that value, whatever is appended later.
+/// Calling it does nothing.
+pub fn packed_reads_back()
+    ensures last { PackedReadsBack }
+    ensures each { PackedReadsEach }
+{}
+
+/// The law that a pointer leads to the least offset at which an equal value stands in full: values are
+/// noted by their spellings, which tell them apart, where they first stand. Calling it does nothing.
+pub fn packed_at_the_least_offset()
+    ensures noted { NewValueIsNoted }
+    ensures stay { NotesStay }
+    ensures apart { SpellingsTellApart }
 {}

@@ -2,17 +2,17 @@
 
 ghost use Rattle.std.specs.Prelude.{◌≡◌, ◌≤◌, ◌<◌, ◌+◌, length, OnOk, IfOk};
 ghost use Rattle.mmdb_data.specs.Tree.{Tree, most as most_size};
-ghost use Rattle.mmdb_data.specs.Reading.{Gives, scalar_bytes_from, scalar_from, text_from, bool_from, leaf_from};
-ghost use Rattle.mmdb_data.specs.View.{tree};
+ghost use Rattle.mmdb_data.specs.Reading.{Gives, content_bytes_from, byte_string_from, scalar_bytes_from, scalar_from, text_from, bool_from, leaf_from};
+ghost use Rattle.mmdb_data.specs.View.{tree, budget};
 
+use crate::budget::Left;
 use crate::fault::{DataCause, DataFault};
 use crate::reading::{Head, bad, bytes_at, number_of};
-use crate::sizes::MOST;
 use crate::value::Value;
 use geo_addr::{Bytes, Text};
 use std::alloc::Global;
 
-/// The value, and the place after it.
+/// The value, the place after it, and what may still be spent.
 #[tactic(auto, unfolding(crate::specs::Reading::leaf_from))]
 pub(crate) fn leaf_at(
     alloc: Global,
@@ -20,36 +20,88 @@ pub(crate) fn leaf_at(
     is_key: bool,
     at: usize,
     head: Head,
-) -> Result<(Value, usize), DataFault>
+    left: Left,
+) -> Result<(Value, usize, Left), DataFault>
     requires here { head.place ≤ length section.now }
     requires narrow { head.size ≤ most_size }
-    ensures gives { Gives (λ x. (tree x.0, x.1)) result (leaf_from section.now is_key at head.kind head.size head.place) }
+    ensures gives { Gives (λ x. (tree x.0, x.1, budget x.2)) result (leaf_from section.now is_key at head.kind head.size head.place (budget left)) }
     ensures room { IfOk result (λ x. x.1 ≤ length section.now) }
 {
     match head.kind {
         2 => {
-            let text = text_at(alloc, section, at, head)?;
-            Ok((Value::Text(text), head.place + head.size))
+            let (text, left) = text_at(alloc, section, at, head, left)?;
+            Ok((Value::Text(text), head.place + head.size, left))
         }
-        14 => Ok((Value::Bool(bool_at(is_key, at, head.size)?), head.place)),
+        4 => {
+            let (content, left) = byte_string_at(alloc, section, is_key, at, head, left)?;
+            Ok((Value::Bytes(content), head.place + head.size, left))
+        }
+        14 => {
+            let b = bool_at(is_key, at, head.size)?;
+            Ok((Value::Bool(b), head.place, left))
+        }
         _ => {
-            let value = scalar_at(alloc, section, is_key, at, head)?;
-            Ok((value, head.place + head.size))
+            let value = scalar_at(section, is_key, at, head)?;
+            Ok((value, head.place + head.size, left))
         }
     }
 }
 
 #[tactic(auto, unfolding(crate::specs::Reading::text_from))]
-fn text_at(alloc: Global, section: &[u8], at: usize, head: Head) -> Result<Text, DataFault>
+fn text_at(
+    alloc: Global,
+    section: &[u8],
+    at: usize,
+    head: Head,
+    left: Left,
+) -> Result<(Text, Left), DataFault>
     requires { head.place ≤ length section.now }
-    ensures gives { Gives (λ text. text) result (text_from section.now at head.size head.place) }
+    ensures gives { Gives (λ x. (x.0, budget x.1)) result (text_from section.now at head.size head.place (budget left)) }
+    ensures room { OnOk result (head.place + head.size ≤ length section.now) }
+{
+    let (content, left) = content_at(section, at, head, left)?;
+    match str::from_utf8(content) {
+        Ok(text) => Ok((Text::of(alloc, text)?, left)),
+        Err(_) => Err(bad(at, DataCause::Utf8)),
+    }
+}
+
+#[tactic(auto, unfolding(crate::specs::Reading::byte_string_from))]
+fn byte_string_at(
+    alloc: Global,
+    section: &[u8],
+    is_key: bool,
+    at: usize,
+    head: Head,
+    left: Left,
+) -> Result<(Bytes, Left), DataFault>
+    requires { head.place ≤ length section.now }
+    ensures gives { Gives (λ x. (x.0, budget x.1)) result (byte_string_from section.now is_key at head.size head.place (budget left)) }
+    ensures room { OnOk result (head.place + head.size ≤ length section.now) }
+{
+    let (content, left) = content_at(section, at, head, left)?;
+    if is_key {
+        return Err(bad(at, DataCause::Key));
+    }
+    Ok((Bytes::of(alloc, content)?, left))
+}
+
+/// The content of a text or a byte string, which spends bytes of the budget.
+#[tactic(auto, unfolding(crate::specs::Reading::content_bytes_from))]
+fn content_at(section: &[u8], at: usize, head: Head, left: Left) -> Result<(&[u8], Left), DataFault>
+    requires { head.place ≤ length section.now }
+    ensures gives { Gives (λ x. (x.0.now, budget x.1)) result (content_bytes_from section.now at head.size head.place (budget left)) }
     ensures room { OnOk result (head.place + head.size ≤ length section.now) }
 {
     let content = bytes_at(section, head.place, head.size, at)?;
-    match str::from_utf8(content) {
-        Ok(text) => Ok(Text::of(alloc, text)?),
-        Err(_) => Err(bad(at, DataCause::Utf8)),
+    if head.size > left.bytes as usize {
+        return Err(bad(at, DataCause::Big));
     }
+    let rest = Left {
+        values: left.values,
+        bytes: left.bytes - head.size as u32,
+    };
+    Ok((content, rest))
 }
 
 #[tactic(auto, unfolding(crate::specs::Reading::bool_from))]
@@ -66,13 +118,7 @@ fn bool_at(is_key: bool, at: usize, size: usize) -> Result<bool, DataFault>
 }
 
 #[tactic(auto, unfolding(crate::specs::Reading::scalar_from, crate::specs::Reading::scalar_of))]
-fn scalar_at(
-    alloc: Global,
-    section: &[u8],
-    is_key: bool,
-    at: usize,
-    head: Head,
-) -> Result<Value, DataFault>
+fn scalar_at(section: &[u8], is_key: bool, at: usize, head: Head) -> Result<Value, DataFault>
     requires here { head.place ≤ length section.now }
     requires narrow { head.size ≤ most_size }
     ensures gives { Gives tree result (scalar_from section.now is_key at head.kind head.size head.place) }
@@ -83,10 +129,6 @@ fn scalar_at(
             let mut raw = [0; 8];
             raw.copy_from_slice(scalar_bytes(section, is_key, at, head, 8, 8)?);
             Ok(Value::Raw8(raw))
-        }
-        4 => {
-            let content = scalar_bytes(section, is_key, at, head, 0, MOST)?;
-            Ok(Value::Bytes(Bytes::of(alloc, content)?))
         }
         5 => {
             let content = scalar_bytes(section, is_key, at, head, 0, 2)?;

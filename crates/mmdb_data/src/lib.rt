@@ -1,18 +1,23 @@
 //! The values of the data section of a MaxMind DB file.
 #![tactic(auto)]
 
+mod budget;
 mod decoding;
 mod fault;
 mod laws;
 mod leaves;
+mod packer;
+mod packing;
 mod reading;
+mod section;
 mod sizes;
 mod value;
 mod writing;
 
 pub use decoding::decode;
 pub use fault::{DataCause, DataFault};
-pub use laws::reads_back;
+pub use laws::{packed_at_the_least_offset, packed_reads_back, reads_back};
+pub use packer::Packer;
 pub use sizes::fits;
 pub use value::Value;
 pub use writing::encode;

@@ -1,6 +1,7 @@
-use crate::{DataCause, DataFault, Value, decode, encode, fits};
+use crate::{DataCause, DataFault, Packer, Value, decode, encode, fits};
 use geo_addr::{Bytes, Text};
 use std::alloc::Global;
+use std::process::Abort;
 use std::test::Fail;
 
 fn reads_as(alloc: Global, section: &[u8], at: u64, want: &Value) -> bool {
@@ -86,6 +87,72 @@ fn many_by_pointers(rt: HostRuntime) -> Result<(), Fail> {
     Ok(())
 }
 
+/// The outermost list is at level 1.
+#[test]
+fn levels(rt: HostRuntime) -> Result<(), Fail> {
+    let mut section = Vec::new(rt.alloc());
+    for _ in 0..32 {
+        section.extend_from_slice(b"\x01\x04")?;
+    }
+    section.extend_from_slice(b"\x00\x04")?;
+    assert_eq!(rt;
+        fault_of(rt.alloc(), &section, 0),
+        Some((64, DataCause::Deep))
+    );
+    assert!(rt; matches!(decode(rt.alloc(), &section, 2), Ok(Value::List(_))));
+    Ok(())
+}
+
+/// With the list, 100,000 values are read and 100,001 are not.
+#[test]
+fn values_in_all(rt: HostRuntime) -> Result<(), Fail> {
+    let rows: [(&[u8], usize); 2] = [
+        (b"\x1F\x04\x00\x85\x82", 99_999),
+        (b"\x1F\x04\x00\x85\x83", 100_000),
+    ];
+    for (head, len) in rows {
+        let mut section = Vec::new(rt.alloc());
+        section.extend_from_slice(head)?;
+        for _ in 0..len {
+            section.extend_from_slice(b"\x00\x07")?;
+        }
+        match decode(rt.alloc(), &section, 0) {
+            Ok(Value::List(values)) => assert_eq!(rt; values.len(), 99_999),
+            Err(DataFault::Bad { at, cause }) => {
+                assert_eq!(rt; (at, cause), (200_003, DataCause::Many))
+            }
+            _ => return Err(Fail::from("neither")),
+        }
+    }
+    Ok(())
+}
+
+/// Pointers to one text of 16,777,216 bytes: four such texts are read, and five are not.
+#[test]
+fn bytes_in_all(rt: HostRuntime) -> Result<(), Fail> {
+    let rows: [(&[u8], Option<u64>); 2] = [
+        (b"\x04\x04\x20\x0A\x20\x0A\x20\x0A\x20\x0A", None),
+        (
+            b"\x05\x04\x20\x0C\x20\x0C\x20\x0C\x20\x0C\x20\x0C",
+            Some(12),
+        ),
+    ];
+    for (list, fault) in rows {
+        let mut section = Vec::new(rt.alloc());
+        section.extend_from_slice(list)?;
+        section.extend_from_slice(b"\x5F\xFE\xFE\xE3")?;
+        section.extend_from_slice(&vec![in rt.alloc(); b'a'; 16_777_216]?)?;
+        match (decode(rt.alloc(), &section, 0), fault) {
+            (Ok(Value::List(values)), None) => assert_eq!(rt; values.len(), 4),
+            (Err(DataFault::Bad { at, cause }), Some(place)) => {
+                assert_eq!(rt; (at, cause), (place, DataCause::Big))
+            }
+            _ => return Err(Fail::from("neither")),
+        }
+    }
+    Ok(())
+}
+
 /// A number stands at the target, and the pointer behind it.
 #[test]
 fn pointers(rt: HostRuntime) -> Result<(), Fail> {
@@ -149,6 +216,91 @@ fn spellings(rt: HostRuntime) -> Result<(), Fail> {
         let mut out = Vec::new(alloc);
         assert!(rt; encode(alloc, value, &mut out).is_ok());
         assert_eq!(rt; out.as_slice(), *bytes);
+    }
+    Ok(())
+}
+
+fn text_of(alloc: Global, text: &str) -> Result<Value, Fail> {
+    let text = Text::of(alloc, text).ok().ok_or("no memory")?;
+    Ok(Value::Text(text))
+}
+
+fn map_of(alloc: Global, pairs: Vec<(&str, Value)>) -> Result<Value, Fail> {
+    let mut members = Vec::new(alloc);
+    for (key, value) in pairs {
+        members.push((Text::of(alloc, key).ok().ok_or("no memory")?, value))?;
+    }
+    Ok(Value::Map(members))
+}
+
+fn one(alloc: Global, key: &str, value: Value) -> Result<Value, Fail> {
+    map_of(alloc, vec![in alloc; (key, value)]?)
+}
+
+/// The offset at which the value was put, if there was memory.
+fn put(rt: &impl Abort, packer: &mut Packer, value: &Value) -> Option<u64> {
+    assert!(rt; fits(value));
+    packer.put(value).ok()
+}
+
+/// The second value stands at 68: its key and the key in its map are pointers.
+#[test]
+fn packed(rt: HostRuntime) -> Result<(), Fail> {
+    let alloc = rt.alloc();
+    let english = one(alloc, "en", text_of(alloc, "München")?)?;
+    let mut regions = Vec::new(alloc);
+    regions.push(one(alloc, "iso_code", text_of(alloc, "BY")?)?)?;
+    let mut pairs = Vec::new(alloc);
+    pairs.push(("city", one(alloc, "names", english)?))?;
+    pairs.push(("country", one(alloc, "iso_code", text_of(alloc, "DE")?)?))?;
+    pairs.push(("subdivisions", Value::List(regions)))?;
+    let munich = map_of(alloc, pairs)?;
+    let austria = one(
+        alloc,
+        "country",
+        one(alloc, "iso_code", text_of(alloc, "AT")?)?,
+    )?;
+    let mut packer = Packer::new(alloc);
+    assert_eq!(rt; put(&rt, &mut packer, &munich), Some(0));
+    assert_eq!(rt; put(&rt, &mut packer, &austria), Some(68));
+    assert_eq!(rt; packer.bytes().len(), 77);
+    assert!(rt;
+        packer
+            .bytes()
+            .ends_with(b"\x42BY\xE1\x20\x1A\xE1\x20\x23\x42AT")
+    );
+    assert!(rt; reads_as(alloc, packer.bytes(), 0, &munich));
+    assert!(rt; reads_as(alloc, packer.bytes(), 68, &austria));
+    Ok(())
+}
+
+/// A text that stands at the offset is pointed to from a list behind it.
+#[test]
+fn packed_pointers(rt: HostRuntime) -> Result<(), Fail> {
+    let alloc = rt.alloc();
+    let rows: [(usize, &[u8]); 4] = [
+        (2_047, b"\x27\xFF"),
+        (2_048, b"\x28\x00\x00"),
+        (526_335, b"\x2F\xFF\xFF"),
+        (526_336, b"\x30\x00\x00\x00"),
+    ];
+    for (offset, pointer) in rows {
+        let mut packer = Packer::new(alloc);
+        // A byte string with its control byte and its size bytes before it.
+        let head = if offset < 65_821 { 3 } else { 4 };
+        let filler = Bytes::from_vec(vec![in alloc; 0; offset - head]?);
+        assert_eq!(rt; put(&rt, &mut packer, &Value::Bytes(filler)), Some(0));
+        assert_eq!(rt;
+            put(&rt, &mut packer, &text_of(alloc, "Bayern")?),
+            Some(offset as u64)
+        );
+        let mut values = Vec::new(alloc);
+        values.push(text_of(alloc, "Bayern")?)?;
+        let list = Value::List(values);
+        assert_eq!(rt; put(&rt, &mut packer, &list), Some(offset as u64 + 7));
+        assert!(rt; packer.bytes().ends_with(pointer), "{offset}");
+        assert_eq!(rt; packer.bytes().len(), offset + 9 + pointer.len());
+        assert!(rt; reads_as(alloc, packer.bytes(), offset as u64 + 7, &list));
     }
     Ok(())
 }

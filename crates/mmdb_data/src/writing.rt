@@ -2,7 +2,7 @@
 
 ghost use Rattle.std.specs.Prelude.{◌≡◌, ◌≤◌, ◌<◌, ◌^◌, ◌++◌, ℕ, List, length, OnOk, OnErr, Ok};
 ghost use Rattle.std.specs.Int.{bytes_high_first};
-ghost use Rattle.mmdb_data.specs.Tree.{most, count, CanBeSpelled, IsNarrow, MembersAreNarrow, ItemsAreNarrow, IsTyped, MembersAreTyped, ItemsAreTyped};
+ghost use Rattle.mmdb_data.specs.Tree.{most, CanBeSpelled, IsWithinLimits, IsNarrow, MembersAreNarrow, ItemsAreNarrow, IsTyped, MembersAreTyped, ItemsAreTyped};
 ghost use Rattle.mmdb_data.specs.Spelling.{size_code, size_bytes, kind_bytes, head, sized, without_zeros as bytes_without_zeros, spelling, members_spelling, items_spelling};
 ghost use Rattle.mmdb_data.specs.Reading.{reads};
 ghost use Rattle.mmdb_data.specs.View.{tree, items_view, members_view};
@@ -22,7 +22,7 @@ const ROOM: usize = 128;
 pub fn encode(alloc: Global, value: &Value, out: &mut Vec<u8>) -> Result<(), Memory>
     requires { CanBeSpelled (tree value.now) }
     ensures spelled { OnOk result (out.new.items ≡ out.old.items ++ spelling (tree value.now)) }
-    ensures read_back { OnOk result (count (tree value.now) ≤ 100000 → (after : List ℕ)
+    ensures read_back { OnOk result (IsWithinLimits (tree value.now) → (after : List ℕ)
         → reads (out.new.items ++ after) (length out.old.items) ≡ Ok (tree value.now)) }
     ensures refused { OnErr result (out.new.items ≡ out.old.items) }
 {
@@ -33,7 +33,7 @@ pub fn encode(alloc: Global, value: &Value, out: &mut Vec<u8>) -> Result<(), Mem
 }
 
 #[cycle(writing)]
-fn put_value(out: &mut Vec<u8>, value: &Value) -> Result<(), Memory>
+pub(crate) fn put_value(out: &mut Vec<u8>, value: &Value) -> Result<(), Memory>
     requires { IsNarrow (tree value.now) }
     ensures spelled { OnOk result (out.new.items ≡ out.old.items ++ spelling (tree value.now)) }
     ensures typed { OnOk result (IsTyped (tree value.now)) }
@@ -130,7 +130,7 @@ fn without_zeros(bytes: &[u8]) -> &[u8]
 }
 
 #[tactic(auto, unfolding(crate::specs::Spelling::sized))]
-fn put_sized(out: &mut Vec<u8>, kind: u8, content: &[u8]) -> Result<(), Memory>
+pub(crate) fn put_sized(out: &mut Vec<u8>, kind: u8, content: &[u8]) -> Result<(), Memory>
     requires known { kind < 16 }
     requires narrow { length content.now ≤ most }
     ensures { OnOk result (out.new.items ≡ out.old.items ++ sized kind content.now) }
@@ -141,7 +141,7 @@ fn put_sized(out: &mut Vec<u8>, kind: u8, content: &[u8]) -> Result<(), Memory>
 }
 
 #[tactic(auto, unfolding(crate::specs::Spelling::head))]
-fn put_head(out: &mut Vec<u8>, kind: u8, size: usize) -> Result<(), Memory>
+pub(crate) fn put_head(out: &mut Vec<u8>, kind: u8, size: usize) -> Result<(), Memory>
     requires known { kind < 16 }
     requires narrow { size ≤ most }
     ensures { OnOk result (out.new.items ≡ out.old.items ++ head kind size) }

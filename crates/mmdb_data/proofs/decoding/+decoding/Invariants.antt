@@ -1,6 +1,6 @@
 use Rattle.std.proofs.Common.{◌≡◌, ◌≤◌, ◌-◌, ◌+◌, ◌*◌, length}
-use Rattle.mmdb_data.specs.Reading.{values_left, members_from, items_from, value_from}
-use Rattle.mmdb_data.specs.View.{items_view, members_view}
+use Rattle.mmdb_data.specs.Reading.{members_from, items_from, value_from}
+use Rattle.mmdb_data.specs.View.{budget, items_view, members_view}
 use Rattle.mmdb_data.proofs.Loops.{after_members, after_items}
 use Rattle.mmdb_data.proofs.decoding.+decoding.Given as goal
 
@@ -24,12 +24,12 @@ decreases-items_at l = 5 * l.levels + 1
 
 abbrev pub invariant-items_at-loop : goal.invariant-items_at-loop
 invariant-items_at-loop l = record {
-  so_far : after_items (items_view l.values.items) (items_from (value_from l.section l.levels) (l.count - l.counter) l.next (values_left l.rest)) ≡ items_from (value_from l.section l.levels) l.count l.place (values_left l.left);
+  so_far : after_items (items_view l.values.items) (items_from (value_from l.section l.levels) (l.count - l.counter) l.next (budget l.rest)) ≡ items_from (value_from l.section l.levels) l.count l.place (budget l.fn.left);
   room : l.next ≤ length l.section;
 }
 
 abbrev pub invariant-members_at-loop : goal.invariant-members_at-loop
 invariant-members_at-loop l = record {
-  so_far : after_members (members_view l.pairs.items) (members_from (value_from l.section l.levels) (l.count - l.counter) l.next (values_left l.rest)) ≡ members_from (value_from l.section l.levels) l.count l.place (values_left l.left);
+  so_far : after_members (members_view l.pairs.items) (members_from (value_from l.section l.levels) (l.count - l.counter) l.next (budget l.rest)) ≡ members_from (value_from l.section l.levels) l.count l.place (budget l.fn.left);
   room : l.next ≤ length l.section;
 }

@@ -20,3 +20,11 @@ returns-clause-few c =
     let inside = lt-ltb c.args.at (length section) (omega arith) in
     let found : reads section c.args.at ≡ Ok (tree c.in_ok-value.value) = rw (inside, c.in_ok-value.ensures.gives) refl in
     (are_bounded section c.args.at (tree c.in_ok-value.value) found).1
+
+pub returns-clause-light : goal.returns-clause-light
+unfolding reads
+returns-clause-light c =
+    let section = c.args.section.now in
+    let inside = lt-ltb c.args.at (length section) (omega arith) in
+    let found : reads section c.args.at ≡ Ok (tree c.in_ok-value.value) = rw (inside, c.in_ok-value.ensures.gives) refl in
+    (are_bounded section c.args.at (tree c.in_ok-value.value) found).2

@@ -7,7 +7,7 @@ use Rattle.mmdb_data.proofs.writing.encode.Goals as goal
 
 pub returns-clause-read_back : goal.returns-clause-read_back
 returns-clause-read_back c =
-    λ few after.
+    λ within after.
     let value = tree c.args.value.now in
     let before = c.args.out.now.items in
     let whole = c.in_ok-extend_from_slice.ensures.items in
@@ -16,4 +16,4 @@ returns-clause-read_back c =
     let empty = c.in_ok-spelled.ensures.items in
     let typed = c.in_ok-put_value.ensures.typed in
     let is : c.extend_from_slice.new.self.items ≡ before ++ spelling value = whole ∙ ap (λ (x : List ℕ). before ++ x) (from ∙ spelled ∙ ap (λ (x : List ℕ). x ++ spelling value) empty) in
-    ap (λ (x : List ℕ). reads (x ++ after) (length before)) is ∙ ap (λ (s : List ℕ). reads s (length before)) (append_assoc before (spelling value) after) ∙ is_read_again value before after c.requires typed few
+    ap (λ (x : List ℕ). reads (x ++ after) (length before)) is ∙ ap (λ (s : List ℕ). reads s (length before)) (append_assoc before (spelling value) after) ∙ is_read_again value before after c.requires typed within

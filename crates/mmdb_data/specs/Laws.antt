@@ -1,0 +1,32 @@
+-- The laws of a packed data section.
+use Rattle.std.specs.Prelude.{◌≡◌, ◌<◌, ℕ, List, [], ◌∷◌, ◌++◌, length, slice_index, slice_index_or, Some, None, Ok, All}
+use Rattle.mmdb_data.specs.Tree.{Tree, CanBePacked, CanBeReadBack, IsWithinLimits}
+use Rattle.mmdb_data.specs.Spelling.{spelling}
+use Rattle.mmdb_data.specs.Reading.{reads}
+use Rattle.mmdb_data.specs.Packing.{Packed, offset_of, in_full, packed, packed_offsets}
+
+-- reading where a value was appended gives that value, whatever is appended later
+abbrev pub PackedReadsBack : Type 0
+PackedReadsBack =
+    (before : List Tree) (value : Tree) (later : List ℕ) → All CanBePacked before → CanBePacked value → IsWithinLimits value
+    → reads (packed (before ++ value ∷ []) ++ later) (length (packed before)) ≡ Ok value
+
+-- the same of each value of a section
+abbrev pub PackedReadsEach : Type 0
+PackedReadsEach =
+    (values : List Tree) (default : Tree) (later : List ℕ) → All CanBeReadBack values → (k : ℕ) → k < length values
+    → reads (packed values ++ later) (slice_index (packed_offsets values) k) ≡ Ok (slice_index_or values k default)
+
+-- a value that stands nowhere in full yet is noted where it begins
+abbrev pub NewValueIsNoted : Type 0
+NewValueIsNoted =
+    (value : Tree) (section : Packed) → offset_of (spelling value) section ≡ None → offset_of (spelling value) (in_full value section) ≡ Some (length section.bytes)
+
+-- what is noted stays, so it is the least offset
+abbrev pub NotesStay : Type 0
+NotesStay =
+    (spelled : List ℕ) (value : Tree) (section : Packed) (at : ℕ) → offset_of spelled section ≡ Some at → offset_of spelled (in_full value section) ≡ Some at
+
+-- values are equal where their spellings are
+abbrev pub SpellingsTellApart : Type 0
+SpellingsTellApart = (a b : Tree) → CanBePacked a → CanBePacked b → spelling a ≡ spelling b → a ≡ b

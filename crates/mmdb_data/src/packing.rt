@@ -1,0 +1,103 @@
+//! Values with their parts, each part a pointer where one is shorter.
+
+ghost use Rattle.std.specs.Prelude.{◌≡◌, OnOk, is_some};
+ghost use Rattle.mmdb_data.specs.Tree.{IsNarrow, MembersAreNarrow, ItemsAreNarrow, IsTyped};
+ghost use Rattle.mmdb_data.specs.Spelling.{spelling};
+ghost use Rattle.mmdb_data.specs.View.{tree, items_view, members_view};
+ghost use Rattle.mmdb_data.specs.Packing.{offset_of, part_by, content_in, members_in, items_in, in_full, IsKept};
+ghost use Rattle.mmdb_data.specs.Section.{packed_of};
+
+use crate::section::{Section, shorter};
+use crate::value::Value;
+use geo_addr::{Memory, Text};
+
+/// The value in full, whether it stands already or not.
+pub(crate) fn append_top(section: &mut Section, value: &Value) -> Result<(), Memory>
+    requires { IsNarrow (tree value.now) }
+    ensures appended { OnOk result (packed_of section.new ≡ in_full (tree value.now) (packed_of section.old)) }
+    ensures kept { IsKept (packed_of section.old) (packed_of section.new) }
+    ensures typed { OnOk result (IsTyped (tree value.now)) }
+{
+    section.spell(value)?;
+    let is_known = section.found().is_some();
+    append_full(section, value, is_known)
+}
+
+#[cycle(packing)]
+fn append_part(section: &mut Section, value: &Value) -> Result<(), Memory>
+    requires { IsNarrow (tree value.now) }
+    ensures appended { OnOk result (packed_of section.new
+        ≡ part_by (spelling (tree value.now)) (content_in (tree value.now)) (packed_of section.old)) }
+    ensures kept { IsKept (packed_of section.old) (packed_of section.new) }
+{
+    section.spell(value)?;
+    let found = section.found();
+    match shorter(found, &section.piece) {
+        Some(to) => section.append_pointer(to),
+        None => append_full(section, value, found.is_some()),
+    }
+}
+
+#[cycle(packing)]
+fn append_full(section: &mut Section, value: &Value, is_known: bool) -> Result<(), Memory>
+    requires narrow { IsNarrow (tree value.now) }
+    requires spelled { section.old.piece.items ≡ spelling (tree value.now) }
+    requires known { is_known ≡ is_some (offset_of (spelling (tree value.now)) (packed_of section.old)) }
+    ensures appended { OnOk result (packed_of section.new ≡ in_full (tree value.now) (packed_of section.old)) }
+    ensures kept { IsKept (packed_of section.old) (packed_of section.new) }
+{
+    if is_known {
+        return append_content(section, value);
+    }
+    let at = section.bytes.len() as u64;
+    let spelled = section.piece.clone()?;
+    append_content(section, value)?;
+    section.note(spelled, at)
+}
+
+#[cycle(packing)]
+fn append_content(section: &mut Section, value: &Value) -> Result<(), Memory>
+    requires narrow { IsNarrow (tree value.now) }
+    requires spelled { section.old.piece.items ≡ spelling (tree value.now) }
+    ensures appended { OnOk result (packed_of section.new ≡ content_in (tree value.now) (packed_of section.old)) }
+    ensures kept { IsKept (packed_of section.old) (packed_of section.new) }
+{
+    match value {
+        Value::Map(pairs) => {
+            section.append_head(7, pairs.len())?;
+            append_members(section, pairs)
+        }
+        Value::List(values) => {
+            section.append_head(11, values.len())?;
+            append_items(section, values)
+        }
+        Value::Text(_) | Value::Bytes(_) | Value::Bool(_) => section.append(),
+        Value::U16(_) | Value::U32(_) | Value::I32(_) => section.append(),
+        Value::U64(_) | Value::U128(_) | Value::Raw8(_) | Value::Raw4(_) => section.append(),
+    }
+}
+
+#[cycle(packing)]
+fn append_members(section: &mut Section, pairs: &[(Text, Value)]) -> Result<(), Memory>
+    requires { MembersAreNarrow (members_view pairs.now) }
+    ensures appended { OnOk result (packed_of section.new ≡ members_in (members_view pairs.now) (packed_of section.old)) }
+    ensures kept { IsKept (packed_of section.old) (packed_of section.new) }
+{
+    for (key, value) in pairs {
+        section.append_key(key.as_str())?;
+        append_part(section, value)?;
+    }
+    Ok(())
+}
+
+#[cycle(packing)]
+fn append_items(section: &mut Section, values: &[Value]) -> Result<(), Memory>
+    requires { ItemsAreNarrow (items_view values.now) }
+    ensures appended { OnOk result (packed_of section.new ≡ items_in (items_view values.now) (packed_of section.old)) }
+    ensures kept { IsKept (packed_of section.old) (packed_of section.new) }
+{
+    for value in values {
+        append_part(section, value)?;
+    }
+    Ok(())
+}

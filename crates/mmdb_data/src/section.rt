@@ -1,0 +1,187 @@
+//! The bytes of a packed data section, and where values stand in full.
+
+ghost use Rattle.std.specs.Prelude.{◌≡◌, ◌≤◌, ◌<◌, ◌^◌, ◌++◌, ◌∷◌, None, OnOk, OnErr, length, option_map, is_some};
+ghost use Rattle.std.specs.Int.{bytes_high_first};
+ghost use Rattle.mmdb_data.specs.Tree.{most, IsNarrow, IsTyped};
+ghost use Rattle.mmdb_data.specs.Spelling.{head, sized, spelling};
+ghost use Rattle.mmdb_data.specs.View.{tree};
+ghost use Rattle.mmdb_data.specs.Packing.{pointer, nothing_packed, offset_of, with_bytes, noted, full_by, shorter_pointer, part_by, key_part, IsKept};
+ghost use Rattle.mmdb_data.specs.Section.{packed_of};
+
+use crate::value::Value;
+use crate::writing::{put_head, put_sized, put_value};
+use byteorder::{BigEndian, ByteOrder};
+use geo_addr::Memory;
+use indexmap::IndexMap;
+use std::alloc::Global;
+
+/// A data section while it grows.
+#[derive(Debug, Drop)]
+pub(crate) struct Section {
+    pub(crate) bytes: Vec<u8>,
+    /// Where each value stands in full, by its spelling.
+    pub(crate) full: IndexMap<Vec<u8>, u64>,
+    /// What is looked up or appended next. It is reused, so that looking up takes no memory.
+    pub(crate) piece: Vec<u8>,
+}
+
+impl Section {
+    pub(crate) fn new(alloc: Global) -> Section
+        ensures { packed_of result ≡ nothing_packed }
+    {
+        Section {
+            bytes: Vec::new(alloc),
+            full: IndexMap::new(alloc),
+            piece: Vec::new(alloc),
+        }
+    }
+
+    pub(crate) fn spell(&mut self, value: &Value) -> Result<(), Memory>
+        requires { IsNarrow (tree value.now) }
+        ensures spelled { OnOk result (self.new.piece.items ≡ spelling (tree value.now)) }
+        ensures typed { OnOk result (IsTyped (tree value.now)) }
+        ensures same { packed_of self.new ≡ packed_of self.old }
+    {
+        self.piece.clear();
+        put_value(&mut self.piece, value)
+    }
+
+    fn spell_key(&mut self, key: &str) -> Result<(), Memory>
+        requires { length key.now ≤ most }
+        ensures spelled { OnOk result (self.new.piece.items ≡ sized 2 key.now) }
+        ensures same { packed_of self.new ≡ packed_of self.old }
+    {
+        self.piece.clear();
+        put_sized(&mut self.piece, 2, key.as_bytes())
+    }
+
+    /// Where the value that the piece spells stands in full.
+    pub(crate) fn found(&self) -> Option<u64>
+        ensures { result ≡ offset_of self.now.piece.items (packed_of self.now) }
+    {
+        self.full.get(self.piece.as_slice()).copied()
+    }
+
+    pub(crate) fn append(&mut self) -> Result<(), Memory>
+        ensures appended { OnOk result (packed_of self.new ≡ with_bytes self.old.piece.items (packed_of self.old)) }
+        ensures refused { OnErr result (packed_of self.new ≡ packed_of self.old) }
+    {
+        self.bytes.extend_from_slice(&self.piece)?;
+        Ok(())
+    }
+
+    pub(crate) fn append_head(&mut self, kind: u8, size: usize) -> Result<(), Memory>
+        requires known { kind < 16 }
+        requires narrow { size ≤ most }
+        ensures appended { OnOk result (packed_of self.new ≡ with_bytes (head kind size) (packed_of self.old)) }
+        ensures refused { OnErr result (packed_of self.new ≡ packed_of self.old) }
+    {
+        self.piece.clear();
+        put_head(&mut self.piece, kind, size)?;
+        self.append()
+    }
+
+    pub(crate) fn append_pointer(&mut self, to: u32) -> Result<(), Memory>
+        ensures appended { OnOk result (packed_of self.new ≡ with_bytes (pointer to) (packed_of self.old)) }
+        ensures refused { OnErr result (packed_of self.new ≡ packed_of self.old) }
+    {
+        self.piece.clear();
+        put_pointer(&mut self.piece, to)?;
+        self.append()
+    }
+
+    /// The value is one that stands nowhere in full yet.
+    pub(crate) fn note(&mut self, spelled: Vec<u8>, at: u64) -> Result<(), Memory>
+        requires { offset_of spelled.items (packed_of self.old) ≡ None }
+        ensures noted { OnOk result (packed_of self.new ≡ noted spelled.items at (packed_of self.old)) }
+        ensures refused { OnErr result (packed_of self.new ≡ packed_of self.old) }
+    {
+        self.full.insert(spelled, at)?;
+        Ok(())
+    }
+
+    /// The key that the piece spells, in full.
+    fn append_key_full(&mut self, is_known: bool) -> Result<(), Memory>
+        requires { is_known ≡ is_some (offset_of self.old.piece.items (packed_of self.old)) }
+        ensures appended { OnOk result (packed_of self.new
+            ≡ full_by self.old.piece.items (with_bytes self.old.piece.items) (packed_of self.old)) }
+        ensures kept { IsKept (packed_of self.old) (packed_of self.new) }
+    {
+        if is_known {
+            return self.append();
+        }
+        let at = self.bytes.len() as u64;
+        let spelled = self.piece.clone()?;
+        self.append()?;
+        self.note(spelled, at)
+    }
+
+    pub(crate) fn append_key(&mut self, key: &str) -> Result<(), Memory>
+        requires { length key.now ≤ most }
+        ensures appended { OnOk result (packed_of self.new ≡ key_part key.now (packed_of self.old)) }
+        ensures kept { IsKept (packed_of self.old) (packed_of self.new) }
+    {
+        self.spell_key(key)?;
+        let found = self.found();
+        match shorter(found, &self.piece) {
+            Some(to) => self.append_pointer(to),
+            None => self.append_key_full(found.is_some()),
+        }
+    }
+}
+
+/// The offset, if a pointer to it is in reach and shorter than the spelling.
+pub(crate) fn shorter(found: Option<u64>, spelled: &[u8]) -> Option<u32>
+    ensures { option_map pointer result ≡ shorter_pointer spelled.now found }
+{
+    let to = found?;
+    if to < 1 << 32 && pointer_len(to) < spelled.len() {
+        Some(to as u32)
+    } else {
+        None
+    }
+}
+
+#[tactic(auto, unfolding(crate::specs::Packing::pointer))]
+fn pointer_len(to: u64) -> usize
+    ensures { result ≡ length (pointer to) }
+{
+    if to < 2_048 {
+        2
+    } else if to < 526_336 {
+        3
+    } else if to < 134_744_064 {
+        4
+    } else {
+        5
+    }
+}
+
+#[tactic(auto, unfolding(crate::specs::Packing::pointer))]
+fn put_pointer(out: &mut Vec<u8>, to: u32) -> Result<(), Memory>
+    ensures { OnOk result (out.new.items ≡ out.old.items ++ pointer to) }
+{
+    if to < 2_048 {
+        put_control(out, 32 + (to / 256) as u8, to, 1)
+    } else if to < 526_336 {
+        let beyond = to - 2_048;
+        put_control(out, 40 + (beyond / 65_536) as u8, beyond, 2)
+    } else if to < 134_744_064 {
+        let beyond = to - 526_336;
+        put_control(out, 48 + (beyond / 16_777_216) as u8, beyond, 3)
+    } else {
+        put_control(out, 56, to, 4)
+    }
+}
+
+/// The control byte, and so many low bytes of the number.
+fn put_control(out: &mut Vec<u8>, control: u8, n: u32, len: usize) -> Result<(), Memory>
+    requires { len ≤ 4 }
+    ensures { OnOk result (out.new.items ≡ out.old.items ++ control ∷ bytes_high_first len n) }
+{
+    let mut bytes = [0; 4];
+    BigEndian::write_u32(&mut bytes, n);
+    out.push(control)?;
+    out.extend_from_slice(&bytes[4 - len..])?;
+    Ok(())
+}
