@@ -28,7 +28,8 @@ use Rattle.least_nodes.proofs.Elements.{In, In-append, In-left, In-right, In-map
 use Rattle.least_nodes.proofs.TreeParts.{leaves-inside}
 use Rattle.least_nodes.proofs.WalkLemmas.{id_equality, tree_equality}
 use Rattle.mmdb_file.specs.FileImage.{answer_value, spots, section, record_for, node_for, node_records, records_end, file_with, file_of}
-use Rattle.mmdb_file.specs.Section.{section_of, spellings, starts_from}
+use Rattle.mmdb_data.specs.Packing.{packed, packed_offsets}
+use Rattle.mmdb_file.specs.Section.{section_of}
 use Rattle.mmdb_file.specs.Writing.{same_id, record_number, node_numbers, nodes_from}
 
 module _ {X : Type 0} where
@@ -248,15 +249,15 @@ module _ (pairs : List Pair) (sound : IsSound pairs) (places : List PlaceParts) 
 
   -- the file image
   pub image_is : (bits : Bits) (epoch : ℕ) (name : List ℕ) (n : ℕ) → n ≡ max (length (inner nat_eq (meaning pairs root))) 1
-      → smallest (n + 16 + length (spellings (map (λ k. answer_value (place_at places k)) (place_order (meaning pairs root))))) ≡ Some bits
+      → smallest (n + 16 + length (packed (map (λ k. answer_value (place_at places k)) (place_order (meaning pairs root))))) ≡ Some bits
       → file_with nat_eq (place_at places) (meaning pairs root) epoch name
-      ≡ Some (file_of bits (nodes_from pairs (record_number n ids (place_order (meaning pairs root)) (starts_from 0 (map (λ k. answer_value (place_at places k)) (place_order (meaning pairs root))))) root ids)
-      (spellings (map (λ k. answer_value (place_at places k)) (place_order (meaning pairs root)))) epoch name)
+      ≡ Some (file_of bits (nodes_from pairs (record_number n ids (place_order (meaning pairs root)) (packed_offsets (map (λ k. answer_value (place_at places k)) (place_order (meaning pairs root))))) root ids)
+      (packed (map (λ k. answer_value (place_at places k)) (place_order (meaning pairs root)))) epoch name)
   unfolding file_with node_records records_end section section_of
   image_is bits epoch name n count fits =
       let t : Tree ℕ = meaning pairs root in
       let len : length (laid nat_eq t) ≡ n = laid_len t ∙ sym count in
-      rw (spots_are places t all, len, fits) (ap (λ nodes. Some (file_of bits nodes (spellings (map (λ k. answer_value (place_at places k)) (place_order t))) epoch name)) (sym (nodes_are n (starts_from 0 (map (λ k. answer_value (place_at places k)) (place_order t))) t refl)))
+      rw (spots_are places t all, len, fits) (ap (λ nodes. Some (file_of bits nodes (packed (map (λ k. answer_value (place_at places k)) (place_order t))) epoch name)) (sym (nodes_are n (packed_offsets (map (λ k. answer_value (place_at places k)) (place_order t))) t refl)))
 
 -- equal parts make equal files
 pub written_is : (bits : Bits) (pairs : List Pair) (epoch : ℕ) (name items : List ℕ) (n n' : ℕ) (keys ids ids' : List NodeId) (places places' starts starts' section section' : List ℕ) (root root' : Rec)

@@ -9,11 +9,10 @@ use lib.Utf8.{encode}
 use Rattle.std.proofs.lemmas.Bool.{cases_lt, and_parts, leb-true, false≢true}
 use Rattle.std.proofs.lemmas.Bool.Decides.{eqb_tells}
 use Rattle.std.proofs.Math.ListN.{drop_of_length-le}
-use Rattle.mmdb_data.specs.Tree.{Tree, map, text, IsNarrow, MembersAreNarrow, IsTyped, MembersAreTyped, members_len, members_depth, members_count, depth, count, most}
+use Rattle.mmdb_data.specs.Tree.{Tree, map, text, IsNarrow, MembersAreNarrow, IsTyped, MembersAreTyped, members_len, members_depth, members_count, members_bytes, depth, count, bytes_in, most, CanBeReadBack}
 use Rattle.mmdb_data.specs.View.{members_of}
 use Rattle.geo_terms.specs.PlaceForm.{PlaceParts, IsPlace, country_fits, region_fits, lengths_fit, is_empty, is_subdivision, longest}
 use Rattle.mmdb_file.specs.PlaceValue.{one, unless_empty, subdivision, city_member, country_member, postal_member, region_member, subdivision_list, place_value}
-use Rattle.mmdb_file.specs.Writing.{CanBeRead}
 
 -- a member that can be read, and whose value is small
 record IsFine (pair : List ℕ × Tree) : Type 0 where
@@ -23,6 +22,7 @@ record IsFine (pair : List ℕ × Tree) : Type 0 where
   key_text : IsUtf8 pair.0
   typed : IsTyped pair.1
   few : count pair.1 ≤ 9
+  light : length pair.0 + bytes_in pair.1 ≤ 2000
 
 abbrev AreFine : List (List ℕ × Tree) → Type 0
 AreFine [] = Unit {0}
@@ -56,13 +56,17 @@ few_members : (pairs : List (List ℕ × Tree)) → AreFine pairs → members_co
 few_members [] fine = omega arith
 few_members (pair ∷ pairs) fine = omega (arith, fine.0.few, few_members pairs fine.1)
 
+light_members : (pairs : List (List ℕ × Tree)) → AreFine pairs → members_bytes (members_of pairs) ≤ 2000 * length pairs
+light_members [] fine = omega arith
+light_members (pair ∷ pairs) fine = omega (arith, fine.0.light, light_members pairs fine.1)
+
 len_members : (pairs : List (List ℕ × Tree)) → members_len (members_of pairs) ≡ length pairs
 len_members [] = refl
 len_members (pair ∷ pairs) = ap suc (len_members pairs)
 
-map_fine : (pairs : List (List ℕ × Tree)) → length pairs ≤ 4 → AreFine pairs → CanBeRead (map (members_of pairs))
+map_fine : (pairs : List (List ℕ × Tree)) → length pairs ≤ 4 → AreFine pairs → CanBeReadBack (map (members_of pairs))
 map_fine pairs short fine =
-    (((omega (arith, len_members pairs), narrow_members pairs fine), omega (arith, low_members pairs fine)), typed_members pairs fine, omega (arith, few_members pairs fine))
+    ((((omega (arith, len_members pairs), narrow_members pairs fine), omega (arith, low_members pairs fine)), typed_members pairs fine), (omega (arith, few_members pairs fine), omega (arith, light_members pairs fine)))
 
 -- keys are texts
 text_city : IsUtf8 (codes "city")
@@ -124,28 +128,30 @@ subdivision_short : (region : List ℕ) → length (subdivision region) ≤ leng
 unfolding subdivision
 subdivision_short region = omega (arith, length-drop (position_or_len (λ b. b == 45) region + 1) region)
 
-city_fine : (city : List ℕ) → IsUtf8 city → length city ≤ most → AreFine (city_member city)
+city_fine : (city : List ℕ) → IsUtf8 city → length city ≤ longest → AreFine (city_member city)
 city_fine city utf8 short =
     AreFine-unless city (codes "city") (one (codes "names") (one (codes "en") (text city))) (record {
       key_short = omega arith;
-      narrow = (omega arith, (omega arith, (omega arith, (omega arith, short, tt)), tt));
+      narrow = (omega arith, (omega arith, (omega arith, (omega arith, omega (arith, short), tt)), tt));
       low = omega arith;
       key_text = text_city;
       typed = (text_names, (text_en, utf8, tt), tt);
       few = omega arith;
+      light = omega (arith, short);
     })
 
-code_fine : (key name content : List ℕ) → IsUtf8 key → IsUtf8 name → IsUtf8 content → length key ≤ most → length name ≤ most → length content ≤ most → IsFine (key, one name (text content))
+code_fine : (key name content : List ℕ) → IsUtf8 key → IsUtf8 name → IsUtf8 content → length key ≤ 50 → length name ≤ 50 → length content ≤ longest → IsFine (key, one name (text content))
 code_fine key name content a b c d e f = record {
-  key_short = d;
-  narrow = (omega arith, (e, f, tt));
+  key_short = omega (arith, d);
+  narrow = (omega arith, (omega (arith, e), omega (arith, f), tt));
   low = omega arith;
   key_text = a;
   typed = (b, c, tt);
   few = omega arith;
+  light = omega (arith, d, e, f);
 }
 
-region_fine : (region : List ℕ) → IsUtf8 region → length region ≤ most → AreFine (region_member region)
+region_fine : (region : List ℕ) → IsUtf8 region → length region ≤ longest → AreFine (region_member region)
 region_fine region utf8 short =
     AreFine-unless region (codes "subdivisions") (subdivision_list region) (record {
       key_short = omega arith;
@@ -154,16 +160,17 @@ region_fine region utf8 short =
       key_text = text_subdivisions;
       typed = ((text_iso_code, subdivision_text region utf8, tt), tt);
       few = omega arith;
+      light = omega (arith, short, subdivision_short region);
     })
 
 -- texts that can be written
 pub record AreTexts (place : PlaceParts) : Type 0 where
-  pub country : IsUtf8 place.country × (length place.country ≤ most)
-  pub region : IsUtf8 place.region × (length place.region ≤ most)
-  pub city : IsUtf8 place.city × (length place.city ≤ most)
-  pub postal : IsUtf8 place.postal × (length place.postal ≤ most)
+  pub country : IsUtf8 place.country × (length place.country ≤ longest)
+  pub region : IsUtf8 place.region × (length place.region ≤ longest)
+  pub city : IsUtf8 place.city × (length place.city ≤ longest)
+  pub postal : IsUtf8 place.postal × (length place.postal ≤ longest)
 
-pub readable : (place : PlaceParts) → AreTexts place → CanBeRead (place_value place)
+pub readable : (place : PlaceParts) → AreTexts place → CanBeReadBack (place_value place)
 unfolding place_value
 readable place texts =
     let a : List (List ℕ × Tree) = city_member place.city in
@@ -207,19 +214,19 @@ region_of_six (a ∷ b ∷ dash ∷ rest) fits =
     let short = and_parts (not (is_empty rest)) (nat_le (length rest) 3) few.0 in
     omega (arith, leb-true (length rest) 3 short.1)
 
-pub short_country : (place : PlaceParts) → IsPlace place → length place.country ≤ most
+pub short_country : (place : PlaceParts) → IsPlace place → length place.country ≤ longest
 short_country place is = omega (arith, country_of_two place.country is.country)
 
-pub short_region : (place : PlaceParts) → IsPlace place → length place.region ≤ most
+pub short_region : (place : PlaceParts) → IsPlace place → length place.region ≤ longest
 short_region place is = omega (arith, region_of_six place.region is.region)
 
-pub short_city : (place : PlaceParts) → IsPlace place → length place.city ≤ most
+pub short_city : (place : PlaceParts) → IsPlace place → length place.city ≤ longest
 unfolding lengths_fit
 short_city place is =
     let fits = and_parts (nat_le (length place.city) longest) (nat_le (length place.postal) longest) is.lengths in
     omega (arith, leb-true (length place.city) longest fits.0)
 
-pub short_postal : (place : PlaceParts) → IsPlace place → length place.postal ≤ most
+pub short_postal : (place : PlaceParts) → IsPlace place → length place.postal ≤ longest
 unfolding lengths_fit
 short_postal place is =
     let fits = and_parts (nat_le (length place.city) longest) (nat_le (length place.postal) longest) is.lengths in

@@ -25,7 +25,8 @@ use Rattle.least_nodes.proofs.Positions.{Least-holds}
 use Rattle.least_nodes.proofs.RenameLemmas.{position-map, inner-map_tree, leaf_order-map_tree, laid-map_tree}
 use Rattle.mmdb_tree.specs.Nodes.{smallest}
 use Rattle.mmdb_file.specs.FileImage.{answer_value, spots, section, record_for, node_for, node_records, records_end, file_with, file_of, same_answer, file, file_nodes, file_section, file_end}
-use Rattle.mmdb_file.specs.Section.{Section, section_of, spellings}
+use Rattle.mmdb_data.specs.Packing.{packed}
+use Rattle.mmdb_file.specs.Section.{Section, section_of}
 use Rattle.mmdb_file.specs.Writing.{count_for}
 use Rattle.mmdb_file.specs.Laws.{NumbersStandForPlaces}
 use Rattle.mmdb_file.proofs.ImageLemmas.{laid_len, spots_are}
@@ -159,16 +160,16 @@ module _ (places : List PlaceParts) (distinct : IsDistinct same_place places) wh
     unfolding file_nodes
     nodes_named = laid_named_len ∙ laid_len t
 
-    pub bytes_named : file_section (map_tree (place_at places) t) ≡ spellings (map (λ k. answer_value (place_at places k)) (place_order t))
+    pub bytes_named : file_section (map_tree (place_at places) t) ≡ packed (map (λ k. answer_value (place_at places k)) (place_order t))
     unfolding file_section section section_of
     bytes_named =
-        ap (λ (s : Section). s.bytes) section_named ∙ ap (λ (ks : List ℕ). spellings (map (λ k. answer_value (place_at places k)) ks)) (spots_are places t known)
+        ap (λ (s : Section). s.bytes) section_named ∙ ap (λ (ks : List ℕ). packed (map (λ k. answer_value (place_at places k)) ks)) (spots_are places t known)
 
-    pub end_is : file_end (map_tree (place_at places) t) ≡ count_for t + 16 + length (spellings (map (λ k. answer_value (place_at places k)) (place_order t)))
+    pub end_is : file_end (map_tree (place_at places) t) ≡ count_for t + 16 + length (packed (map (λ k. answer_value (place_at places k)) (place_order t)))
     unfolding file_end records_end section section_of
     end_is =
         end_named
-        ∙ ap₂ (λ (n : ℕ) (ks : List ℕ). n + 16 + length (spellings (map (λ k. answer_value (place_at places k)) ks))) (laid_len t) (spots_are places t known)
+        ∙ ap₂ (λ (n : ℕ) (ks : List ℕ). n + 16 + length (packed (map (λ k. answer_value (place_at places k)) ks))) (laid_len t) (spots_are places t known)
 
 pub NumbersStandForPlaces-holds : NumbersStandForPlaces
 NumbersStandForPlaces-holds places distinct t known = file_named places distinct t known

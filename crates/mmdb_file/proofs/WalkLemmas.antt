@@ -1,5 +1,5 @@
 -- The walk of a written file gives what the tree that it was written for answers.
-use Rattle.std.proofs.Common.{◌≡◌, ℕ, zero, suc, ◌+◌, ◌-◌, ◌*◌, ◌^◌, ◌<◌, ◌≤◌, inl, inr, Bool, true, false, List, [], ◌∷◌, ◌++◌, length, map, take, drop, get_or, replicate, Option, Some, None, Ok, Err, refl, sym, ◌∙◌, ap, ap₂, subst, arith, append_assoc, append-nil, length-append, All}
+use Rattle.std.proofs.Common.{◌≡◌, ℕ, ◌+◌, ◌-◌, ◌*◌, ◌^◌, ◌<◌, ◌≤◌, inl, inr, Bool, true, false, List, [], ◌∷◌, ◌++◌, length, map, take, drop, get_or, replicate, Option, Some, None, Ok, Err, refl, sym, ◌∙◌, ap, subst, arith, append-nil, length-append, All}
 use Rattle.std.specs.Prelude.{codes, nat_eq, nat_lt, nat_le, slice_index, is_some, option_map, max, if◌then◌else◌}
 use Rattle.std.specs.List.{position_or_len}
 use Rattle.std.specs.Str.{IsUtf8, is_utf8, chars}
@@ -11,10 +11,11 @@ use Rattle.std.proofs.lemmas.Bool.Decides.{eqb_tells}
 use Rattle.std.proofs.lemmas.List.{take_at, get_or-map, get_or_past}
 use Rattle.std.proofs.lemmas.List.Elements.{All-head, All-tail, All-nil, All-cons}
 use Rattle.std.proofs.lemmas.Str.{IsUtf8-from_is_utf8}
-use Rattle.mmdb_data.specs.Tree.{Tree, map as map_value, bool, IsTyped, count}
+use Rattle.mmdb_data.specs.Tree.{Tree, map as map_value, bool, IsTyped, IsWithinLimits, CanBeReadBack}
 use Rattle.mmdb_data.specs.Spelling.{spelling}
 use Rattle.mmdb_data.specs.Reading.{reads}
 use Rattle.mmdb_data.proofs.ReadsBack.{is_read_again}
+use Rattle.mmdb_data.proofs.PackedReads.{packed_each}
 use Rattle.mmdb_tree.specs.declared.bits.Bits.{Bits}
 use Rattle.mmdb_tree.specs.declared.bits.Bits.TheVariants.{B24, B28, B32}
 use Rattle.mmdb_tree.specs.Nodes.{smallest, width, limit, record_size, record_at, tree_bytes}
@@ -25,7 +26,7 @@ use Rattle.mmdb_file.specs.declared.fault.OpenFault.TheVariants.{Version}
 use Rattle.mmdb_file.specs.Marker.{marker, last_marker}
 use Rattle.mmdb_file.specs.Metadata.{told_members, english, metadata}
 use Rattle.mmdb_file.specs.Walk.{Opened, Told, told_of, told_of_value, number_field, count_of, bits_of_size, is_known, cut, opened, seek, place_of_record, place_at, value_at, value_read, walk_opened, walk}
-use Rattle.mmdb_file.specs.Section.{spellings, starts_from}
+use Rattle.mmdb_data.specs.Packing.{packed, packed_offsets}
 use Rattle.geo_terms.specs.PlaceForm.{PlaceParts}
 use Rattle.geo_terms.specs.Numbers.{place_at as place_at_number}
 use Rattle.trie_core.specs.Tree.{Tree as LeafTree, leaf, node, look, AllLeaves}
@@ -36,7 +37,6 @@ use Rattle.least_nodes.proofs.LaidLemmas.{position-within, get_or-position, Laid
 use Rattle.mmdb_file.specs.PlaceValue.{place_value}
 use Rattle.mmdb_file.specs.FileImage.{answer_value, record_for, node_for, file_of}
 use Rattle.mmdb_file.proofs.ImageLemmas.{place_or_none, leaf_fits, laid_len}
-use Rattle.mmdb_file.specs.Writing.{CanBeRead}
 use Rattle.mmdb_file.specs.Laws.{WrittenFileIsWalked}
 use Rattle.mmdb_file.proofs.AdoptLemmas.{told_is, opened_is, seek_done}
 use Rattle.mmdb_file.proofs.MetadataLemmas.{last_is_the_writers}
@@ -116,16 +116,16 @@ told_typed epoch name nodes bits low utf8 few = (
   ),
 )
 
-told_few : (epoch : ℕ) (name : List ℕ) (nodes size : ℕ) → count (map_value (told_members epoch name nodes size)) ≤ 100000
+told_few : (epoch : ℕ) (name : List ℕ) (nodes size : ℕ) → length name ≤ 64 → IsWithinLimits (map_value (told_members epoch name nodes size))
 unfolding told_members english
-told_few epoch name nodes size = omega arith
+told_few epoch name nodes size short = (omega arith, omega (arith, short))
 
 metadata_read : (epoch : ℕ) (name : List ℕ) (nodes : ℕ) (bits : Bits) → epoch < 2 ^ 64 → IsUtf8 name → length name ≤ 64 → nodes < 2 ^ 32
     → reads (metadata epoch name nodes (record_size bits)) 0 ≡ Ok (map_value (told_members epoch name nodes (record_size bits)))
 unfolding metadata
 metadata_read epoch name nodes bits low utf8 short few =
     ap (λ s. reads s 0) (sym (append-nil (spelling (map_value (told_members epoch name nodes (record_size bits))))))
-    ∙ is_read_again (map_value (told_members epoch name nodes (record_size bits))) [] [] (told_spelled epoch name nodes (record_size bits) short) (told_typed epoch name nodes bits low utf8 few) (told_few epoch name nodes (record_size bits))
+    ∙ is_read_again (map_value (told_members epoch name nodes (record_size bits))) [] [] (told_spelled epoch name nodes (record_size bits) short) (told_typed epoch name nodes bits low utf8 few) (told_few epoch name nodes (record_size bits) short)
 
 f1 : (epoch : ℕ) (name : List ℕ) (nodes size : ℕ) → number_field (codes "node_count") (told_members epoch name nodes size) ≡ Some nodes
 unfolding number_field told_members english
@@ -203,15 +203,9 @@ reads_within section place value is =
       | inr past ↦ absurd (let none : reads section place ≡ Err (place, OutOfSection) = rw (le-ltb place (length section) past) refl in cc)
     ]
 
-value_again : (before : List ℕ) (values : List Tree) (d : Tree) → All CanBeRead values → (i : ℕ) → i < length values → reads (before ++ spellings values) (slice_index (starts_from (length before) values) i) ≡ Ok (get_or values i d)
-value_again before [] d all i inside = absurd (omega arith)
-value_again before (v ∷ values) d all zero inside =
-    let can = All-head CanBeRead v values all in is_read_again v before (spellings values) can.0 can.1 can.2
-value_again before (v ∷ values) d all (suc i) inside =
-    let next : List ℕ = before ++ spelling v in
-    let long : length next ≡ length before + length (spelling v) = length-append before (spelling v) in
-    let rest : reads (next ++ spellings values) (slice_index (starts_from (length next) values) i) ≡ Ok (get_or values i d) = value_again next values d (All-tail CanBeRead v values all) i (omega arith) in
-    ap₂ (λ s n. reads s (slice_index (starts_from n values) i)) (sym (append_assoc before (spelling v) (spellings values))) (sym long) ∙ rest
+each_is_read : (values : List Tree) (d : Tree) → All CanBeReadBack values → (i : ℕ) → i < length values → reads (packed values) (slice_index (packed_offsets values) i) ≡ Ok (get_or values i d)
+each_is_read values d all i inside =
+    ap (λ s. reads s (slice_index (packed_offsets values) i)) (sym (append-nil (packed values))) ∙ packed_each values d [] all i inside
 
 -- ---- the walk through the nodes
 
@@ -288,21 +282,21 @@ of_side false pair f members is = ap (λ (p : ℕ × ℕ). p.0) is
 of_side true pair f members is = ap (λ (p : ℕ × ℕ). p.1) is
 
 module _ (law : TreeReadsBack) (places : List PlaceParts) (t : LeafTree ℕ) (all : AllLeaves (λ k. k ≤ length places) t) (bits : Bits) (epoch : ℕ) (name : List ℕ) (low : epoch < 2 ^ 64) (utf8 : IsUtf8 name) (short : length name ≤ 64)
-    (readable : All (λ k. CanBeRead (answer_value (place_at_number places k))) (place_order t)) (nodes : List (ℕ × ℕ)) (fits : (k : ℕ) → k < length nodes → NodeFits bits (get_or nodes k (0, 0))) (few : length nodes < 2 ^ 32)
-    (are : nodes ≡ map (node_for nat_eq (place_at_number places) (length nodes) (place_order t) (starts_from 0 (map (λ k. answer_value (place_at_number places k)) (place_order t)))) (laid nat_eq t)) (long : length nodes ≡ length (laid nat_eq t)) (some : 0 < length nodes) where
+    (readable : All (λ k. CanBeReadBack (answer_value (place_at_number places k))) (place_order t)) (nodes : List (ℕ × ℕ)) (fits : (k : ℕ) → k < length nodes → NodeFits bits (get_or nodes k (0, 0))) (few : length nodes < 2 ^ 32)
+    (are : nodes ≡ map (node_for nat_eq (place_at_number places) (length nodes) (place_order t) (packed_offsets (map (λ k. answer_value (place_at_number places k)) (place_order t)))) (laid nat_eq t)) (long : length nodes ≡ length (laid nat_eq t)) (some : 0 < length nodes) where
   value_of : ℕ → Tree
   value_of k = answer_value (place_at_number places k)
 
   file : Opened
-  file = record { bits = bits; nodes = length nodes; tree = tree_bytes bits nodes; section = spellings (map (λ k. answer_value (place_at_number places k)) (place_order t)) }
+  file = record { bits = bits; nodes = length nodes; tree = tree_bytes bits nodes; section = packed (map (λ k. answer_value (place_at_number places k)) (place_order t)) }
 
   number : Member ℕ → ℕ
-  number m = record_for nat_eq (place_at_number places) (length nodes) (place_order t) (starts_from 0 (map (λ k. answer_value (place_at_number places k)) (place_order t))) m
+  number m = record_for nat_eq (place_at_number places) (length nodes) (place_order t) (packed_offsets (map (λ k. answer_value (place_at_number places k)) (place_order t))) m
 
   number_past : (k : ℕ) → length nodes ≤ number (says k)
   unfolding number
   number_past k =
-      elim (is_some (place_at_number places k)) as (λ (b : Bool). length nodes ≤ (if b then length nodes + 16 + slice_index (starts_from 0 (map (λ k'. answer_value (place_at_number places k')) (place_order t))) (position_or_len (nat_eq k) (place_order t)) else length nodes)) [
+      elim (is_some (place_at_number places k)) as (λ (b : Bool). length nodes ≤ (if b then length nodes + 16 + slice_index (packed_offsets (map (λ k'. answer_value (place_at_number places k')) (place_order t))) (position_or_len (nat_eq k) (place_order t)) else length nodes)) [
         | true ↦ omega arith
         | false ↦ omega arith
       ]
@@ -310,58 +304,58 @@ module _ (law : TreeReadsBack) (places : List PlaceParts) (t : LeafTree ℕ) (al
   read_as : (i : ℕ) → i < length nodes → (b : Bool) → record_at bits (tree_bytes bits nodes) i b ≡ number (side b (records_at (laid nat_eq t) i))
   unfolding number
   read_as i inside b =
-      let f : Member ℕ × Member ℕ → ℕ × ℕ = node_for nat_eq (place_at_number places) (length nodes) (place_order t) (starts_from 0 (map (λ k. answer_value (place_at_number places k)) (place_order t))) in
+      let f : Member ℕ × Member ℕ → ℕ × ℕ = node_for nat_eq (place_at_number places) (length nodes) (place_order t) (packed_offsets (map (λ k. answer_value (place_at_number places k)) (place_order t))) in
       let here : get_or nodes i (0, 0) ≡ f (records_at (laid nat_eq t) i) = ap (λ (xs : List (ℕ × ℕ)). get_or xs i (0, 0)) are ∙ get_or-map f (laid nat_eq t) i (at i, at i) (0, 0) (omega (arith, inside, long)) in
       ap (λ tree. record_at bits tree i b) (sym (append-nil (tree_bytes bits nodes))) ∙ law bits nodes [] fits i inside b
-      ∙ of_side b (get_or nodes i (0, 0)) (record_for nat_eq (place_at_number places) (length nodes) (place_order t) (starts_from 0 (map (λ k. answer_value (place_at_number places k)) (place_order t)))) (records_at (laid nat_eq t) i) here
+      ∙ of_side b (get_or nodes i (0, 0)) (record_for nat_eq (place_at_number places) (length nodes) (place_order t) (packed_offsets (map (λ k. answer_value (place_at_number places k)) (place_order t)))) (records_at (laid nat_eq t) i) here
 
   sought : (b : Bool) (w : List Bool) (k : ℕ) → look t (b ∷ w) ≡ Some k → seek (record_at bits (tree_bytes bits nodes)) (length nodes) 0 (b ∷ w) ≡ Some (number (says k))
   unfolding number
   sought b w k is =
-      seek_goes (length nodes) (record_for nat_eq (place_at_number places) (length nodes) (place_order t) (starts_from 0 (map (λ k'. answer_value (place_at_number places k')) (place_order t)))) (record_at bits (tree_bytes bits nodes)) (laid nat_eq t)
+      seek_goes (length nodes) (record_for nat_eq (place_at_number places) (length nodes) (place_order t) (packed_offsets (map (λ k'. answer_value (place_at_number places k')) (place_order t)))) (record_at bits (tree_bytes bits nodes)) (laid nat_eq t)
       (λ i. refl) number_past read_as (λ i past. get_or_past (laid nat_eq t) i (at i, at i) (omega (arith, past, long))) k (b ∷ w) 0 (LaidOut-holds nat_eq nat_equality t b w ∙ is)
 
   -- what stands at the record for a leaf
   told_at : (k : ℕ) → In k (leaves t) → (o : Option PlaceParts) → place_at_number places k ≡ o → value_at file (place_of_record file (Some (number (says k)))) ≡ Ok (option_map place_value o)
   unfolding number file
   told_at k leaf-of None is =
-      let r : number (says k) ≡ length nodes = ap (λ (o : Option PlaceParts). if is_some o then length nodes + 16 + slice_index (starts_from 0 (map (λ k'. answer_value (place_at_number places k')) (place_order t))) (position_or_len (nat_eq k) (place_order t)) else length nodes) is in
+      let r : number (says k) ≡ length nodes = ap (λ (o : Option PlaceParts). if is_some o then length nodes + 16 + slice_index (packed_offsets (map (λ k'. answer_value (place_at_number places k')) (place_order t))) (position_or_len (nat_eq k) (place_order t)) else length nodes) is in
       ap (λ n. value_at file (place_of_record file (Some n))) r ∙ ap (value_at file) (none_placed file)
   told_at k leaf-of (Some p) is =
       let values : List Tree = map (λ k'. answer_value (place_at_number places k')) (place_order t) in
       let i : ℕ = position_or_len (nat_eq k) (place_order t) in
-      let start : ℕ = slice_index (starts_from 0 values) i in
+      let start : ℕ = slice_index (packed_offsets values) i in
       let test : is_place k ≡ true = sym (place_or_none places k (leaf_fits (λ n. n ≤ length places) t all k leaf-of)) ∙ ap is_some is in
       let among : In k (place_order t) = In-filter nat_eq nat_equality is_place k (leaf_order nat_eq t) (In-each_once-new nat_eq nat_equality k [] (leaves t) leaf-of) test in
       let inside : i < length (place_order t) = position-within nat_eq nat_equality k (place_order t) among in
       let stands : get_or (place_order t) i 0 ≡ k = get_or-position nat_eq nat_equality k 0 (place_order t) among in
       let valued : get_or values i (bool false) ≡ place_value p = get_or-map (λ k'. answer_value (place_at_number places k')) (place_order t) i 0 (bool false) inside ∙ ap (λ k'. answer_value (place_at_number places k')) stands ∙ ap answer_value is in
-      let read : reads (spellings values) start ≡ Ok (place_value p) =
-      value_again [] values (bool false) (all_map CanBeRead (λ k'. answer_value (place_at_number places k')) (place_order t) readable) i (omega (arith, inside, length-mapped (λ k'. answer_value (place_at_number places k')) (place_order t))) ∙ ap Ok valued in
+      let read : reads (packed values) start ≡ Ok (place_value p) =
+      each_is_read values (bool false) (all_map CanBeReadBack (λ k'. answer_value (place_at_number places k')) (place_order t) readable) i (omega (arith, inside, length-mapped (λ k'. answer_value (place_at_number places k')) (place_order t))) ∙ ap Ok valued in
       let r : number (says k) ≡ length nodes + 16 + start = ap (λ (o : Option PlaceParts). if is_some o then length nodes + 16 + start else length nodes) is in
       ap (λ n. value_at file (place_of_record file (Some n))) r
-      ∙ ap (value_at file) (some_placed file start (reads_within (spellings values) start (place_value p) read))
+      ∙ ap (value_at file) (some_placed file start (reads_within (packed values) start (place_value p) read))
       ∙ ap value_read read
 
   pub walked : (b : Bool) (w : List Bool) (k : ℕ) → look t (b ∷ w) ≡ Some k
-      → walk (file_of bits nodes (spellings (map (λ k'. answer_value (place_at_number places k')) (place_order t))) epoch name) (b ∷ w) ≡ Ok (option_map place_value (place_at_number places k))
+      → walk (file_of bits nodes (packed (map (λ k'. answer_value (place_at_number places k')) (place_order t))) epoch name) (b ∷ w) ≡ Ok (option_map place_value (place_at_number places k))
   unfolding walk place_at file
   walked b w k is =
-      ap (λ o. walk_opened o (b ∷ w)) (opened_again bits nodes (spellings (map (λ k'. answer_value (place_at_number places k')) (place_order t))) epoch name some few low utf8 short)
+      ap (λ o. walk_opened o (b ∷ w)) (opened_again bits nodes (packed (map (λ k'. answer_value (place_at_number places k')) (place_order t))) epoch name some few low utf8 short)
       ∙ ap (λ s. value_at file (place_of_record file s)) (sought b w k is)
       ∙ told_at k (look_in t (b ∷ w) k is) (place_at_number places k) refl
 
 -- the law along the bits of an address
 pub walked_address : WrittenFileIsWalked → (places : List PlaceParts) (t : LeafTree ℕ) → AllLeaves (λ k. k ≤ length places) t → (bits : Bits) (epoch : ℕ) (name : List ℕ) → epoch < 2 ^ 64 → IsUtf8 name → length name ≤ 64
-    → All (λ k. CanBeRead (answer_value (place_at_number places k))) (place_order t)
+    → All (λ k. CanBeReadBack (answer_value (place_at_number places k))) (place_order t)
     → (nodes : List (ℕ × ℕ)) → ((k : ℕ) → k < length nodes → NodeFits bits (get_or nodes k (0, 0))) → length nodes < 2 ^ 32
-    → (n : ℕ) → nodes ≡ map (node_for nat_eq (place_at_number places) n (place_order t) (starts_from 0 (map (λ k. answer_value (place_at_number places k)) (place_order t)))) (laid nat_eq t)
+    → (n : ℕ) → nodes ≡ map (node_for nat_eq (place_at_number places) n (place_order t) (packed_offsets (map (λ k. answer_value (place_at_number places k)) (place_order t)))) (laid nat_eq t)
     → n ≡ max (length (inner nat_eq t)) 1
     → (w : List Bool) → 0 < length w → (k : ℕ) → look t w ≡ Some k
-    → walk (file_of bits nodes (spellings (map (λ k'. answer_value (place_at_number places k')) (place_order t))) epoch name) w ≡ Ok (option_map place_value (place_at_number places k))
+    → walk (file_of bits nodes (packed (map (λ k'. answer_value (place_at_number places k')) (place_order t))) epoch name) w ≡ Ok (option_map place_value (place_at_number places k))
 walked_address law places t all bits epoch name low utf8 short readable nodes fits few n are counted [] some k is = absurd (omega arith)
 walked_address law places t all bits epoch name low utf8 short readable nodes fits few n are counted (b ∷ w) some k is =
-    let f : ℕ → Member ℕ × Member ℕ → ℕ × ℕ = λ x. node_for nat_eq (place_at_number places) x (place_order t) (starts_from 0 (map (λ k'. answer_value (place_at_number places k')) (place_order t))) in
+    let f : ℕ → Member ℕ × Member ℕ → ℕ × ℕ = λ x. node_for nat_eq (place_at_number places) x (place_order t) (packed_offsets (map (λ k'. answer_value (place_at_number places k')) (place_order t))) in
     let long : length nodes ≡ length (laid nat_eq t) = ap length are ∙ length-mapped (f n) (laid nat_eq t) in
     let same : n ≡ length nodes = counted ∙ sym (laid_len t) ∙ sym long in
     law places t all bits epoch name low utf8 short readable nodes fits few (are ∙ ap (λ x. map (f x) (laid nat_eq t)) same) long (omega (arith, same, counted)) b w k is

@@ -2,8 +2,7 @@
 use Rattle.std.proofs.Common.{◌≡◌, ℕ, zero, suc, ◌+◌, ◌*◌, ◌<◌, ◌≤◌, not, Bool, true, false, List, [], ◌∷◌, ◌++◌, length, take, drop, get_or, Some, None, refl, sym, ap, ◌∙◌, arith, append_assoc, append-nil, length-append, length-take, inl, inr, subst, All, add-one}
 use Rattle.std.proofs.Common.{map as map_list}
 use Rattle.mmdb_data.specs.Tree.{Tree, map, most, CanBeSpelled}
-use Rattle.mmdb_data.specs.Spelling.{spelling}
-use Rattle.mmdb_file.specs.Section.{spellings, starts_from}
+use Rattle.mmdb_data.specs.Packing.{Packed, in_full, all_in_full, offsets_in}
 use Rattle.std.specs.List.{position, position_or_len, list_any}
 use Rattle.std.proofs.lemmas.Bool.{cases_lt, lt-ltb}
 use Rattle.std.proofs.lemmas.List.{take_more, take_at, take_all}
@@ -63,21 +62,18 @@ module _ (value : ℕ → Tree) (numbers : List ℕ) (i : ℕ) (inside : i < len
   rest_is : map_list value (drop i numbers) ≡ value (get_or numbers i 0) ∷ map_list value (drop (i + 1) numbers)
   rest_is = ap (map_list value) (drop-cons numbers i 0 inside ∙ ap (λ n. get_or numbers i 0 ∷ drop n numbers) (sym (add-one i)))
 
-  pub data_bytes : (made new total : List ℕ) → made ++ spellings (map_list value (drop i numbers)) ≡ total → new ≡ made ++ spelling (value (get_or numbers i 0)) → new ++ spellings (map_list value (drop (i + 1) numbers)) ≡ total
-  data_bytes made new total before is =
-      ap (λ b. b ++ spellings (map_list value (drop (i + 1) numbers))) is
-      ∙ append_assoc made (spelling (value (get_or numbers i 0))) (spellings (map_list value (drop (i + 1) numbers)))
-      ∙ sym (ap (λ v. made ++ spellings v) rest_is) ∙ before
+  pub data_packed : (made new total : Packed) → all_in_full (map_list value (drop i numbers)) made ≡ total → new ≡ in_full (value (get_or numbers i 0)) made → all_in_full (map_list value (drop (i + 1) numbers)) new ≡ total
+  data_packed made new total before is =
+      ap (all_in_full (map_list value (drop (i + 1) numbers))) is ∙ sym (ap (λ v. all_in_full v made) rest_is) ∙ before
 
-  pub data_starts : (made new starts later total : List ℕ) → starts ++ starts_from (length made) (map_list value (drop i numbers)) ≡ total
-      → later ≡ starts ++ length made ∷ [] → new ≡ made ++ spelling (value (get_or numbers i 0)) → later ++ starts_from (length new) (map_list value (drop (i + 1) numbers)) ≡ total
+  pub data_starts : (made new : Packed) (starts later total : List ℕ) → starts ++ offsets_in (map_list value (drop i numbers)) made ≡ total
+      → later ≡ starts ++ length made.bytes ∷ [] → new ≡ in_full (value (get_or numbers i 0)) made → later ++ offsets_in (map_list value (drop (i + 1) numbers)) new ≡ total
   data_starts made new starts later total before is_later is_new =
-      let long : length new ≡ length made + length (spelling (value (get_or numbers i 0))) = ap length is_new ∙ length-append made (spelling (value (get_or numbers i 0))) in
-      let rest : List ℕ = starts_from (length made + length (spelling (value (get_or numbers i 0)))) (map_list value (drop (i + 1) numbers)) in
-      ap (λ n. later ++ starts_from n (map_list value (drop (i + 1) numbers))) long
+      let rest : List ℕ = offsets_in (map_list value (drop (i + 1) numbers)) (in_full (value (get_or numbers i 0)) made) in
+      ap (λ (s : Packed). later ++ offsets_in (map_list value (drop (i + 1) numbers)) s) is_new
       ∙ ap (λ s. s ++ rest) is_later
-      ∙ append_assoc starts (length made ∷ []) rest
-      ∙ sym (ap (λ v. starts ++ starts_from (length made) v) rest_is) ∙ before
+      ∙ append_assoc starts (length made.bytes ∷ []) rest
+      ∙ sym (ap (λ v. starts ++ offsets_in v made) rest_is) ∙ before
 
 pub All_more : {X : Type 0} (P : X → Type 0) (xs : List X) (i : ℕ) (d : X) → i < length xs → All P (take i xs) → P (get_or xs i d) → All P (take (i + 1) xs)
 All_more P xs i d inside before here = subst (All P) (sym (take_more xs i d inside)) (All-push P (take i xs) (get_or xs i d) before here)
@@ -148,12 +144,6 @@ told_spelled epoch name nodes size few =
       ),
       omega arith,
     )
-
--- no value begins behind the end of the data section
-pub starts-le : (values : List Tree) (n k : ℕ) → slice_index (starts_from n values) k ≤ n + length (spellings values)
-starts-le [] n k = omega arith
-starts-le (value ∷ values) n zero = omega arith
-starts-le (value ∷ values) n (suc k) = omega (arith, starts-le values (n + length (spelling value)) k, length-append (spelling value) (spellings values))
 
 -- a set is no longer than the list that it was made of
 pub length-each_once : {X : Type 0} (eq : X → X → Bool) (seen xs : List X) → length (each_once eq seen xs) ≤ length seen + length xs

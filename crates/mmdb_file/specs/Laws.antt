@@ -10,10 +10,10 @@ use Rattle.least_nodes.specs.Layout.{laid, place_order}
 use Rattle.mmdb_tree.specs.Laws.{NodeFits}
 use Rattle.mmdb_tree.specs.Nodes.{record_size}
 use Rattle.mmdb_file.specs.PlaceValue.{place_value}
-use Rattle.mmdb_file.specs.Section.{spellings, starts_from}
+use Rattle.mmdb_data.specs.Tree.{CanBeReadBack}
+use Rattle.mmdb_data.specs.Packing.{packed, packed_offsets}
 use Rattle.mmdb_file.specs.FileImage.{answer_value, node_for, file_of, file_with, file}
 use Rattle.mmdb_file.specs.Walk.{walk}
-use Rattle.mmdb_file.specs.Writing.{CanBeRead}
 use Rattle.mmdb_file.specs.Marker.{marker, last_marker}
 use Rattle.mmdb_file.specs.Metadata.{metadata}
 
@@ -33,9 +33,9 @@ NumbersStandForPlaces =
 abbrev pub WrittenFileIsWalked : Type 0
 WrittenFileIsWalked =
     (places : List PlaceParts) (t : Tree ℕ) → AllLeaves (λ k. k ≤ length places) t → (bits : Bits) (epoch : ℕ) (name : List ℕ) → epoch < 2 ^ 64 → IsUtf8 name → length name ≤ 64
-    → All (λ k. CanBeRead (answer_value (place_at places k))) (place_order t)
+    → All (λ k. CanBeReadBack (answer_value (place_at places k))) (place_order t)
     → (nodes : List (ℕ × ℕ)) → ((k : ℕ) → k < length nodes → NodeFits bits (slice_index_or nodes k (0, 0))) → length nodes < 2 ^ 32
-    → nodes ≡ map (node_for nat_eq (place_at places) (length nodes) (place_order t) (starts_from 0 (map (λ k. answer_value (place_at places k)) (place_order t)))) (laid nat_eq t)
+    → nodes ≡ map (node_for nat_eq (place_at places) (length nodes) (place_order t) (packed_offsets (map (λ k. answer_value (place_at places k)) (place_order t)))) (laid nat_eq t)
     → length nodes ≡ length (laid nat_eq t) → 0 < length nodes
     → (b : Bool) (w : List Bool) (k : ℕ) → look t (b ∷ w) ≡ Some k
-    → walk (file_of bits nodes (spellings (map (λ k'. answer_value (place_at places k')) (place_order t))) epoch name) (b ∷ w) ≡ Ok (option_map place_value (place_at places k))
+    → walk (file_of bits nodes (packed (map (λ k'. answer_value (place_at places k')) (place_order t))) epoch name) (b ∷ w) ≡ Ok (option_map place_value (place_at places k))

@@ -1,5 +1,5 @@
 -- What the writer's steps give.
-use Rattle.std.specs.Prelude.{◌≡◌, ◌≤◌, ◌<◌, ◌^◌, ℕ, ◌+◌, ◌==◌, Bool, List, [], ◌∷◌, map, length, max, slice_index, slice_index_or, nat_eq, Option, Some, if◌then◌else◌}
+use Rattle.std.specs.Prelude.{◌≡◌, ◌<◌, ◌^◌, ℕ, ◌+◌, ◌==◌, Bool, List, [], ◌∷◌, map, length, max, slice_index, slice_index_or, nat_eq, Option, Some, if◌then◌else◌}
 use Rattle.std.specs.List.{position_or_len, list_any}
 use Rattle.trie_core.specs.declared.node.NodeId.{NodeId}
 use Rattle.trie_core.specs.declared.node.Rec.{Rec}
@@ -15,12 +15,7 @@ use Rattle.trie_core.specs.Store.{leaf_at, tree_of}
 use Rattle.least_nodes.specs.NodeList.{Member, at, go}
 use Rattle.least_nodes.specs.Layout.{inner, place_order}
 use Rattle.mmdb_file.specs.FileImage.{answer_value}
-use Rattle.mmdb_file.specs.Section.{spellings}
-use Rattle.mmdb_data.specs.Tree.{Tree as Value, CanBeSpelled, IsTyped, count}
-
--- a value that is written is read again
-abbrev pub CanBeRead : Value → Type 0
-CanBeRead value = CanBeSpelled value × IsTyped value × (count value ≤ 100000)
+use Rattle.mmdb_data.specs.Packing.{packed}
 
 -- whether two nodes of a store are the same
 abbrev pub same_id : NodeId → NodeId → Bool
@@ -65,7 +60,7 @@ count_for t = max (length (inner nat_eq t)) 1
 
 -- the data section that is written for a tree of place numbers
 abbrev pub section_for : List PlaceParts → Tree ℕ → List ℕ
-section_for places t = spellings (map (λ k. answer_value (place_at places k)) (place_order t))
+section_for places t = packed (map (λ k. answer_value (place_at places k)) (place_order t))
 
 -- no record is above this number
 abbrev pub end_for : List PlaceParts → Tree ℕ → ℕ

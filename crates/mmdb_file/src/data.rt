@@ -1,36 +1,35 @@
 //! The data section of a file.
 ghost use Rattle.std.specs.Prelude.{◌≡◌, ◌++◌, [], ◌∷◌, length, map as map_list, IfOk, OnOk, All};
-ghost use Rattle.mmdb_data.specs.Spelling.{spelling};
+ghost use Rattle.mmdb_data.specs.Tree.{CanBeReadBack};
+ghost use Rattle.mmdb_data.specs.Packing.{packed, packed_offsets, in_full};
 ghost use Rattle.mmdb_data.specs.View.{tree as value_tree};
 ghost use Rattle.geo_terms.specs.Numbers.{place_at};
 ghost use Rattle.mmdb_file.specs.FileImage.{answer_value};
-ghost use Rattle.mmdb_file.specs.Section.{spellings, starts_from};
-ghost use Rattle.mmdb_file.specs.Writing.{CanBeRead};
 
 use crate::place::place_value;
 use geo_addr::Memory;
 use geo_terms::Places;
-use mmdb_data::{Value, encode};
+use mmdb_data::{Packer, Value};
 use std::alloc::Global;
 
-/// The bytes of a data section, and where each value begins.
+/// A data section, and where each of its values begins.
 #[derive(Drop)]
 pub(crate) struct Data {
-    pub(crate) bytes: Vec<u8>,
+    pub(crate) section: Packer,
     pub(crate) starts: Vec<u64>,
 }
 
 /// The data section of the places with these numbers, in this order.
 pub(crate) fn data_of(alloc: Global, places: &Places, numbers: &[u32]) -> Result<Data, Memory>
-    ensures bytes { IfOk result
-        (λ made. made.bytes.items ≡ spellings (map_list (λ k. answer_value (place_at places.now k)) numbers.now)) }
+    ensures section { IfOk result
+        (λ made. made.section.bytes ≡ packed (map_list (λ k. answer_value (place_at places.now k)) numbers.now)) }
     ensures starts { IfOk result
-        (λ made. made.starts.items ≡ starts_from 0 (map_list (λ k. answer_value (place_at places.now k)) numbers.now)) }
+        (λ made. made.starts.items ≡ packed_offsets (map_list (λ k. answer_value (place_at places.now k)) numbers.now)) }
     ensures readable { IfOk result
-        (λ _. All (λ k. CanBeRead (answer_value (place_at places.now k))) numbers.now) }
+        (λ _. All (λ k. CanBeReadBack (answer_value (place_at places.now k))) numbers.now) }
 {
     let mut made = Data {
-        bytes: Vec::new(alloc),
+        section: Packer::new(alloc),
         starts: Vec::new(alloc),
     };
     for number in numbers {
@@ -40,20 +39,21 @@ pub(crate) fn data_of(alloc: Global, places: &Places, numbers: &[u32]) -> Result
 }
 
 fn add(alloc: Global, made: &mut Data, places: &Places, number: u32) -> Result<(), Memory>
-    ensures bytes { OnOk result
-        (made.new.bytes.items ≡ made.old.bytes.items ++ spelling (answer_value (place_at places.now number))) }
+    ensures section { OnOk result
+        (made.new.section ≡ in_full (answer_value (place_at places.now number)) made.old.section) }
     ensures starts { OnOk result
-        (made.new.starts.items ≡ made.old.starts.items ++ length made.old.bytes.items ∷ []) }
-    ensures readable { OnOk result (CanBeRead (answer_value (place_at places.now number))) }
+        (made.new.starts.items ≡ made.old.starts.items ++ length made.old.section.bytes ∷ []) }
+    ensures readable { OnOk result (CanBeReadBack (answer_value (place_at places.now number))) }
 {
     let value = value_of(alloc, places, number)?;
-    made.starts.push(made.bytes.len() as u64)?;
-    encode(alloc, &value, &mut made.bytes)
+    let start = made.section.put(&value)?;
+    made.starts.push(start)?;
+    Ok(())
 }
 
 fn value_of(alloc: Global, places: &Places, number: u32) -> Result<Value, Memory>
     ensures value { IfOk result (λ value. value_tree value ≡ answer_value (place_at places.now number)) }
-    ensures readable { IfOk result (λ value. CanBeRead (value_tree value)) }
+    ensures readable { IfOk result (λ value. CanBeReadBack (value_tree value)) }
 {
     match places.get(number) {
         Some(place) => place_value(alloc, place),

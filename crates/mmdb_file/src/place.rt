@@ -1,8 +1,7 @@
 //! The value that stands for a place in the data section.
 ghost use Rattle.std.specs.Prelude.{◌≡◌, [], ◌∷◌, ◌++◌, IfOk, OnOk, map as map_list, codes};
-ghost use Rattle.mmdb_data.specs.Tree.{text as text_tree, list as list_tree, item, no_items};
+ghost use Rattle.mmdb_data.specs.Tree.{CanBeReadBack, text as text_tree, list as list_tree, item, no_items};
 ghost use Rattle.mmdb_data.specs.View.{tree as value_tree, pair_view};
-ghost use Rattle.mmdb_file.specs.Writing.{CanBeRead};
 ghost use Rattle.mmdb_file.specs.PlaceValue.{one, subdivision as subdivision_of, city_member, country_member, postal_member, region_member, subdivision_list, place_value as value_of_place};
 
 use geo_addr::{Memory, Text};
@@ -14,7 +13,7 @@ use std::alloc::Global;
 /// left out.
 pub fn place_value(alloc: Global, place: &Place) -> Result<Value, Memory>
     ensures value { IfOk result (λ value. value_tree value ≡ value_of_place place.now) }
-    ensures readable { IfOk result (λ value. CanBeRead (value_tree value)) }
+    ensures readable { IfOk result (λ value. CanBeReadBack (value_tree value)) }
 {
     let (country, region) = (place.country.as_str(), place.region.as_str());
     let value = value_of_parts(

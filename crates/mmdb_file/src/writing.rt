@@ -16,7 +16,7 @@ ghost use Rattle.mmdb_tree.specs.Nodes.{limit, smallest, record_size, tree_bytes
 ghost use Rattle.mmdb_file.specs.FileImage.{file, file_of, file_with, file_nodes, file_section, file_end, same_answer};
 ghost use Rattle.mmdb_file.specs.declared.fault.FileFault.TheVariants as faults;
 
-use crate::data::data_of;
+use crate::data::{Data, data_of};
 use crate::fault::FileFault;
 use crate::laws::written_file_is_walked;
 use crate::marker::MARKER;
@@ -85,24 +85,16 @@ pub fn write_file(
     let tree = store.rec_of(root);
     let layout = order(alloc, store, root)?;
     let leaves = layout.leaves.as_slice();
-    let section = data_of(alloc, places, leaves)?;
+    let Data { section, starts } = data_of(alloc, places, leaves)?;
+    let packed = section.bytes();
     let count = layout.nodes.len().max(1);
-    let len = section.bytes.len();
+    let len = packed.len();
     let Some(bits) = bits_for(count, len) else {
         return Err(FileFault::TooLarge);
     };
-    let numbers = numbers_of(count as u32, layout, section.starts);
+    let numbers = numbers_of(count as u32, layout, starts);
     let ids = numbers.nodes.as_slice();
-    let bytes = written(
-        alloc,
-        store,
-        tree,
-        ids,
-        &numbers,
-        bits,
-        section.bytes.as_slice(),
-        meta,
-    )?;
+    let bytes = written(alloc, store, tree, ids, &numbers, bits, packed, meta)?;
     Ok(Emitted {
         bytes,
         nodes: count as u64,
@@ -111,8 +103,10 @@ pub fn write_file(
     })
 }
 
-// What the file of the numbers and its counts are as those of the places. Calling it does nothing.
-fn numbers_to_places(store: &Store, root: Root, places: &Places)
+/// The law that the tree that a root means, with its leaves as the places that they number, is the tree of
+/// those places, and that the file of the numbers and its counts are those of the places. Calling it does
+/// nothing.
+pub fn numbers_to_places(store: &Store, root: Root, places: &Places)
     requires root { IsRootOf store.now root }
     requires numbers { (address k : ℕ) → address < 2 ^ 128 → leaf_at store.now root address ≡ Some k → k ≤ length places.now }
     ensures places { (answer : ℕ → Option PlaceParts) → AnswersPlaces places.now store.now root answer

@@ -1,4 +1,4 @@
-use Rattle.std.proofs.Common.{◌≡◌, ◌∙◌, ◌+◌, ap, sym, length, arith, [], ℕ, List, refl, subst, All, ◌<◌, ◌^◌}
+use Rattle.std.proofs.Common.{◌≡◌, ◌∙◌, ◌+◌, ap, sym, length, arith, ℕ, List, refl, subst, All, ◌<◌, ◌^◌}
 use Rattle.std.specs.Prelude.{slice_index, nat_eq, option_map, Some}
 use Rattle.trie_core.specs.declared.node.NodeId.{NodeId}
 use Rattle.trie_core.specs.declared.node.Rec.TheVariants.{Node}
@@ -15,12 +15,14 @@ use Rattle.mmdb_file.specs.Walk.{walk}
 use Rattle.least_nodes.specs.Layout.{inner, place_order}
 use Rattle.least_nodes.specs.Order.{trees_of}
 use Rattle.mmdb_tree.specs.Nodes.{smallest, record_size}
-use Rattle.mmdb_file.specs.Section.{spellings, starts_from}
+use Rattle.mmdb_data.specs.Tree.{CanBeReadBack}
+use Rattle.mmdb_data.specs.Packing.{packed, packed_offsets}
+use Rattle.mmdb_data.proofs.PackedReads.{packed_offsets-le}
 use Rattle.std.proofs.Common.{map as map_list}
 use Rattle.geo_terms.specs.Numbers.{place_at}
 use Rattle.mmdb_file.specs.FileImage.{answer_value, file_of}
-use Rattle.mmdb_file.specs.Writing.{section_for, count_for, end_for, nodes_from, number_of, record_number, CanBeRead}
-use Rattle.mmdb_file.proofs.WritingLemmas.{starts-le, length-mapped, length-nodes_from, limit-le}
+use Rattle.mmdb_file.specs.Writing.{section_for, count_for, end_for, nodes_from, number_of, record_number}
+use Rattle.mmdb_file.proofs.WritingLemmas.{length-mapped, length-nodes_from, limit-le}
 use Rattle.mmdb_file.proofs.writing.write_file.Goals as goal
 
 pub written-requires-clause-keys : goal.written-requires-clause-keys
@@ -32,26 +34,25 @@ written-requires-clause-low c = λ k.
     omega (
       arith,
       ap (λ (s : List ℕ). slice_index s k) (c.numbers_of-numbers.ensures.starts ∙ c.in_ok-section.ensures.starts),
-      starts-le (map_list (λ k'. answer_value (place_at c.args.places.now k')) c.as_slice-leaves.result.now) 0 k,
-      ap length c.in_ok-section.ensures.bytes,
-      c.len-len.ensures,
-      c.in_ok-section.section.bytes.ok.0,
+      packed_offsets-le (map_list (λ k'. answer_value (place_at c.args.places.now k')) c.as_slice-leaves.result.now) k,
+      ap length c.in_ok-section.ensures.section,
+      ap length c.bytes-packed.ensures,
       c.numbers_of-numbers.ensures.count,
       c.in-Some.ensures.low,
     )
 
 -- the section's bytes and the nodes are as many as the definitions say
-section_len : (places : List PlaceParts) (t : Tree ℕ) (ks items : List ℕ) → ks ≡ place_order t → items ≡ spellings (map_list (λ k. answer_value (place_at places k)) ks) → length items ≡ length (section_for places t)
-section_len places t ks items leaves bytes =
-    ap length bytes ∙ ap (λ (ks' : List ℕ). length (spellings (map_list (λ k. answer_value (place_at places k)) ks'))) leaves
+section_len : (places : List PlaceParts) (t : Tree ℕ) (ks bytes : List ℕ) → ks ≡ place_order t → bytes ≡ packed (map_list (λ k. answer_value (place_at places k)) ks) → length bytes ≡ length (section_for places t)
+section_len places t ks bytes leaves is =
+    ap length is ∙ ap (λ (ks' : List ℕ). length (packed (map_list (λ k. answer_value (place_at places k)) ks'))) leaves
 
 count_len : (pairs : List Pair) (t : Tree ℕ) (ids : List NodeId) → trees_of pairs ids ≡ inner nat_eq t → length ids ≡ length (inner nat_eq t)
 count_len pairs t ids trees = sym (length-mapped (λ (id : NodeId). meaning pairs (Node id)) ids) ∙ ap length trees
 
 pub returns-clause-section : goal.returns-clause-section
 returns-clause-section c =
-    let section-is : c.len-len.result ≡ length (section_for c.args.places.now (tree_of c.args.store.now c.args.root)) =
-    omega (arith, c.len-len.ensures, c.in_ok-section.section.bytes.ok.0, section_len c.args.places.now (tree_of c.args.store.now c.args.root) c.as_slice-leaves.result.now c.in_ok-section.section.bytes.items (c.as_slice-leaves.ensures.keys ∙ c.in_ok-layout.ensures.leaves) c.in_ok-section.ensures.bytes) in
+    let section-is : length c.bytes-packed.result.now ≡ length (section_for c.args.places.now (tree_of c.args.store.now c.args.root)) =
+    omega (arith, ap length c.bytes-packed.ensures, section_len c.args.places.now (tree_of c.args.store.now c.args.root) c.as_slice-leaves.result.now c.in_ok-section.field-0.section.bytes (c.as_slice-leaves.ensures.keys ∙ c.in_ok-layout.ensures.leaves) c.in_ok-section.ensures.section) in
     section-is ∙ ap length (sym c.numbers_to_places.ensures.section)
 
 pub returns-clause-nodes : goal.returns-clause-nodes
@@ -68,35 +69,35 @@ returns-clause-fewest c =
 
 pub returns-clause-bits : goal.returns-clause-bits
 returns-clause-bits c =
-    let section-is : c.len-len.result ≡ length (section_for c.args.places.now (tree_of c.args.store.now c.args.root)) =
-    omega (arith, c.len-len.ensures, c.in_ok-section.section.bytes.ok.0, section_len c.args.places.now (tree_of c.args.store.now c.args.root) c.as_slice-leaves.result.now c.in_ok-section.section.bytes.items (c.as_slice-leaves.ensures.keys ∙ c.in_ok-layout.ensures.leaves) c.in_ok-section.ensures.bytes) in
+    let section-is : length c.bytes-packed.result.now ≡ length (section_for c.args.places.now (tree_of c.args.store.now c.args.root)) =
+    omega (arith, ap length c.bytes-packed.ensures, section_len c.args.places.now (tree_of c.args.store.now c.args.root) c.as_slice-leaves.result.now c.in_ok-section.field-0.section.bytes (c.as_slice-leaves.ensures.keys ∙ c.in_ok-layout.ensures.leaves) c.in_ok-section.ensures.section) in
     let count-is : c.max-count.result ≡ count_for (tree_of c.args.store.now c.args.root) =
     omega (arith, c.max-count.ensures, c.len.ensures.len, count_len c.args.store.now (tree_of c.args.store.now c.args.root) c.in_ok-layout.layout.nodes.keys c.in_ok-layout.ensures.nodes) in
-    let end : c.max-count.result + 16 + c.len-len.result ≡ end_for c.args.places.now (tree_of c.args.store.now c.args.root) = omega (arith, section-is, count-is) in
+    let end : c.max-count.result + 16 + length c.bytes-packed.result.now ≡ end_for c.args.places.now (tree_of c.args.store.now c.args.root) = omega (arith, section-is, count-is) in
     ap (λ (n : ℕ). option_map record_size (smallest n)) (c.numbers_to_places.ensures.end ∙ sym end) ∙ ap (option_map record_size) (sym c.in-Some.ensures.bits) ∙ ap Some (sym c.size.ensures)
 
 pub returns-clause-bytes : goal.returns-clause-bytes
 returns-clause-bytes c =
-    let section-is : c.len-len.result ≡ length (section_for c.args.places.now (tree_of c.args.store.now c.args.root)) =
-    omega (arith, c.len-len.ensures, c.in_ok-section.section.bytes.ok.0, section_len c.args.places.now (tree_of c.args.store.now c.args.root) c.as_slice-leaves.result.now c.in_ok-section.section.bytes.items (c.as_slice-leaves.ensures.keys ∙ c.in_ok-layout.ensures.leaves) c.in_ok-section.ensures.bytes) in
+    let section-is : length c.bytes-packed.result.now ≡ length (section_for c.args.places.now (tree_of c.args.store.now c.args.root)) =
+    omega (arith, ap length c.bytes-packed.ensures, section_len c.args.places.now (tree_of c.args.store.now c.args.root) c.as_slice-leaves.result.now c.in_ok-section.field-0.section.bytes (c.as_slice-leaves.ensures.keys ∙ c.in_ok-layout.ensures.leaves) c.in_ok-section.ensures.section) in
     let count-is : c.max-count.result ≡ count_for (tree_of c.args.store.now c.args.root) =
     omega (arith, c.max-count.ensures, c.len.ensures.len, count_len c.args.store.now (tree_of c.args.store.now c.args.root) c.in_ok-layout.layout.nodes.keys c.in_ok-layout.ensures.nodes) in
     let root : Rec = record_of c.args.root in
     let t : Tree ℕ = tree_of c.args.store.now c.args.root in
     let leaves : c.as_slice-leaves.result.now ≡ place_order t = c.as_slice-leaves.ensures.keys ∙ c.in_ok-layout.ensures.leaves in
-    let end : c.max-count.result + 16 + length (section_for c.args.places.now t) ≡ c.max-count.result + 16 + c.len-len.result = omega (arith, section-is) in
+    let end : c.max-count.result + 16 + length (section_for c.args.places.now t) ≡ c.max-count.result + 16 + length c.bytes-packed.result.now = omega (arith, section-is) in
     let fits : smallest (c.max-count.result + 16 + length (section_for c.args.places.now t)) ≡ Some c.in-Some.bits = ap smallest end ∙ sym c.in-Some.ensures.bits in
     sym (c.numbers_to_places.ensures.bytes c.args.meta.now.epoch c.args.meta.now.name)
     ∙ image_is c.args.store.now c.rec_of-tree.ensures.sound c.args.places.now root c.requires.root (numbers_known c.args.store.now c.rec_of-tree.ensures.sound c.args.places.now (record_of c.args.root) c.requires.root c.requires.numbers) c.in_ok-layout.layout.nodes.keys c.in_ok-layout.ensures.of c.in_ok-layout.ensures.nodes
     c.in-Some.bits c.args.meta.now.epoch c.args.meta.now.name c.max-count.result count-is fits
     ∙ written_is c.in-Some.bits c.args.store.now c.args.meta.now.epoch c.args.meta.now.name c.in_ok-bytes.bytes.items c.numbers_of-numbers.result.count c.max-count.result
-    c.numbers_of-numbers.result.nodes.keys c.as_slice-ids.result.now c.in_ok-layout.layout.nodes.keys c.numbers_of-numbers.result.places.keys (place_order t) c.numbers_of-numbers.result.starts.items _ c.as_slice.result.now _ c.rec_of-tree.result root
+    c.numbers_of-numbers.result.nodes.keys c.as_slice-ids.result.now c.in_ok-layout.layout.nodes.keys c.numbers_of-numbers.result.places.keys (place_order t) c.numbers_of-numbers.result.starts.items _ c.bytes-packed.result.now _ c.rec_of-tree.result root
     c.numbers_of-numbers.ensures.count
     c.numbers_of-numbers.ensures.nodes
     (c.as_slice-ids.ensures.keys ∙ c.numbers_of-numbers.ensures.nodes)
     (c.numbers_of-numbers.ensures.places ∙ c.in_ok-layout.ensures.leaves)
-    (c.numbers_of-numbers.ensures.starts ∙ c.in_ok-section.ensures.starts ∙ ap (λ (ks : List ℕ). starts_from 0 (map_list (λ k. answer_value (place_at c.args.places.now k)) ks)) leaves)
-    (c.as_slice.ensures.value ∙ c.in_ok-section.ensures.bytes ∙ ap (λ (ks : List ℕ). spellings (map_list (λ k. answer_value (place_at c.args.places.now k)) ks)) leaves)
+    (c.numbers_of-numbers.ensures.starts ∙ c.in_ok-section.ensures.starts ∙ ap (λ (ks : List ℕ). packed_offsets (map_list (λ k. answer_value (place_at c.args.places.now k)) ks)) leaves)
+    (c.bytes-packed.ensures ∙ c.in_ok-section.ensures.section ∙ ap (λ (ks : List ℕ). packed (map_list (λ k. answer_value (place_at c.args.places.now k)) ks)) leaves)
     c.rec_of-tree.ensures.same
     c.in_ok-bytes.ensures.bytes
 
@@ -109,22 +110,22 @@ returns-clause-walked c =
     let t : Tree ℕ = tree_of c.args.store.now c.args.root in
     let nodes : List (ℕ × ℕ) = nodes_from c.args.store.now (number_of c.numbers_of-numbers.result) c.rec_of-tree.result c.as_slice-ids.result.now in
     let leaves : c.as_slice-leaves.result.now ≡ place_order t = c.as_slice-leaves.ensures.keys ∙ c.in_ok-layout.ensures.leaves in
-    let starts : List ℕ = starts_from 0 (map_list (λ k'. answer_value (place_at c.args.places.now k')) (place_order t)) in
+    let starts : List ℕ = packed_offsets (map_list (λ k'. answer_value (place_at c.args.places.now k')) (place_order t)) in
     let equal : nodes ≡ nodes_from c.args.store.now (record_number c.max-count.result c.in_ok-layout.layout.nodes.keys (place_order t) starts) root c.in_ok-layout.layout.nodes.keys =
     nodes_equal c.args.store.now c.numbers_of-numbers.result.count c.max-count.result c.numbers_of-numbers.result.nodes.keys c.as_slice-ids.result.now c.in_ok-layout.layout.nodes.keys c.numbers_of-numbers.result.places.keys (place_order t) c.numbers_of-numbers.result.starts.items starts c.rec_of-tree.result root
     c.numbers_of-numbers.ensures.count
     c.numbers_of-numbers.ensures.nodes
     (c.as_slice-ids.ensures.keys ∙ c.numbers_of-numbers.ensures.nodes)
     (c.numbers_of-numbers.ensures.places ∙ c.in_ok-layout.ensures.leaves)
-    (c.numbers_of-numbers.ensures.starts ∙ c.in_ok-section.ensures.starts ∙ ap (λ (ks : List ℕ). starts_from 0 (map_list (λ k'. answer_value (place_at c.args.places.now k')) ks)) leaves)
+    (c.numbers_of-numbers.ensures.starts ∙ c.in_ok-section.ensures.starts ∙ ap (λ (ks : List ℕ). packed_offsets (map_list (λ k'. answer_value (place_at c.args.places.now k')) ks)) leaves)
     c.rec_of-tree.ensures.same in
     let are = equal ∙ nodes_are c.args.store.now c.rec_of-tree.ensures.sound c.args.places.now root c.requires.root (numbers_known c.args.store.now c.rec_of-tree.ensures.sound c.args.places.now (record_of c.args.root) c.requires.root c.requires.numbers) c.in_ok-layout.layout.nodes.keys c.in_ok-layout.ensures.of c.in_ok-layout.ensures.nodes c.max-count.result starts t refl in
-    let section : c.as_slice.result.now ≡ spellings (map_list (λ k'. answer_value (place_at c.args.places.now k')) (place_order t)) =
-    c.as_slice.ensures.value ∙ c.in_ok-section.ensures.bytes ∙ ap (λ (ks : List ℕ). spellings (map_list (λ k'. answer_value (place_at c.args.places.now k')) ks)) leaves in
-    let bytes : c.in_ok-bytes.bytes.items ≡ file_of c.in-Some.bits nodes (spellings (map_list (λ k'. answer_value (place_at c.args.places.now k')) (place_order t))) c.args.meta.now.epoch c.args.meta.now.name =
+    let section : c.bytes-packed.result.now ≡ packed (map_list (λ k'. answer_value (place_at c.args.places.now k')) (place_order t)) =
+    c.bytes-packed.ensures ∙ c.in_ok-section.ensures.section ∙ ap (λ (ks : List ℕ). packed (map_list (λ k'. answer_value (place_at c.args.places.now k')) ks)) leaves in
+    let bytes : c.in_ok-bytes.bytes.items ≡ file_of c.in-Some.bits nodes (packed (map_list (λ k'. answer_value (place_at c.args.places.now k')) (place_order t))) c.args.meta.now.epoch c.args.meta.now.name =
     c.in_ok-bytes.ensures.bytes ∙ ap (λ s. file_of c.in-Some.bits nodes s c.args.meta.now.epoch c.args.meta.now.name) section in
     let few : length nodes < 2 ^ 32 = omega (arith, length-nodes_from c.args.store.now (number_of c.numbers_of-numbers.result) c.rec_of-tree.result c.as_slice-ids.result.now, ap length (c.as_slice-ids.ensures.keys ∙ c.numbers_of-numbers.ensures.nodes), c.len.ensures.len, c.max-count.ensures, c.in-Some.ensures.low, limit-le c.in-Some.bits) in
-    let readable = subst (All (λ k'. CanBeRead (answer_value (place_at c.args.places.now k')))) leaves c.in_ok-section.ensures.readable in
+    let readable = subst (All (λ k'. CanBeReadBack (answer_value (place_at c.args.places.now k')))) leaves c.in_ok-section.ensures.readable in
     ap (λ b. walk b (bits_of 128 address)) bytes
     ∙ walked_address c.written_file_is_walked.ensures c.args.places.now t (numbers_known c.args.store.now c.rec_of-tree.ensures.sound c.args.places.now (record_of c.args.root) c.requires.root c.requires.numbers) c.in-Some.bits c.args.meta.now.epoch c.args.meta.now.name c.in_ok-bytes.ensures.typed.0 c.in_ok-bytes.ensures.typed.1 c.requires.name readable nodes c.in_ok-bytes.ensures.fits few
     c.max-count.result are count-is (bits_of 128 address) (omega (arith, length-bits_of 128 address)) k is
@@ -132,8 +133,8 @@ returns-clause-walked c =
 pub returns-in_default-clause-too_large : goal.returns-in_default-clause-too_large
 returns-in_default-clause-too_large c = λ _.
     let t : Tree ℕ = tree_of c.args.store.now c.args.root in
-    let section : length c.in_ok-section.section.bytes.items ≡ length (section_for c.args.places.now t) =
-    section_len c.args.places.now t c.as_slice-leaves.result.now c.in_ok-section.section.bytes.items (c.as_slice-leaves.ensures.keys ∙ c.in_ok-layout.ensures.leaves) c.in_ok-section.ensures.bytes in
+    let section : length c.in_ok-section.field-0.section.bytes ≡ length (section_for c.args.places.now t) =
+    section_len c.args.places.now t c.as_slice-leaves.result.now c.in_ok-section.field-0.section.bytes (c.as_slice-leaves.ensures.keys ∙ c.in_ok-layout.ensures.leaves) c.in_ok-section.ensures.section in
     let count = count_len c.args.store.now t c.in_ok-layout.layout.nodes.keys c.in_ok-layout.ensures.nodes in
-    let end : c.max-count.result + 16 + c.len-len.result ≡ end_for c.args.places.now t = omega (arith, c.len-len.ensures, c.in_ok-section.section.bytes.ok.0, section, c.max-count.ensures, c.len.ensures.len, count) in
+    let end : c.max-count.result + 16 + length c.bytes-packed.result.now ≡ end_for c.args.places.now t = omega (arith, ap length c.bytes-packed.ensures, section, c.max-count.ensures, c.len.ensures.len, count) in
     ap smallest (c.numbers_to_places.ensures.end ∙ sym end) ∙ sym c.in_default.ensures.bits
