@@ -1,0 +1,9 @@
+//! What a file says of an address, as text.
+#![tactic(auto)]
+
+mod lookup;
+
+pub use lookup::{LookupFault, file_line, lookup_text};
+
+#[cfg(test)]
+mod tests;
