@@ -1,7 +1,9 @@
+pub mod CompactLemmas
 pub mod Elements
 pub mod LaidLemmas
 pub mod ListedLemmas
 pub mod Positions
 pub mod RenameLemmas
+pub mod TogetherLemmas
 pub mod TreeParts
 pub mod WalkLemmas

@@ -45,7 +45,7 @@ map-square h g k p (x ∷ xs) agree =
     ap₂ (λ v vs. v ∷ vs) (agree x (inl refl)) (map-square h g k p xs (λ y is. agree y (inr is)))
 
 module _ {A B : Type 0} (f : A → B) where
-  preorder-map_tree : (t : Tree A) → preorder (map_tree f t) ≡ map (map_tree f) (preorder t)
+  pub preorder-map_tree : (t : Tree A) → preorder (map_tree f t) ≡ map (map_tree f) (preorder t)
   preorder-map_tree (leaf a) = refl
   preorder-map_tree (node l r) =
       ap (λ xs. map_tree f (node l r) ∷ xs) (ap₂ (λ a b. a ++ b) (preorder-map_tree l) (preorder-map_tree r) ∙ sym (map-append (map_tree f) (preorder l) (preorder r)))
@@ -57,7 +57,7 @@ module _ {A B : Type 0} (f : A → B) where
 
 module _ {A : Type 0} (P : A → Type 0) where
   -- what holds of all leaves of a tree holds of those of its nodes
-  AllLeaves-preorder : (s t : Tree A) → AllLeaves P t → In s (preorder t) → AllLeaves P s
+  pub AllLeaves-preorder : (s t : Tree A) → AllLeaves P t → In s (preorder t) → AllLeaves P s
   AllLeaves-preorder s (leaf a) all is = absurd is
   AllLeaves-preorder s (node l r) all (inl same) = subst (AllLeaves P) (sym same) all
   AllLeaves-preorder s (node l r) all (inr rest) =
@@ -75,19 +75,19 @@ module _ {A : Type 0} (P : A → Type 0) where
         | inr right ↦ AllLeaves-leaves a r all.1 right
       ]
 
-AllLeaves-weaker : {A : Type 0} (P Q : A → Type 0) → ((a : A) → P a → Q a) → (t : Tree A) → AllLeaves P t → AllLeaves Q t
+pub AllLeaves-weaker : {A : Type 0} (P Q : A → Type 0) → ((a : A) → P a → Q a) → (t : Tree A) → AllLeaves P t → AllLeaves Q t
 AllLeaves-weaker P Q more (leaf a) all = more a all
 AllLeaves-weaker P Q more (node l r) all = (AllLeaves-weaker P Q more l all.0, AllLeaves-weaker P Q more r all.1)
 
 -- each leaf of a tree is one
-AllLeaves-itself : {A : Type 0} (t : Tree A) → AllLeaves (HasLeaf t) t
+pub AllLeaves-itself : {A : Type 0} (t : Tree A) → AllLeaves (HasLeaf t) t
 AllLeaves-itself (leaf a) = refl
 AllLeaves-itself (node l r) =
     (AllLeaves-weaker (HasLeaf l) (HasLeaf (node l r)) (λ a has. inl has) l (AllLeaves-itself l), AllLeaves-weaker (HasLeaf r) (HasLeaf (node l r)) (λ a has. inr has) r (AllLeaves-itself r))
 
 module _ {A B : Type 0} (eq : A → A → Bool) (equality : IsEquality eq) (eq' : B → B → Bool) (equality' : IsEquality eq') (f : A → B) (P : A → Type 0) (apart : (a b : A) → P a → P b → f a ≡ f b → a ≡ b) where
   -- trees of such leaves stay apart
-  map_tree-apart : (s t : Tree A) → AllLeaves P s → AllLeaves P t → map_tree f s ≡ map_tree f t → s ≡ t
+  pub map_tree-apart : (s t : Tree A) → AllLeaves P s → AllLeaves P t → map_tree f s ≡ map_tree f t → s ≡ t
   map_tree-apart (leaf a) (leaf b) s-ok t-ok same = let names : f a ≡ f b = cc in ap leaf (apart a b s-ok t-ok names)
   map_tree-apart (leaf a) (node l r) s-ok t-ok same = absurd (cc)
   map_tree-apart (node l r) (leaf b) s-ok t-ok same = absurd (cc)

@@ -1,7 +1,7 @@
 -- Lemmas on the parts of a tree: the test of two trees, the nodes and leaves inside a node, and the bits that lead to each.
 use Rattle.std.proofs.Common.{◌≡◌, inl, inr, Bool, true, false, ◌&&◌, List, [], ◌∷◌, refl, sym, ap, ap₂, subst}
 use Rattle.std.proofs.lemmas.Bool.{and_parts}
-use Rattle.trie_core.specs.Tree.{Tree, leaf, node, tree_eq}
+use Rattle.trie_core.specs.Tree.{Tree, leaf, node, tree_eq, IsPartOf}
 use Rattle.trie_core.specs.Laws.{IsEquality}
 use Rattle.least_nodes.specs.Layout.{preorder, leaves, below, IsNode}
 use Rattle.least_nodes.proofs.Elements.{In, In-left, In-right, In-append}
@@ -32,6 +32,23 @@ module _ {A : Type 0} where
       elim (In-append s (preorder l) (preorder r) rest) [
         | inl left ↦ IsNode-from_preorder s l left
         | inr right ↦ IsNode-from_preorder s r right
+      ]
+
+  -- a node that is part of a tree is among the tree's nodes
+  pub In-from_part : (s t : Tree A) → IsNode s → IsPartOf s t → In s (preorder t)
+  In-from_part s (leaf a) is-node same = absurd (subst IsNode same is-node)
+  In-from_part s (node l r) is-node (inl same) = inl same
+  In-from_part s (node l r) is-node (inr (inl left)) = inr (In-left s (preorder l) (preorder r) (In-from_part s l is-node left))
+  In-from_part s (node l r) is-node (inr (inr right)) = inr (In-right s (preorder l) (preorder r) (In-from_part s r is-node right))
+
+  -- and what is among the nodes is part of the tree
+  pub part-from_In : (s t : Tree A) → In s (preorder t) → IsPartOf s t
+  part-from_In s (leaf a) inside = absurd inside
+  part-from_In s (node l r) (inl same) = inl same
+  part-from_In s (node l r) (inr rest) =
+      elim (In-append s (preorder l) (preorder r) rest) [
+        | inl left ↦ inr (inl (part-from_In s l left))
+        | inr right ↦ inr (inr (part-from_In s r right))
       ]
 
   -- the nodes of a node of a tree are nodes of the tree

@@ -1,8 +1,12 @@
 -- The laws of the least tree, for every height and over every kind of leaf.
-use Rattle.std.specs.Prelude.{◌≡◌, ℕ, ◌^◌, ◌<◌, ◌≤◌, Bool, List, ◌∷◌, map, length, Some}
+use Rattle.std.specs.Prelude.{◌≡◌, ℕ, ◌^◌, ◌<◌, ◌≤◌, Bool, List, [], ◌∷◌, map, length, Some, nat_eq}
 use Rattle.geo_addr.specs.Bits.{bits_of}
+use Rattle.trie_core.specs.declared.node.Root.{Root}
+use Rattle.trie_core.specs.declared.node.Pair.{Pair}
 use Rattle.trie_core.specs.Tree.{Tree, look, tree, HasLeaf, map_tree}
 use Rattle.trie_core.specs.Laws.{IsReducedWithin, IsEquality}
+use Rattle.trie_core.specs.Store.{tree_of, leaf_at, IsRootOf}
+use Rattle.trie_core.specs.Compact.{HoldsExactly}
 use Rattle.least_nodes.specs.NodeList.{Member, at, go, reached, map_pair}
 use Rattle.least_nodes.specs.Layout.{below, IsNode, inner, leaf_order, laid}
 
@@ -43,3 +47,15 @@ LaidOut A = (eq : A → A → Bool) → IsEquality eq → (t : Tree A) (b : Bool
 abbrev pub RenamedLayout : Type 0 → Type 0 → Type 0
 RenamedLayout A B = (eq : A → A → Bool) → IsEquality eq → (eq' : B → B → Bool) → IsEquality eq' → (f : A → B) (t : Tree A) → ((a b : A) → HasLeaf t a → HasLeaf t b → f a ≡ f b → a ≡ b)
     → (laid eq' (map_tree f t) ≡ map (map_pair f) (laid eq t)) × (leaf_order eq' (map_tree f t) ≡ map f (leaf_order eq t)) × (length (inner eq' (map_tree f t)) ≡ length (inner eq t))
+
+-- a store holds the nodes under the root and no other
+abbrev pub IsCompact : List Pair → Root → Type 0
+IsCompact pairs root = HoldsExactly pairs (tree_of pairs root ∷ [])
+
+-- a store with no other nodes than those under a root has as many as are laid out
+abbrev pub CompactLength : List Pair → Type 0
+CompactLength pairs = (root : Root) → IsRootOf pairs root → IsCompact pairs root → length pairs ≡ length (inner nat_eq (tree_of pairs root))
+
+-- roots of two stores that have the same leaf at each address mean one tree
+abbrev pub OneTree : List Pair → List Pair → Type 0
+OneTree one two = (r s : Root) → IsRootOf one r → IsRootOf two s → ((a : ℕ) → a < 2 ^ 128 → leaf_at one r a ≡ leaf_at two s a) → tree_of one r ≡ tree_of two s

@@ -1,5 +1,9 @@
 //! The laws of the least tree, as functions that do nothing: what each ensures is the law.
-ghost use Rattle.least_nodes.specs.Laws.{Apart, Least, LeastFor, LaidOut, RenamedLayout};
+ghost use Rattle.std.specs.Prelude.{List};
+ghost use Rattle.trie_core.specs.declared.node.Pair.{Pair};
+ghost use Rattle.trie_core.specs.Store.{IsSound};
+ghost use Rattle.least_nodes.specs.Together.{CompactCount, RenamedNodes};
+ghost use Rattle.least_nodes.specs.Laws.{Apart, CompactLength, LaidOut, Least, LeastFor, OneTree, RenamedLayout};
 
 pub use trie_core::laws::{
     equal_lookups_equal_trees, only_tree_of_function, tree_answers_function,
@@ -33,4 +37,27 @@ pub fn layout_answers_as_tree<A>()
 /// leaves, the nodes that are written and the order of the leaves change in the names alone.
 pub fn renamed_leaves_same_layout<A, B>()
     ensures { RenamedLayout A B }
+{}
+
+/// Equal leaves, equal trees, across stores: where the roots of two stores have the same leaf at every
+/// address, both mean the same tree, so `order` lays both out alike.
+pub fn equal_leaves_equal_layouts()
+    ensures { (one two : List Pair) → IsSound one → IsSound two → OneTree one two }
+{}
+
+/// A compact store is as long as the layout of its root, so two of them with the same leaf at every address
+/// are equally long.
+pub fn compact_store_is_as_long_as_layout()
+    ensures { (pairs : List Pair) → IsSound pairs → CompactLength pairs }
+{}
+
+/// A store with no other nodes than those of some trees has as many as the trees have different ones.
+pub fn compact_store_holds_each_node_once()
+    ensures { (pairs : List Pair) → IsSound pairs → CompactCount pairs }
+{}
+
+/// New names, as many nodes: where the leaves of some trees get new names, different ones for different
+/// leaves, the trees have as many different nodes as before.
+pub fn renamed_leaves_as_many_nodes<A, B>()
+    ensures { RenamedNodes A B }
 {}
