@@ -1,0 +1,6 @@
+pub mod EntryLemmas
+pub mod HeldLemmas
+pub mod NoteLemmas
+pub mod NoteOrder
+pub mod Ordered
+pub mod RankedLemmas

@@ -1,0 +1,13 @@
+//! Who speaks for an address: dumps and feeds together, with the notes of the one on the other.
+#![tactic(auto)]
+
+mod dumps;
+mod fault;
+mod feeds;
+mod force;
+mod notes;
+#[cfg(test)]
+mod tests;
+
+pub use fault::DropFault;
+pub use force::Authority;
