@@ -1,0 +1,14 @@
+pub mod Counts
+pub mod Firsts
+pub mod Found
+pub mod Grounds
+pub mod Law
+pub mod Merges
+pub mod Orders
+pub mod Partners
+pub mod Several
+pub mod Statements
+pub mod Stays
+pub mod Swaps
+pub mod Ties
+pub mod Views

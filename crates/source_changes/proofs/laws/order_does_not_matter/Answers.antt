@@ -1,0 +1,5 @@
+use Rattle.source_changes.proofs.Orders.{order_does_not_matter}
+use Rattle.source_changes.proofs.laws.order_does_not_matter.Goals as goal
+
+pub returns : goal.returns
+returns c = order_does_not_matter

@@ -1,0 +1,12 @@
+//! What a call changes that sets or drops a source: the statements that came or went, and the law that what is
+//! said of an address changes only on their grounds.
+#![tactic(auto)]
+
+mod changed;
+mod compared;
+pub mod laws;
+#[cfg(test)]
+mod tests;
+
+pub use changed::{changed_grounds, keep_all};
+pub use compared::Compared;
