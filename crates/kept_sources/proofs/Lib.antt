@@ -1,0 +1,3 @@
+pub mod PlaceLemmas
+pub mod ShelfLemmas
+pub mod SpeakingLemmas

@@ -1,0 +1,13 @@
+use Rattle.std.proofs.Common.{List, ℕ, map, ap, sym, subst}
+use Rattle.std.specs.Arc.{arc_value}
+use Rattle.std.specs.List.{flat_map}
+use Rattle.geo_terms.specs.SourceForm.{DumpParts}
+use Rattle.geo_terms.specs.declared.statement.Reference.{Reference}
+use Rattle.cut_segments.specs.CutPlaces.{AreCutsOf}
+use Rattle.kept_sources.specs.declared.speaking.ReferencePlaces.{ReferencePlaces}
+use Rattle.kept_sources.proofs.speaking.places_of_dumps.Goals as goal
+
+pub returns : goal.returns
+returns c =
+    subst (λ (ps : List ℕ). AreCutsOf (map (λ (r : Reference). r.range) (flat_map (λ (d : DumpParts). d.refs) (map (arc_value {X = DumpParts}) c.args.dumps.now))) ps)
+    (sym (ap (λ (k : ReferencePlaces). k.places.items) c.in_ok-kept.ensures.ok)) c.in_ok-places.ensures

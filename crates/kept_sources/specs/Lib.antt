@@ -1,0 +1,4 @@
+pub mod Delegations
+pub mod FeedPlaces
+pub mod Kinds
+pub mod Rows

@@ -1,0 +1,56 @@
+//! What is kept of the statements of one kind.
+ghost use Rattle.std.specs.Prelude.{◌≡◌, ◌++◌, map, All, IfOk, OnOk};
+ghost use Rattle.kept_sources.specs.Kinds.{IsKindIndex};
+
+use cut_segments::cut_places;
+use geo_addr::{Memory, Range};
+use geo_terms::{FirstIndex, Statement};
+use std::alloc::Global;
+
+/// The first statement of a kind at each address, and the cut points of the kind's statements.
+#[derive(Debug, Drop)]
+pub struct KindIndex {
+    pub firsts: FirstIndex,
+    pub places: Vec<u128>,
+}
+
+/// The index of these statements.
+pub fn index_of<S: Statement>(alloc: Global, statements: &[&S]) -> Result<KindIndex, Memory>
+    ensures index { IfOk result (λ index. IsKindIndex S.order S.range (map (λ s. s.now) statements.entry.now) index) }
+    ensures kept { OnOk result (All S.kept (map (λ s. s.now) statements.entry.now)) }
+{
+    let firsts = FirstIndex::of(alloc, statements)?;
+    let ranges = ranges_of(alloc, statements)?;
+    let places = cut_places(alloc, ranges.as_slice())?;
+    Ok(KindIndex { firsts, places })
+}
+
+/// Appends the ranges of statements.
+pub fn push_ranges<S: Statement>(ranges: &mut Vec<Range>, statements: &[S]) -> Result<(), Memory>
+    ensures { OnOk result (ranges.new.items ≡ ranges.old.items ++ map S.range statements.now) }
+{
+    for statement in statements {
+        ranges.push(statement.range())?;
+    }
+    Ok(())
+}
+
+/// Second borrows of statements.
+pub fn push_borrows<'a, S>(borrows: &mut Vec<&'a S>, statements: &'a [S]) -> Result<(), Memory>
+    ensures { OnOk result (map (λ s. s.now) borrows.new.items ≡ map (λ s. s.now) borrows.old.items ++ statements.entry.now) }
+{
+    for statement in statements {
+        borrows.push(statement)?;
+    }
+    Ok(())
+}
+
+fn ranges_of<S: Statement>(alloc: Global, statements: &[&S]) -> Result<Vec<Range>, Memory>
+    ensures { IfOk result (λ ranges. ranges.items ≡ map (λ s. S.range s.now) statements.entry.now) }
+{
+    let mut ranges = Vec::with_capacity(alloc, statements.len())?;
+    for statement in statements {
+        ranges.push(statement.range())?;
+    }
+    Ok(ranges)
+}

@@ -1,0 +1,176 @@
+//! The overrides in force.
+ghost use Rattle.std.specs.Prelude.{◌≡◌, IfOk};
+ghost use Rattle.std.specs.Arc.{arc_value};
+ghost use Rattle.geo_terms.specs.Precedence.{override_cmp};
+ghost use Rattle.kept_sources.specs.Kinds.{IsKindIndex};
+
+use crate::kind_index::{KindIndex, index_of, push_borrows, push_ranges};
+use crate::shelf::second;
+use geo_addr::{Addr, Memory, Range};
+use geo_terms::{Note, Override, Overrides};
+use source_notes::{note_overrides, push_notes};
+use std::alloc::Global;
+use std::marker::Model;
+use std::mem;
+use std::sync::Arc;
+
+// The overrides, and the index of their rows.
+#[derive(Debug, Drop)]
+struct Held {
+    overrides: Arc<Overrides>,
+    index: Arc<KindIndex>,
+}
+
+/// The overrides in force, if there are any, with the index of their rows.
+#[derive(Debug, Drop)]
+pub struct Overriding {
+    held: Option<Held>,
+}
+
+impl Model for Overriding {
+    ghost use Rattle.std.specs.Prelude.{Option, option_map};
+    ghost use Rattle.geo_terms.specs.SourceForm.{OverridesParts};
+    ghost use Rattle.kept_sources.specs.Rows.{AreHeld, overrides_of};
+
+    ghost Value = { Option OverridesParts };
+
+    ghost view = { λ s. option_map overrides_of s.held };
+
+    ghost invariant = { λ s. AreHeld s.held };
+}
+
+impl Overriding {
+    ghost use Rattle.std.specs.Prelude.{◌≡◌, ◌++◌, flat_map, map, option_map, IfOk, IsOk, OnOk, OnErr, Some, None};
+    ghost use Rattle.std.specs.Arc.{arc_value};
+    ghost use Rattle.std.specs.Option.{option_copied};
+    ghost use Rattle.geo_terms.specs.First.{first_at};
+    ghost use Rattle.geo_terms.specs.Precedence.{override_before};
+    ghost use Rattle.geo_terms.specs.Report.{alias_note, notes_in};
+    ghost use Rattle.geo_terms.specs.Sources.{rows_in};
+    ghost use Rattle.geo_terms.specs.declared.note.Origin.{Origin};
+    ghost use Rattle.cut_segments.specs.CutPlaces.{AreCutsOf};
+
+    /// No overrides.
+    pub fn new() -> Overriding
+        ensures { result ≡ None }
+    {
+        Overriding { held: None }
+    }
+
+    /// Puts overrides in the place of those in force, which are handed back.
+    pub fn set(
+        &mut self,
+        alloc: Global,
+        overrides: Overrides,
+    ) -> Result<Option<Arc<Overrides>>, Memory>
+        ensures new { OnOk result (self.new ≡ Some overrides) }
+        ensures old { IfOk result (λ old. option_map arc_value old ≡ self.old) }
+        ensures err { OnErr result (self.new ≡ self.old) }
+    {
+        let new = indexed(alloc, overrides)?;
+        let old = mem::replace(&mut self.held, Some(new));
+        match old {
+            Some(old) => Ok(Some(old.overrides)),
+            None => Ok(None),
+        }
+    }
+
+    /// Takes the overrides out of force, and hands them back.
+    pub fn remove(&mut self) -> Option<Arc<Overrides>>
+        ensures new { self.new ≡ None }
+        ensures old { option_map arc_value result ≡ self.old }
+    {
+        let old = self.held.take()?;
+        Some(old.overrides)
+    }
+
+    /// The overrides in force.
+    pub fn overrides(&self) -> Option<&Arc<Overrides>>
+        ensures { option_map arc_value (option_copied result) ≡ self.now }
+    {
+        let held = self.held.as_ref()?;
+        Some(&held.overrides)
+    }
+
+    /// The first override that holds an address.
+    pub fn first_at(&self, at: Addr) -> Option<&Override>
+        ensures { option_copied result ≡ first_at override_before (λ o. o.range) (rows_in self.now) at.0 }
+    {
+        let held = self.held.as_ref()?;
+        let place = held.index.firsts.place_at(at)?;
+        held.overrides.rows.as_slice().get(place)
+    }
+
+    /// Appends the ranges of all rows.
+    pub fn push_ranges(&self, ranges: &mut Vec<Range>) -> Result<(), Memory>
+        ensures { OnOk result (ranges.new.items ≡ ranges.old.items ++ map (λ o. o.range) (rows_in self.now)) }
+    {
+        if let Some(held) = &self.held {
+            push_ranges(ranges, held.overrides.rows.as_slice())?;
+        }
+        Ok(())
+    }
+
+    /// Appends the notes.
+    pub fn push_notes(&self, notes: &mut Vec<Note>) -> Result<(), Memory>
+        ensures { OnOk result (notes.new.items ≡ notes.old.items ++ notes_in self.now) }
+    {
+        if let Some(held) = &self.held {
+            push_notes(notes, held.overrides.notes.as_slice())?;
+        }
+        Ok(())
+    }
+
+    /// Appends the notes on rows that speak nowhere.
+    pub fn push_alias_notes(&self, notes: &mut Vec<Note>) -> Result<(), Memory>
+        ensures { OnOk result (notes.new.items ≡ notes.old.items ++ flat_map (λ o. alias_note Origin.Overrides o.range o.line) (rows_in self.now)) }
+    {
+        if let Some(held) = &self.held {
+            note_overrides(notes, held.overrides.rows.as_slice())?;
+        }
+        Ok(())
+    }
+
+    /// The same overrides once more, shared.
+    pub fn snapshot(&self) -> Result<Overriding, Memory>
+        ensures { IfOk result (λ same. same ≡ self.now) }
+    {
+        let Some(held) = &self.held else {
+            return Ok(Overriding { held: None });
+        };
+        let overrides = second(&held.overrides)?;
+        let index = second(&held.index)?;
+        let held = Held { overrides, index };
+        Ok(Overriding { held: Some(held) })
+    }
+
+    /// The cut points of all rows.
+    pub fn places(&self) -> &[u128]
+        ensures { AreCutsOf (map (λ o. o.range) (rows_in self.now)) result.now }
+    {
+        match &self.held {
+            Some(held) => held.index.places.as_slice(),
+            None => &[],
+        }
+    }
+}
+
+// Overrides with the index of their rows.
+fn indexed(alloc: Global, overrides: Overrides) -> Result<Held, Memory>
+    ensures overrides { IfOk result (λ held. arc_value held.overrides ≡ overrides) }
+    ensures index { IfOk result (λ held. IsKindIndex override_cmp (λ o. o.range) overrides.rows (arc_value held.index)) }
+{
+    let index = row_index(alloc, overrides.rows.as_slice())?;
+    let overrides = Arc::new(alloc, overrides)?;
+    Ok(Held { overrides, index })
+}
+
+fn row_index(alloc: Global, rows: &[Override]) -> Result<Arc<KindIndex>, Memory>
+    ensures { IfOk result (λ index. IsKindIndex override_cmp (λ o. o.range) rows.now (arc_value index)) }
+{
+    let mut borrowed = Vec::new(alloc);
+    push_borrows(&mut borrowed, rows)?;
+    let index = index_of(alloc, borrowed.as_slice())?;
+    let index = Arc::new(alloc, index)?;
+    Ok(index)
+}
