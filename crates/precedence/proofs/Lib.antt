@@ -1,3 +1,2 @@
-pub mod SegmentLemmas
+pub mod NoteLemmas
 pub mod SourceLemmas
-pub mod SpotLemmas

@@ -1,26 +1,21 @@
 -- The cut points of all sources, and the segments between them.
-use Rattle.std.specs.Prelude.{◌≡◌, ℕ, ◌+◌, ◌-◌, ◌^◌, ◌<◌, ◌≤◌, IsTrue, List, All, Any, Contains, length, count_by}
+use Rattle.std.specs.Prelude.{◌≡◌, ℕ, ◌+◌, ◌^◌, ◌<◌, ◌≤◌, IsTrue, List, All, Any, Contains, length, count_by}
 use Rattle.std.specs.List.{AllAdjacentBelow}
-use Rattle.std.specs.List.Sorted.{IsStrictlyIncreasing}
-use Rattle.geo_addr.specs.Ranges.{Ends, AreCuts, IsRange, IsWithin, NoCut}
+use Rattle.geo_addr.specs.Ranges.{Ends, IsRange, IsWithin, NoCut}
 use Rattle.geo_terms.specs.Cuts.{statement_ranges}
-use Rattle.geo_terms.specs.Precedence.{record_at}
+use Rattle.geo_terms.specs.Precedence.{spoken_at}
 use Rattle.geo_terms.specs.Sources.{InForce}
-use Rattle.precedence.specs.Segments.{is_touched}
+use Rattle.source_changes.specs.Touched.{is_touched}
+use Rattle.cut_segments.specs.CutPlaces.{AreCutsOf}
 
--- the whole address space
-abbrev pub whole : Ends
-whole = record { first = 0; last = 2 ^ 128 - 1 }
-
--- the cut points of the sources in the whole address space, ascending, each once
-pub record AreCutPlaces (s : InForce) (places : List ℕ) : Type 0 where
-  pub exact : AreCuts (statement_ranges s) whole places
-  pub ascending : IsStrictlyIncreasing places
+-- the cut points of the sources in the whole address space
+abbrev pub AreCutPlaces : InForce → List ℕ → Type 0
+AreCutPlaces s places = AreCutsOf (statement_ranges s) places
 
 -- two addresses have one record where none of the places lies above the lower and at or below the higher
 abbrev pub IsConstantBetween : InForce → List ℕ → Type 0
 IsConstantBetween s places =
-    (a b : ℕ) → a ≤ b → b < 2 ^ 128 → ((c : ℕ) → a < c → c ≤ b → ¬ Contains places c) → record_at s a ≡ record_at s b
+    (a b : ℕ) → a ≤ b → b < 2 ^ 128 → ((c : ℕ) → a < c → c ≤ b → ¬ Contains places c) → spoken_at s a ≡ spoken_at s b
 
 -- ascending ranges that have the touched addresses and no others, with no cut point of the sources inside one; and no more of them than there are touched grounds and touched cut points
 pub record AreSourceSegments (s : InForce) (touched out : List Ends) : Type 0 where

@@ -1,4 +1,2 @@
 pub mod CutPlaces
-pub mod Marks
-pub mod Segments
-pub mod Spots
+pub mod Why

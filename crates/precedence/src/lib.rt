@@ -1,13 +1,16 @@
-//! All sources in force: the record of an address, the report, cut points and segments.
+//! All sources in force: the record of an address and why it has it, the report, cut points and segments.
 #![tactic(auto)]
 
-mod delegations;
-mod files;
-mod notes;
-mod segments;
+#[cfg(test)]
+mod job_tests;
+#[cfg(test)]
+mod made;
 mod sources;
 #[cfg(test)]
 mod tests;
+mod why;
 
-pub use segments::segments_of;
+pub use authority::DropFault;
+pub use cut_segments::segments_of;
 pub use sources::Sources;
+pub use why::Why;

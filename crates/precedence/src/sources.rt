@@ -1,48 +1,59 @@
-use crate::delegations::{DelegationIndex, first_delegation, no_delegations};
-use crate::files::{insert_file, place_of, replace_file, statement_ranges};
-use crate::notes::notes_of;
-use crate::segments::segments_of;
-use geo_addr::{Addr, Memory, Range};
-use geo_terms::{Note, Place, Stats};
-use split_core::cuts;
+ghost use Rattle.std.specs.Prelude.{◌≡◌};
+ghost use Rattle.std.specs.Option.{option_copied};
+ghost use Rattle.geo_terms.specs.Precedence.{said_place};
+
+use crate::why::Why;
+use authority::DropFault;
+use cut_segments::{push_inside, segments_between, whole};
+use geo_addr::{Addr, Block, Memory, Range};
+use geo_terms::{
+    Delegation, Dump, Entry, Feed, Note, Override, Overrides, Place, Reference, Said, Stats, home,
+};
+use kept_sources::{Overriding, Speaking, Statistics};
 use std::alloc::Global;
 use std::marker::Model;
+use std::sync::Arc;
 
 /// The sources in force.
 ///
-/// Each kind is kept with an index of its own, so that an address is looked up by halving.
+/// Each kind is kept with an index of its own, which is built when a source of that kind is set or
+/// dropped, so that an address is looked up by halving.
 #[derive(Debug, Drop)]
 pub struct Sources {
     alloc: Global,
-    stats: Vec<Stats>,
-    delegations: DelegationIndex,
+    speaking: Speaking,
+    statistics: Statistics,
+    overriding: Overriding,
 }
 
 impl Model for Sources {
-    ghost use Rattle.std.specs.Prelude.{[], None};
     ghost use Rattle.geo_terms.specs.Sources.{InForce};
-    ghost use Rattle.precedence.specs.Spots.{IsIndex};
-    ghost use Rattle.geo_terms.specs.SlotOrder.{AreInOrder};
 
     ghost Value = { InForce };
 
-    ghost view = { λ s. record { dumps = []; feeds = []; stats = s.stats.items; overrides = None } };
-
-    ghost invariant = { λ s. AreInOrder (λ t. t.slot) s.stats.items × IsIndex s.stats.items s.delegations };
+    ghost view = { λ s. record { dumps = s.speaking.dumps; feeds = s.speaking.feeds; stats = s.statistics; overrides = s.overriding } };
 }
 
 impl Sources {
-    ghost use Rattle.std.specs.Prelude.{◌≡◌, ◌∷◌, ℕ, List, map, find, All, IfOk, OnOk, OnErr};
+    ghost use Rattle.std.specs.Prelude.{◌≡◌, ◌↔◌, ◌∷◌, ◌++◌, ◌<◌, ℕ, List, Some, None, length, map, find, option_map, All, Any, IfOk, IfErr, IsTrue, OnOk, OnErr};
+    ghost use Rattle.std.specs.Arc.{arc_value};
+    ghost use Rattle.std.specs.List.{AllAdjacentBelow};
     ghost use Rattle.std.specs.List.Sorted.{IsStrictlyIncreasing};
     ghost use Rattle.std.specs.Option.{option_copied};
-    ghost use Rattle.geo_addr.specs.Ranges.{AreCuts, IsWithin};
+    ghost use Rattle.geo_addr.specs.Ranges.{AreCuts, IsRange, IsWithin};
+    ghost use Rattle.authority.specs.Held.{slot_of, url_of};
+    ghost use Rattle.geo_terms.specs.Covering.{covering};
     ghost use Rattle.geo_terms.specs.Cuts.{statement_ranges};
     ghost use Rattle.geo_terms.specs.PlaceForm.{same_text};
-    ghost use Rattle.geo_terms.specs.Precedence.{record_at};
-    ghost use Rattle.geo_terms.specs.Report.{report};
-    ghost use Rattle.geo_terms.specs.Sources.{no_sources};
-    ghost use Rattle.geo_terms.specs.SlotOrder.{AreInOrder, placed};
-    ghost use Rattle.precedence.specs.CutPlaces.{AreSourceSegments, IsConstantBetween, whole};
+    ghost use Rattle.geo_terms.specs.Precedence.{first_delegation, first_override, reasons_at, record_at, speaker, speaking_entry, spoken_at};
+    ghost use Rattle.geo_terms.specs.Report.{alias_notes, reader_notes, report};
+    ghost use Rattle.geo_terms.specs.Sources.{feed_of, no_sources, references};
+    ghost use Rattle.geo_terms.specs.SlotOrder.{AreInOrder, placed, removed};
+    ghost use Rattle.cut_segments.specs.CutPlaces.{AreCutsInside, whole};
+    ghost use Rattle.precedence.specs.CutPlaces.{AreSourceSegments, IsConstantBetween};
+    ghost use Rattle.source_changes.specs.Touched.{is_touched};
+    ghost use Rattle.precedence.specs.Why.{reasons_of};
+    ghost use Rattle.authority.specs.declared.fault.DropFault.{DropFault};
 
     /// No sources.
     pub fn new(alloc: Global) -> Sources
@@ -50,70 +61,222 @@ impl Sources {
     {
         Sources {
             alloc,
-            stats: Vec::new(alloc),
-            delegations: no_delegations(alloc),
+            speaking: Speaking::new(alloc),
+            statistics: Statistics::new(alloc),
+            overriding: Overriding::new(),
         }
+    }
+
+    /// Puts a dump in the place of the one with the same slot, and hands the old one back.
+    ///
+    /// After `Memory` the given dump is dropped.
+    pub fn set_rpsl(&mut self, dump: Dump) -> Result<Option<Arc<Dump>>, Memory>
+        ensures sources { OnOk result (self.new ≡ record self.old { dumps = placed (λ d. d.slot) dump self.old.dumps }) }
+        ensures old { IfOk result (λ old. option_map arc_value old ≡ find (λ d. same_text d.slot dump.slot) self.old.dumps) }
+        ensures err { OnErr result (self.new ≡ self.old) }
+    {
+        self.speaking.set_dump(dump)
+    }
+
+    /// Takes the dump of a slot out of force, and hands it back.
+    pub fn drop_rpsl(&mut self, slot: &str) -> Result<Arc<Dump>, DropFault>
+        ensures sources { OnOk result (self.new ≡ record self.old { dumps = removed (λ d. d.slot) slot.now self.old.dumps }) }
+        ensures old { IfOk result (λ old. Some (arc_value old) ≡ find (λ d. same_text d.slot slot.now) self.old.dumps) }
+        ensures not_there { IfErr result (λ fault. fault ≡ DropFault.NotThere ↔ (find (λ d. same_text d.slot slot.now) self.old.dumps ≡ None)) }
+        ensures err { OnErr result (self.new ≡ self.old) }
+    {
+        self.speaking.drop_dump(slot)
+    }
+
+    /// Puts a feed in the place of the one with the same URL, and hands the old one back.
+    ///
+    /// After `Memory` the given feed is dropped.
+    pub fn set_feed(&mut self, feed: Feed) -> Result<Option<Arc<Feed>>, Memory>
+        ensures sources { OnOk result (self.new ≡ record self.old { feeds = placed (λ f. f.url) feed self.old.feeds }) }
+        ensures old { IfOk result (λ old. option_map arc_value old ≡ find (λ f. same_text f.url feed.url) self.old.feeds) }
+        ensures err { OnErr result (self.new ≡ self.old) }
+    {
+        self.speaking.set_feed(feed)
+    }
+
+    /// Takes the feed of a URL out of force, and hands it back. It takes no memory.
+    pub fn drop_feed(&mut self, url: &str) -> Result<Arc<Feed>, DropFault>
+        ensures sources { OnOk result (self.new ≡ record self.old { feeds = removed (λ f. f.url) url.now self.old.feeds }) }
+        ensures old { IfOk result (λ old. Some (arc_value old) ≡ find (λ f. same_text f.url url.now) self.old.feeds) }
+        ensures not_there { IfErr result (λ fault. fault ≡ DropFault.NotThere ↔ (find (λ f. same_text f.url url.now) self.old.feeds ≡ None)) }
+        ensures err { OnErr result (self.new ≡ self.old) }
+    {
+        self.speaking.drop_feed(url)
     }
 
     /// Puts a statistics file in the place of the one with the same slot, and hands the old one back.
     ///
     /// After `Memory` the given file is dropped.
-    pub fn set_stats(&mut self, stats: Stats) -> Result<Option<Stats>, Memory>
+    pub fn set_stats(&mut self, stats: Stats) -> Result<Option<Arc<Stats>>, Memory>
         ensures sources { OnOk result (self.new ≡ record self.old { stats = placed (λ t. t.slot) stats self.old.stats }) }
-        ensures old { IfOk result (λ old. old ≡ find (λ t. same_text t.slot stats.slot) self.old.stats) }
+        ensures old { IfOk result (λ old. option_map arc_value old ≡ find (λ t. same_text t.slot stats.slot) self.old.stats) }
         ensures err { OnErr result (self.new ≡ self.old) }
     {
-        match place_of(self.stats.as_slice(), &stats.slot) {
-            Ok(place) => {
-                let old = replace_file(
-                    self.alloc,
-                    &mut self.stats,
-                    &mut self.delegations,
-                    place,
-                    stats,
-                )?;
-                Ok(Some(old))
-            }
-            Err(place) => {
-                insert_file(
-                    self.alloc,
-                    &mut self.stats,
-                    &mut self.delegations,
-                    place,
-                    stats,
-                )?;
-                Ok(None)
-            }
+        self.statistics.set(stats)
+    }
+
+    /// Takes the statistics file of a slot out of force, and hands it back.
+    pub fn drop_stats(&mut self, slot: &str) -> Result<Arc<Stats>, DropFault>
+        ensures sources { OnOk result (self.new ≡ record self.old { stats = removed (λ t. t.slot) slot.now self.old.stats }) }
+        ensures old { IfOk result (λ old. Some (arc_value old) ≡ find (λ t. same_text t.slot slot.now) self.old.stats) }
+        ensures not_there { IfErr result (λ fault. fault ≡ DropFault.NotThere ↔ (find (λ t. same_text t.slot slot.now) self.old.stats ≡ None)) }
+        ensures err { OnErr result (self.new ≡ self.old) }
+    {
+        self.statistics.remove(slot)
+    }
+
+    /// Puts overrides in the place of those in force, which are handed back.
+    ///
+    /// After `Memory` the given overrides are dropped.
+    pub fn set_overrides(&mut self, rows: Overrides) -> Result<Option<Arc<Overrides>>, Memory>
+        ensures sources { OnOk result (self.new ≡ record self.old { overrides = Some rows }) }
+        ensures old { IfOk result (λ old. option_map arc_value old ≡ self.old.overrides) }
+        ensures err { OnErr result (self.new ≡ self.old) }
+    {
+        self.overriding.set(self.alloc, rows)
+    }
+
+    /// Takes the overrides out of force, and hands them back. It takes no memory.
+    pub fn drop_overrides(&mut self) -> Result<Arc<Overrides>, DropFault>
+        ensures sources { OnOk result (self.new ≡ record self.old { overrides = None }) }
+        ensures old { IfOk result (λ old. Some (arc_value old) ≡ self.old.overrides) }
+        ensures not_there { IfErr result (λ fault. (fault ≡ DropFault.NotThere) × (self.old.overrides ≡ None)) }
+        ensures err { OnErr result (self.new ≡ self.old) }
+    {
+        match self.overriding.remove() {
+            Some(old) => Ok(old),
+            None => Err(DropFault::NotThere),
         }
     }
 
-    /// The statistics files in force, ascending by the bytes of their slots.
-    pub fn stats(&self) -> &[Stats]
-        ensures files { result.now ≡ self.now.stats }
-        ensures ascending { AreInOrder (λ t. t.slot) result.now }
+    /// The dumps in force, ascending by the bytes of their slots.
+    pub fn dumps(&self) -> &[Arc<Dump>]
+        ensures dumps { map arc_value result.now ≡ self.now.dumps }
+        ensures ascending { AreInOrder slot_of result.now }
     {
-        self.stats.as_slice()
+        self.speaking.authority().dumps()
+    }
+
+    /// The feeds in force, ascending by the bytes of their URLs.
+    pub fn feeds(&self) -> &[Arc<Feed>]
+        ensures feeds { map arc_value result.now ≡ self.now.feeds }
+        ensures ascending { AreInOrder url_of result.now }
+    {
+        self.speaking.authority().feeds()
+    }
+
+    /// The feed of a URL.
+    pub fn feed_of(&self, url: &str) -> Option<&Feed>
+        ensures { option_copied result ≡ feed_of self.now url.now }
+    {
+        self.speaking.authority().feed_of(url)
+    }
+
+    /// The first reference of this URL, in the order of references, whose range is of the block's family
+    /// and contains the block.
+    pub fn covering(&self, block: Block, url: &str) -> Option<&Reference>
+        ensures { option_copied result ≡ covering (references self.now) url.now block }
+    {
+        self.speaking.authority().covering(block, url)
+    }
+
+    /// The statistics files in force, ascending by the bytes of their slots.
+    pub fn stats(&self) -> &[Arc<Stats>]
+        ensures files { map arc_value result.now ≡ self.now.stats }
+        ensures ascending { AreInOrder (λ t. t.slot) self.now.stats }
+    {
+        self.statistics.files()
+    }
+
+    /// The overrides in force.
+    pub fn overrides(&self) -> Option<&Arc<Overrides>>
+        ensures { option_map arc_value (option_copied result) ≡ self.now.overrides }
+    {
+        self.overriding.overrides()
+    }
+
+    #[tactic(auto, unfolding(geo_terms::specs::Precedence::first_override))]
+    fn override_at(&self, at: Addr) -> Option<&Override>
+        ensures { option_copied result ≡ first_override self.now at.0 }
+    {
+        self.overriding.first_at(at)
+    }
+
+    #[tactic(auto, unfolding(geo_terms::specs::Precedence::first_delegation))]
+    fn delegation_at(&self, at: Addr) -> Option<&Delegation>
+        ensures { option_copied result ≡ first_delegation self.now at.0 }
+    {
+        self.statistics.first_at(at)
+    }
+
+    #[tactic(auto, unfolding(geo_terms::specs::Precedence::speaker))]
+    fn speaker_at(&self, at: Addr) -> Option<&Reference>
+        ensures { option_copied result ≡ speaker self.now at.0 }
+    {
+        self.speaking.authority().speaker_at(at)
+    }
+
+    #[tactic(auto, unfolding(geo_terms::specs::Precedence::speaking_entry))]
+    fn entry_at(&self, at: Addr) -> Option<&Entry>
+        ensures { option_copied result ≡ speaking_entry self.now at.0 }
+    {
+        self.speaking.authority().entry_at(at)
+    }
+
+    /// What the sources say of an address. The two blocks of IPv6 addresses that carry IPv4 addresses are
+    /// no different here from other addresses.
+    #[tactic(auto, unfolding(geo_terms::specs::Precedence::spoken_at))]
+    pub fn spoken_at(&self, at: Addr) -> Option<&Place>
+        ensures { option_copied result ≡ spoken_at self.now at.0 }
+    {
+        if let Some(row) = self.override_at(at) {
+            return said_place(&row.said);
+        }
+        if let Some(entry) = self.entry_at(at) {
+            return said_place(&entry.said);
+        }
+        let delegation = self.delegation_at(at)?;
+        Some(&delegation.place)
     }
 
     /// The record of an address.
     pub fn record_at(&self, at: Addr) -> Option<&Place>
         ensures { option_copied result ≡ record_at self.now at.0 }
     {
-        let delegation = first_delegation(&self.delegations, self.stats.as_slice(), at.0)?;
-        Some(&delegation.place)
+        self.spoken_at(home(at))
+    }
+
+    /// Why an address has its record: the first override, the speaker, the speaking entry and the first
+    /// delegation at the address whose record it has, and that record.
+    pub fn why_at(&self, at: Addr) -> Why<'_>
+        ensures { reasons_of result ≡ reasons_at self.now at.0 }
+    {
+        let home = home(at);
+        Why {
+            over: self.override_at(home),
+            speaker: self.speaker_at(home),
+            entry: self.entry_at(home),
+            delegation: self.delegation_at(home),
+            place: self.spoken_at(home),
+        }
     }
 
     /// The record of a segment: that of its first address, which all of it has where no cut point lies
     /// above that address.
     pub fn choice(&self, segment: Range) -> Option<&Place>
-        ensures { option_copied result ≡ record_at self.now segment.first }
+        ensures { option_copied result ≡ spoken_at self.now segment.first }
     {
-        self.record_at(Addr(segment.first))
+        self.spoken_at(Addr(segment.first))
     }
 
     /// The records of several segments, in their order.
     pub fn choices(&self, segments: &[Range]) -> Result<Vec<Option<&Place>>, Memory>
-        ensures { IfOk result (λ choices. map option_copied choices.items ≡ map (λ r. record_at self.now r.first) segments.now) }
+        ensures { IfOk result (λ choices. map option_copied choices.items ≡ map (λ r. spoken_at self.now r.first) segments.now) }
     {
         let mut choices = Vec::with_capacity(self.alloc, segments.len())?;
         for segment in segments {
@@ -126,7 +289,12 @@ impl Sources {
     pub fn report(&self) -> Result<Vec<Note>, Memory>
         ensures { IfOk result (λ notes. notes.items ≡ report self.now) }
     {
-        let notes = notes_of(self.alloc, self.stats.as_slice())?;
+        let mut notes = Vec::new(self.alloc);
+        self.push_reader_notes(&mut notes)?;
+        let mut joint = self.speaking.authority().notes()?;
+        notes.append(&mut joint)?;
+        self.push_alias_notes(&mut notes)?;
+        notes.sort_unstable_by(|x, y| x.order(y));
         Ok(notes)
     }
 
@@ -134,35 +302,113 @@ impl Sources {
     pub fn ranges(&self) -> Result<Vec<Range>, Memory>
         ensures { IfOk result (λ ranges. ranges.items ≡ statement_ranges self.now) }
     {
-        let ranges = statement_ranges(self.alloc, self.stats.as_slice())?;
+        let mut ranges = Vec::new(self.alloc);
+        self.speaking.push_ranges(&mut ranges)?;
+        self.statistics.push_ranges(&mut ranges)?;
+        self.overriding.push_ranges(&mut ranges)?;
         Ok(ranges)
     }
 
     /// The places at which the statements in force cut a range: ascending, each once.
     ///
-    /// The record is constant between two neighbours of those of the whole address space.
+    /// What is said of an address is constant between two neighbours of those of the whole address space.
     pub fn cuts_in(&self, within: Range) -> Result<Vec<u128>, Memory>
         ensures exact { IfOk result (λ places. AreCuts (statement_ranges self.now) within places.items) }
         ensures ascending { IfOk result (λ places. IsStrictlyIncreasing places.items) }
         ensures constant { within ≡ whole → IfOk result (λ places. IsConstantBetween self.now places.items) }
     {
-        let ranges = self.ranges()?;
-        let places = cuts(self.alloc, ranges.as_slice(), within)?;
+        let Range { first, last } = within;
+        let places = self.places_in(&[Range { first, last }])?;
         Ok(places)
     }
 
     /// The touched grounds as ascending ranges that are disjoint, cut at the cut points of the sources:
-    /// all of a range has one record.
+    /// the same is said on all of a range.
+    ///
+    /// Of the cut points it reads those that lie inside what is touched; where that is most of them, all.
     pub fn segments(&self, touched: &[Range]) -> Result<Vec<Range>, Memory>
         ensures segments { IfOk result (λ segments. AreSourceSegments self.now touched.now segments.items) }
-        ensures steady { IfOk result (λ segments. All (λ r. (a : ℕ) → IsWithin r a → record_at self.now a ≡ record_at self.now r.first) segments.items) }
+        ensures steady { IfOk result (λ segments. All (λ r. (a : ℕ) → IsWithin r a → spoken_at self.now a ≡ spoken_at self.now r.first) segments.items) }
     {
-        let whole = Range {
-            first: 0,
-            last: u128::MAX,
-        };
-        let places = self.cuts_in(whole)?;
-        let segments = segments_of(self.alloc, touched, places.as_slice())?;
+        let bounds = self.bounds_of(touched)?;
+        let places = self.places_in(bounds.as_slice())?;
+        let segments = segments_between(self.alloc, touched, places.as_slice())?;
         Ok(segments)
+    }
+
+    /// The same sources once more: each of them and each index is shared, so the cost is their number.
+    pub fn snapshot(&self) -> Result<Sources, Memory>
+        ensures { IfOk result (λ same. same ≡ self.now) }
+    {
+        Ok(Sources {
+            alloc: self.alloc,
+            speaking: self.speaking.snapshot()?,
+            statistics: self.statistics.snapshot()?,
+            overriding: self.overriding.snapshot()?,
+        })
+    }
+
+    fn push_reader_notes(&self, notes: &mut Vec<Note>) -> Result<(), Memory>
+        ensures { OnOk result (notes.new.items ≡ notes.old.items ++ reader_notes self.now) }
+    {
+        self.speaking.push_notes(notes)?;
+        self.statistics.push_notes(notes)?;
+        self.overriding.push_notes(notes)
+    }
+
+    fn push_alias_notes(&self, notes: &mut Vec<Note>) -> Result<(), Memory>
+        ensures { OnOk result (notes.new.items ≡ notes.old.items ++ alias_notes self.now) }
+    {
+        self.speaking.push_alias_notes(notes)?;
+        self.statistics.push_alias_notes(notes)?;
+        self.overriding.push_alias_notes(notes)
+    }
+
+    // Ascending ranges that are disjoint and have all that is touched: what is touched, or, where much is,
+    // the whole address space.
+    fn bounds_of(&self, touched: &[Range]) -> Result<Vec<Range>, Memory>
+        ensures ranges { IfOk result (λ bounds. All IsRange bounds.items) }
+        ensures apart { IfOk result (λ bounds. AllAdjacentBelow (λ r t. r.last < t.first) bounds.items (length bounds.items)) }
+        ensures covered { IfOk result (λ bounds. (a : ℕ) → IsWithin whole a → IsTrue (is_touched touched.now a) → Any (λ r. IsWithin r a) bounds.items) }
+    {
+        if self.count() / 4 <= touched.len() {
+            let bounds = vec![in self.alloc; whole()]?;
+            return Ok(bounds);
+        }
+        let bounds = segments_between(self.alloc, touched, &[])?;
+        Ok(bounds)
+    }
+
+    // How many cut points the sources have, those of each kind by themselves.
+    fn count(&self) -> usize {
+        let rows = self.overriding.places().len();
+        let delegations = self.statistics.places().len();
+        (self.speaking.count().saturating_add(delegations)).saturating_add(rows)
+    }
+
+    // The cut points of all sources that lie inside one of ascending ranges: ascending, each once.
+    fn places_in(&self, bounds: &[Range]) -> Result<Vec<u128>, Memory>
+        requires ranges { All IsRange bounds.now }
+        requires apart { AllAdjacentBelow (λ r t. r.last < t.first) bounds.now (length bounds.now) }
+        ensures exact { IfOk result (λ places. AreCutsInside (statement_ranges self.now) bounds.now places.items) }
+        ensures ascending { IfOk result (λ places. IsStrictlyIncreasing places.items) }
+    {
+        let mut places = Vec::new(self.alloc);
+        self.speaking.push_inside(&mut places, bounds)?;
+        push_inside(&mut places, self.statistics.places(), bounds)?;
+        push_inside(&mut places, self.overriding.places(), bounds)?;
+        places.sort_unstable();
+        places.dedup();
+        Ok(places)
+    }
+}
+
+// The place that is said.
+fn said_place(said: &Said) -> Option<&Place>
+    ensures { option_copied result ≡ said_place said.now }
+{
+    match said {
+        Said::At(place) => Some(place),
+        Said::Nothing => None,
     }
 }

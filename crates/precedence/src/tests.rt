@@ -1,140 +1,293 @@
-ghost use Rattle.std.specs.Prelude.{◌≡◌, IfOk};
-
 use crate::Sources;
-use geo_addr::{Addr, List, Memory, Range, Text};
-use geo_terms::plain::{AllSources, chosen_at};
-use geo_terms::{Delegation, Note, Origin, Place, Rule, Stats, Texts, country_place, note_text};
+use crate::made::{Fields, at, dump, feed, noted_stats, overrides, range, stats};
+use geo_addr::{Addr, Range};
+use geo_terms::plain::{AllSources, spoken_at};
+use geo_terms::{Delegation, Entry, Override, Place, Reference, Rule, Stats, note_text};
 use std::alloc::Global;
 use std::test::Fail;
 
 const TOP_V4: u128 = 0xFFFF_FFFF;
 
-fn country(alloc: Global, code: &[u8]) -> Result<Place, Fail> {
-    let place = country_place(&mut Texts::new(alloc), code)?.ok_or("a country")?;
-    Ok(place)
-}
+const FEED: &str = "https://e.example/f.csv";
 
-// A delegation of line 1.
-fn row(alloc: Global, slot: &str, range: Range, code: &[u8]) -> Result<Delegation, Fail>
-    ensures { IfOk result (λ row. row.slot ≡ slot.now) }
-{
-    let place = country(alloc, code)?;
-    if place.country.as_str().is_empty() {
-        return Err(Fail::from("no country"));
-    }
-    if !place.region.as_str().is_empty() {
-        return Err(Fail::from("a region"));
-    }
-    if !place.city.as_str().is_empty() || !place.postal.as_str().is_empty() {
-        return Err(Fail::from("more than a country"));
-    }
-    let slot = Text::of(alloc, slot)?;
-    Ok(Delegation {
-        slot,
-        line: 1,
-        range,
-        place,
-    })
-}
+const OTHER: &str = "https://e.example/g.csv";
 
-// A file with one delegation.
-fn file(alloc: Global, slot: &str, first: u128, last: u128, code: &[u8]) -> Result<Stats, Fail> {
-    if first > last {
-        return Err(Fail::from("no range"));
-    }
-    let row = row(alloc, slot, Range { first, last }, code)?;
-    let mut rows = Vec::new(alloc);
-    rows.push(row).map_err(Memory::from)?;
-    Ok(Stats {
-        slot: Text::of(alloc, slot)?,
-        rows: List::of(rows),
-        notes: List::of(Vec::new(alloc)),
-    })
-}
+const FRANCE: Fields = ("FR", "", "");
 
-// A file with one note.
-fn noted(alloc: Global, slot: &str, line: u64) -> Result<Stats, Fail> {
-    let origin = Origin::Stats(Text::of(alloc, slot)?);
-    let mut notes = Vec::new(alloc);
-    let note = Note {
-        origin,
-        line,
-        rule: Rule::S06,
-    };
-    notes.push(note).map_err(Memory::from)?;
-    Ok(Stats {
-        slot: Text::of(alloc, slot)?,
-        rows: List::of(Vec::new(alloc)),
-        notes: List::of(notes),
-    })
-}
+const MUNICH: Fields = ("de", "DE-BY", "München");
 
-// Puts a file with one delegation among the sources.
-fn put(
+fn set_stats(
     sources: &mut Sources,
     alloc: Global,
     slot: &str,
-    range: (u128, u128),
-    code: &[u8],
+    block: &str,
+    code: &str,
 ) -> Result<(), Fail> {
-    let (first, last) = range;
-    let old = sources.set_stats(file(alloc, slot, first, last, code)?)?;
-    if old.is_some() {
-        return Err(Fail::from("an old file"));
+    sources.set_stats(stats(alloc, slot, range(block)?, code)?)?;
+    Ok(())
+}
+
+fn set_notes(sources: &mut Sources, alloc: Global, slot: &str, line: u64) -> Result<(), Fail> {
+    sources.set_stats(noted_stats(alloc, slot, line, Rule::S06)?)?;
+    Ok(())
+}
+
+fn set_dump(
+    sources: &mut Sources,
+    alloc: Global,
+    slot: &str,
+    block: &str,
+    dated: (u64, &str),
+) -> Result<(), Fail> {
+    sources.set_rpsl(dump(alloc, slot, block, dated)?)?;
+    Ok(())
+}
+
+fn set_feed(
+    sources: &mut Sources,
+    alloc: Global,
+    url: &str,
+    block: &str,
+    fields: Fields,
+) -> Result<(), Fail> {
+    sources.set_feed(feed(alloc, url, block, fields)?)?;
+    Ok(())
+}
+
+fn set_overrides(
+    sources: &mut Sources,
+    alloc: Global,
+    block: &str,
+    fields: Fields,
+) -> Result<(), Fail> {
+    sources.set_overrides(overrides(alloc, block, fields)?)?;
+    Ok(())
+}
+
+// The country, region and city of a place.
+fn push_place(text: &mut String, place: Option<&Place>) -> Result<(), Fail> {
+    let Some(place) = place else {
+        text.push_str("-")?;
+        return Ok(());
+    };
+    text.push_str(place.country.as_str())?;
+    if !place.city.as_str().is_empty() {
+        text.push_str(" ")?;
+        text.push_str(place.region.as_str())?;
+        text.push_str(" ")?;
+        text.push_str(place.city.as_str())?;
     }
     Ok(())
 }
 
-// Ranges that nest, overlap without nesting, and repeat.
-fn put_v4(sources: &mut Sources, alloc: Global) -> Result<(), Fail> {
-    put(sources, alloc, "g", (0, TOP_V4), b"US")?;
-    put(sources, alloc, "f", (0x0A00_0000, 0x0AFF_FFFF), b"DE")?;
-    put(sources, alloc, "e", (0x0A00_0000, 0x0AFF_FFFF), b"AT")?;
-    put(sources, alloc, "d", (0x0A80_0000, 0x0B7F_FFFE), b"FR")
+// The records of several addresses.
+pub(crate) fn records(
+    alloc: Global,
+    sources: &Sources,
+    addresses: &[&str],
+) -> Result<String, Fail> {
+    let mut text = String::new(alloc);
+    for address in addresses {
+        push_place(&mut text, sources.record_at(at(*address)?))?;
+        text.push_str(";")?;
+    }
+    Ok(text)
 }
 
-// Ranges that touch both ends of both families.
-fn put_ends(sources: &mut Sources, alloc: Global) -> Result<(), Fail> {
-    put(sources, alloc, "c", (0, 0), b"NL")?;
-    put(sources, alloc, "b", (0, u128::MAX), b"SE")?;
-    put(sources, alloc, "a", (TOP_V4, 1 << 32), b"CH")?;
-    put(sources, alloc, "h", (u128::MAX, u128::MAX), b"JP")
+fn override_line(row: Option<&Override>) -> u64 {
+    match row {
+        Some(row) => row.line,
+        None => 0,
+    }
 }
 
-fn all_shapes(alloc: Global) -> Result<Sources, Fail> {
+fn reference_line(reference: Option<&Reference>) -> u64 {
+    match reference {
+        Some(reference) => reference.line,
+        None => 0,
+    }
+}
+
+fn entry_line(entry: Option<&Entry>) -> u64 {
+    match entry {
+        Some(entry) => entry.line,
+        None => 0,
+    }
+}
+
+fn row_line(row: Option<&Delegation>) -> u64 {
+    match row {
+        Some(row) => row.line,
+        None => 0,
+    }
+}
+
+// What decides at an address: the lines of the four statements, and the record that the reasons give.
+pub(crate) fn reasons(alloc: Global, sources: &Sources, address: &str) -> Result<String, Fail> {
+    let why = sources.why_at(at(address)?);
+    let over = override_line(why.over);
+    let speaker = reference_line(why.speaker);
+    let entry = entry_line(why.entry);
+    let row = row_line(why.delegation);
+    let mut text = format!(in alloc; "{over} {speaker} {entry} {row} ")?;
+    push_place(&mut text, why.place)?;
+    Ok(text)
+}
+
+// The report as it is printed.
+pub(crate) fn printed(alloc: Global, sources: &Sources) -> Result<String, Fail> {
+    let mut text = String::new(alloc);
+    for note in &sources.report()? {
+        text.push_str(note_text(alloc, note)?.as_str())?;
+    }
+    Ok(text)
+}
+
+// An object with a feed of one city for its lower half, and a delegation of all of it.
+fn city(alloc: Global) -> Result<Sources, Fail> {
     let mut sources = Sources::new(alloc);
-    put_v4(&mut sources, alloc)?;
-    put_ends(&mut sources, alloc)?;
+    set_dump(&mut sources, alloc, "ripe", "192.0.2.0/24", (0, FEED))?;
+    set_feed(&mut sources, alloc, FEED, "192.0.2.0/25", MUNICH)?;
+    set_stats(&mut sources, alloc, "nro", "192.0.2.0/24", "AT")?;
     Ok(sources)
 }
 
-fn code_of(place: Option<&Place>) -> &str {
+const CITY: [&str; 3] = ["192.0.2.1", "192.0.2.200", "192.0.3.0"];
+
+#[test]
+fn an_entry_goes_before_a_delegation(rt: HostRuntime) -> Result<(), Fail> {
+    let alloc = rt.alloc();
+    let sources = city(alloc)?;
+    let found = records(alloc, &sources, &CITY)?;
+    assert!(rt; found.as_str() == "DE DE-BY München;AT;-;");
+    Ok(())
+}
+
+// A wide object whose feed is there, and a narrow one inside it whose feed is not.
+fn nested(alloc: Global) -> Result<Sources, Fail> {
+    let mut sources = Sources::new(alloc);
+    set_stats(&mut sources, alloc, "nro", "192.0.0.0/16", "DE")?;
+    set_feed(&mut sources, alloc, FEED, "192.0.0.0/16", FRANCE)?;
+    set_dump(&mut sources, alloc, "b", "192.0.2.0/24", (0, OTHER))?;
+    set_dump(&mut sources, alloc, "a", "192.0.0.0/16", (0, FEED))?;
+    Ok(sources)
+}
+
+#[test]
+fn a_speaker_without_a_feed_keeps_its_authority(rt: HostRuntime) -> Result<(), Fail> {
+    let alloc = rt.alloc();
+    let sources = nested(alloc)?;
+    let found = records(alloc, &sources, &["192.0.3.1", "192.0.2.1"])?;
+    assert!(rt; found.as_str() == "FR;DE;");
+    let report = printed(alloc, &sources)?;
+    assert!(rt; report.as_str() == "rpsl b 6 P09\n");
+    Ok(())
+}
+
+#[test]
+fn of_two_objects_of_one_range_the_later_speaks(rt: HostRuntime) -> Result<(), Fail> {
+    let alloc = rt.alloc();
+    let mut sources = nested(alloc)?;
+    set_dump(
+        &mut sources,
+        alloc,
+        "b",
+        "192.0.2.0/24",
+        (20_230_101_000_000, OTHER),
+    )?;
+    set_dump(
+        &mut sources,
+        alloc,
+        "c",
+        "192.0.2.0/24",
+        (20_240_101_000_000, FEED),
+    )?;
+    let report = printed(alloc, &sources)?;
+    assert!(rt; report.as_str() == "rpsl b 6 P08\nrpsl b 6 P09\n");
+    Ok(())
+}
+
+#[test]
+fn an_override_decides(rt: HostRuntime) -> Result<(), Fail> {
+    let alloc = rt.alloc();
+    let mut sources = city(alloc)?;
+    set_overrides(&mut sources, alloc, "0.0.0.0/0", FRANCE)?;
+    let found = records(
+        alloc,
+        &sources,
+        &["0.0.0.0", "192.0.2.1", "255.255.255.255", "::1:0:0"],
+    )?;
+    assert!(rt; found.as_str() == "FR;FR;FR;-;");
+    Ok(())
+}
+
+// Delegations that nest, overlap without nesting, repeat, and touch both ends of both families: a slot, a
+// range and a country each.
+const SHAPES: [(&str, u128, u128, &str); 8] = [
+    ("g", 0, TOP_V4, "US"),
+    ("f", 0x0A00_0000, 0x0AFF_FFFF, "DE"),
+    ("e", 0x0A00_0000, 0x0AFF_FFFF, "AT"),
+    ("d", 0x0A80_0000, 0x0B7F_FFFE, "FR"),
+    ("c", 0, 0, "NL"),
+    ("b", 0, u128::MAX, "SE"),
+    ("a", TOP_V4, 1 << 32, "CH"),
+    ("h", u128::MAX, u128::MAX, "JP"),
+];
+
+fn shape(alloc: Global, shape: (&str, u128, u128, &str)) -> Result<Stats, Fail> {
+    let (slot, first, last, code) = shape;
+    if first > last {
+        return Err(Fail::from("no range"));
+    }
+    stats(alloc, slot, Range { first, last }, code)
+}
+
+fn files_of_shapes(alloc: Global) -> Result<Vec<Stats>, Fail> {
+    let mut files = Vec::new(alloc);
+    for given in &SHAPES {
+        files.push(shape(alloc, *given)?)?;
+    }
+    Ok(files)
+}
+
+fn sources_of_shapes(alloc: Global) -> Result<Sources, Fail> {
+    let mut sources = Sources::new(alloc);
+    for given in &SHAPES {
+        set_file(&mut sources, shape(alloc, *given)?)?;
+    }
+    Ok(sources)
+}
+
+fn set_file(sources: &mut Sources, file: Stats) -> Result<(), Fail> {
+    sources.set_stats(file)?;
+    Ok(())
+}
+
+fn country_of(place: Option<&Place>) -> &str {
     match place {
         Some(place) => place.country.as_str(),
         None => "",
     }
 }
 
-// The country of an address, where the plain look-up gives the same.
-fn code_at(sources: &Sources, number: u128) -> &str {
-    let at = Addr(number);
+fn spoken<'a>(sources: &'a Sources, number: u128) -> &'a str {
+    country_of(sources.spoken_at(Addr(number)))
+}
+
+fn plainly_spoken<'a>(files: &'a [Stats], number: u128) -> &'a str {
     let plain = AllSources {
         dumps: &[],
         feeds: &[],
-        stats: sources.stats(),
+        stats: files,
         overrides: None,
     };
-    let code = code_of(sources.record_at(at));
-    if code == code_of(chosen_at(&plain, at)) {
-        code
-    } else {
-        "two answers"
-    }
+    country_of(spoken_at(&plain, Addr(number)))
 }
 
 #[test]
-fn smallest_range_first(rt: HostRuntime) -> Result<(), Fail> {
-    let sources = all_shapes(rt.alloc())?;
+fn the_plain_lookup_agrees(rt: HostRuntime) -> Result<(), Fail> {
+    let files = files_of_shapes(rt.alloc())?;
+    let sources = sources_of_shapes(rt.alloc())?;
     let table: [(u128, &str); 10] = [
         (0, "NL"),
         (1, "US"),
@@ -148,96 +301,48 @@ fn smallest_range_first(rt: HostRuntime) -> Result<(), Fail> {
         (u128::MAX, "JP"),
     ];
     for (number, code) in table {
-        assert!(rt; code_at(&sources, number) == code);
+        assert!(rt; spoken(&sources, number) == code);
+        assert!(rt; plainly_spoken(files.as_slice(), number) == code);
     }
     Ok(())
 }
 
-// The ends of each segment, and the codes of their records one after another.
-fn shown(
-    alloc: Global,
-    sources: &Sources,
-    touched: &[Range],
-) -> Result<(Vec<(u128, u128)>, String), Fail> {
+fn touched(first: u128, last: u128) -> Result<Range, Fail> {
+    if first > last {
+        return Err(Fail::from("no range"));
+    }
+    Ok(Range { first, last })
+}
+
+fn cut(sources: &Sources, touched: &[Range]) -> Result<Vec<Range>, Fail> {
     let segments = sources.segments(touched)?;
-    let mut ends = Vec::new(alloc);
-    for segment in &segments {
-        ends.push((segment.first, segment.last))?;
-    }
-    let mut codes = String::new(alloc);
-    for choice in sources.choices(segments.as_slice())? {
-        codes.push_str(code_of(choice))?;
-    }
-    Ok((ends, codes))
+    Ok(segments)
 }
 
-#[test]
-fn segments_end_before_the_next_cut(rt: HostRuntime) -> Result<(), Fail> {
-    let alloc = rt.alloc();
-    let sources = all_shapes(alloc)?;
-    let touched = [
-        Range {
-            first: 0x0A80_0000,
-            last: 0x0B7F_FFFE,
-        },
-        Range {
-            first: 0x0A00_0000,
-            last: 0x0AFF_FFFF,
-        },
-        Range {
-            first: 5,
-            last: (1 << 32) + 1,
-        },
-    ];
-    let (ends, codes) = shown(alloc, &sources, &touched)?;
-    let wanted = [
-        (0x0A00_0000, 0x0A7F_FFFF),
-        (0x0A80_0000, 0x0AFF_FFFF),
-        (0x0B00_0000, 0x0B7F_FFFE),
-        (1 << 32, 1 << 32),
-        ((1 << 32) + 1, (1 << 32) + 1),
-    ];
-    assert!(rt; ends.as_slice() == wanted.as_slice());
-    assert!(rt; codes.as_str() == "ATFRFRCHSE");
-    Ok(())
-}
-
-// The report as it is printed.
-fn printed(alloc: Global, sources: &Sources) -> Result<String, Fail> {
+// The ends of the segments of what is touched, and what is said on each.
+fn segments(alloc: Global, sources: &Sources, touched: &[Range]) -> Result<String, Fail> {
     let mut text = String::new(alloc);
-    for note in &sources.report()? {
-        text.push_str(note_text(alloc, note)?.as_str())?;
+    for segment in &cut(sources, touched)? {
+        let (first, last) = (segment.first, segment.last);
+        let ends = format!(in alloc; "{first:x}-{last:x} ")?;
+        text.push_str(ends.as_str())?;
+        push_place(&mut text, sources.choice(*segment))?;
+        text.push_str(";")?;
     }
     Ok(text)
 }
 
-// Two files with notes, and one with a delegation that another one replaces.
-fn replaced(alloc: Global) -> Result<(Sources, Option<Stats>), Fail> {
+#[test]
+fn a_report_is_in_its_order(rt: HostRuntime) -> Result<(), Fail> {
+    let alloc = rt.alloc();
     let mut sources = Sources::new(alloc);
-    sources.set_stats(noted(alloc, "ripe", 7)?)?;
-    put(&mut sources, alloc, "arin", (8, 15), b"US")?;
-    sources.set_stats(noted(alloc, "apnic", 3)?)?;
-    let old = sources.set_stats(file(alloc, "arin", 8, 11, b"CA")?)?;
-    Ok((sources, old))
-}
-
-#[test]
-fn files_replace_one_another(rt: HostRuntime) -> Result<(), Fail> {
-    let alloc = rt.alloc();
-    let (sources, old) = replaced(alloc)?;
-    assert!(rt; old.is_some());
-    assert!(rt; code_at(&sources, 11) == "CA");
-    assert!(rt; code_at(&sources, 12) == "");
-    Ok(())
-}
-
-#[test]
-fn report_is_in_the_order_of_slots(rt: HostRuntime) -> Result<(), Fail> {
-    let alloc = rt.alloc();
-    let (sources, _) = replaced(alloc)?;
-    let text = printed(alloc, &sources)?;
-    assert!(rt; text.as_str() == "stats apnic 3 S06\nstats ripe 7 S06\n");
-    let cuts = sources.cuts_in(Range { first: 8, last: 20 })?;
-    assert!(rt; cuts.as_slice() == [8, 12].as_slice());
+    set_notes(&mut sources, alloc, "ripe", 7)?;
+    set_overrides(&mut sources, alloc, "::ffff:0:0/96", FRANCE)?;
+    set_notes(&mut sources, alloc, "apnic", 3)?;
+    set_feed(&mut sources, alloc, FEED, "2002::/16", FRANCE)?;
+    let report = printed(alloc, &sources)?;
+    let wanted = "feed https://e.example/f.csv 1 A01\nfeed https://e.example/f.csv 1 F09\n\
+        stats apnic 3 S06\nstats ripe 7 S06\noverrides - 1 A01\n";
+    assert!(rt; report.as_str() == wanted);
     Ok(())
 }

@@ -1,7 +1,0 @@
-use Rattle.std.proofs.Common.{◌≡◌, ◌++◌, map, drop}
-use Rattle.std.specs.List.{flat_map}
-use Rattle.precedence.proofs.delegations.rows_of.Given as goal
-
--- the rows of the files that are left follow what was found
-abbrev pub invariant-loop-file : goal.invariant-loop-file
-invariant-loop-file l = map (λ d. d.now) l.rows.items ++ flat_map (λ t. t.rows) (drop l.file-index l.stats) ≡ flat_map (λ t. t.rows) l.stats
