@@ -1,0 +1,10 @@
+pub mod AscendLemmas
+pub mod CensusLemmas
+pub mod CountLemmas
+pub mod HearingLemmas
+pub mod JudgingLemmas
+pub mod LowestLemmas
+pub mod PassLemmas
+pub mod SpreadLemmas
+pub mod SweepLemmas
+pub mod TallyLemmas
