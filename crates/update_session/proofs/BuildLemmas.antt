@@ -1,25 +1,29 @@
 -- What a root answers after the segments were painted on it.
-use Rattle.std.proofs.Common.{◌≡◌, ℕ, zero, suc, ◌+◌, ◌^◌, ◌<◌, ◌≤◌, Bool, true, false, cond, ◌&&◌, leb, List, [], ◌∷◌, ◌++◌, length, map, get_or, Option, Some, None, refl, sym, ap, ◌∙◌, subst, arith, length-append, append_assoc, append-nil}
+use Rattle.std.proofs.Common.{◌≡◌, ℕ, zero, suc, ◌+◌, ◌*◌, ◌^◌, ◌<◌, ◌≤◌, Bool, true, false, cond, ◌&&◌, leb, List, [], ◌∷◌, ◌++◌, length, map, take, get_or, add-one, Option, Some, None, refl, sym, ap, ap₂, ◌∙◌, subst, arith, length-append, append_assoc, append-nil}
 use Rattle.std.specs.Prelude.{slice_get}
-use Rattle.std.specs.List.{All, Any, AllByRecursion}
+use Rattle.std.specs.List.{All, Any, AllByRecursion, AllZip}
 use Rattle.std.proofs.lemmas.Bool.Decides.{nat_tests}
 use Rattle.std.proofs.lemmas.List.{length-map}
 use Rattle.std.proofs.Math.ListN.{get_or-map}
-use Rattle.std.proofs.lemmas.List.Elements.{recursion_from_All}
-use Rattle.geo_addr.specs.Bits.{bits_of}
+use Rattle.std.proofs.Math.Seq.{take-suc}
+use Rattle.std.proofs.lemmas.Slice.Zip.{AllZip-long, all_zipped_more}
+use Rattle.std.proofs.lemmas.List.Elements.{All-from_recursion, recursion_from_All}
 use Rattle.geo_addr.specs.Ranges.{Ends, IsRange, IsWithin}
 use Rattle.geo_terms.specs.Numbers.{place_at}
 use Rattle.geo_terms.specs.PlaceForm.{PlaceParts}
-use Rattle.geo_terms.specs.Precedence.{record_at}
+use Rattle.geo_terms.specs.Alias.{is_alias}
+use Rattle.geo_terms.specs.Precedence.{spoken_at}
 use Rattle.geo_terms.specs.Sources.{InForce}
-use Rattle.precedence.specs.Segments.{is_touched}
+use Rattle.source_changes.specs.Touched.{is_touched}
 use Rattle.trie_core.specs.declared.node.Pair.{Pair}
 use Rattle.trie_core.specs.declared.node.Root.{Root}
 use Rattle.trie_core.specs.declared.paint.Part.{Part}
 use Rattle.trie_core.specs.Paint.{IsAscending, leaf_in, over}
-use Rattle.trie_core.specs.Store.{leaf_at, tree_of}
-use Rattle.trie_core.specs.Tree.{Tree, look, leaf as one_leaf}
-use Rattle.update_session.specs.Build.{Answers, AnswersAll, AreSteady, GrowsBy, HasRecord}
+use Rattle.trie_core.specs.Store.{leaf_at}
+use Rattle.update_session.specs.Build.{AreSteady, HasNumber, IsChosen, IsNumbered}
+use Rattle.update_session.specs.Touch.{bound, few_places}
+use Rattle.update_session.specs.declared.choosing.Choice.{Choice}
+use Rattle.update_session.specs.Kept.{Answers, AnswersSpoken, GrowsBy}
 
 -- ---- a list of places that grows
 
@@ -40,21 +44,66 @@ pub GrowsBy-trans : (x y z : List PlaceParts) (m n all : ℕ) → GrowsBy x y m 
 GrowsBy-trans x y z m n all (more, y-is, few) (late, z-is, few') le =
     (more ++ late, z-is ∙ ap (λ (ps : List PlaceParts). ps ++ late) y-is ∙ append_assoc x more late, omega (arith, few, few', le, length-append more late))
 
-pub HasRecord-grown : (s : InForce) (before after : List PlaceParts) (n : ℕ) (p : Part) → GrowsBy before after n → HasRecord s before p → HasRecord s after p
-HasRecord-grown s before after n p (more, after-is, few) (fits, is) =
-    subst (λ (places : List PlaceParts). HasRecord s places p) (sym after-is) (omega (arith, fits, length-append before more), place_at-grown before more p.leaf fits ∙ is)
+IsNumbered-grown : (before after : List PlaceParts) (n : ℕ) (c : Choice) (p : Part) → GrowsBy before after n → IsNumbered before c p → IsNumbered after c p
+IsNumbered-grown before after n c p (more, after-is, few) h =
+    subst (λ (places : List PlaceParts). IsNumbered places c p) (sym after-is)
+    (record { range = h.range; few = omega (arith, h.few, length-append before more); place = place_at-grown before more p.leaf h.few ∙ h.place })
 
-pub All-HasRecord-grown : (s : InForce) (before after : List PlaceParts) (n : ℕ) (ps : List Part) → GrowsBy before after n → All (HasRecord s before) ps → All (HasRecord s after) ps
-All-HasRecord-grown s before after n ps grown all k d below = HasRecord-grown s before after n (get_or ps k d) grown (all k d below)
+-- parts with numbers keep them
+pub AllZip-IsNumbered-grown : (before after : List PlaceParts) (n : ℕ) (cs : List Choice) (ps : List Part) → GrowsBy before after n → AllZip (IsNumbered before) cs ps → AllZip (IsNumbered after) cs ps
+AllZip-IsNumbered-grown before after n [] [] grown h = h
+AllZip-IsNumbered-grown before after n [] (p ∷ ps) grown h = absurd h
+AllZip-IsNumbered-grown before after n (c ∷ cs) [] grown h = absurd h
+AllZip-IsNumbered-grown before after n (c ∷ cs) (p ∷ ps) grown h = (IsNumbered-grown before after n c p grown h.0, AllZip-IsNumbered-grown before after n cs ps grown h.1)
 
-Answers-grown : (pairs : List Pair) (before after : List PlaceParts) (n : ℕ) (root : Root) (s : InForce) (a : ℕ) → GrowsBy before after n → Answers pairs before root s a → Answers pairs after root s a
-Answers-grown pairs before after n root s a (more, after-is, few) h =
-    subst (λ (places : List PlaceParts). Answers pairs places root s a) (sym after-is)
+-- one part more, for one choice more
+pub one_more_numbered : (places : List PlaceParts) (cs : List Choice) (ps all : List Part) (i : ℕ) (c : Choice) (p : Part) → i < length cs → c ≡ get_or cs i c → AllZip (IsNumbered places) (take i cs) ps
+    → IsNumbered places c p → all ≡ ps ++ p ∷ [] → AllZip (IsNumbered places) (take (i + 1) cs) all
+one_more_numbered places cs ps all i c p below is h one pushed =
+    let longer : take (i + 1) cs ≡ take i cs ++ c ∷ [] = ap (λ n. take n cs) (add-one i) ∙ take-suc cs i c below ∙ ap (λ d. take i cs ++ d ∷ []) (sym is) in
+    subst (λ (qs : List Part). AllZip (IsNumbered places) (take (i + 1) cs) qs) (sym pushed)
+    (subst (λ (ds : List Choice). AllZip (IsNumbered places) ds (ps ++ p ∷ [])) (sym longer) (all_zipped_more (IsNumbered places) (take i cs) ps c p h one))
+
+-- the parts of the choices of segments have the segments' ranges, and the numbers of what is said of them
+pub ranges_of_parts : (s : InForce) (places : List PlaceParts) (segments : List Ends) (cs : List Choice) (ps : List Part) → AllZip (IsChosen s) segments cs → AllZip (IsNumbered places) cs ps → map (λ p. p.range) ps ≡ segments
+ranges_of_parts s places [] [] [] chosen numbered = refl
+ranges_of_parts s places [] [] (p ∷ ps) chosen numbered = absurd numbered
+ranges_of_parts s places [] (c ∷ cs) ps chosen numbered = absurd chosen
+ranges_of_parts s places (r ∷ rs) [] ps chosen numbered = absurd chosen
+ranges_of_parts s places (r ∷ rs) (c ∷ cs) [] chosen numbered = absurd numbered
+ranges_of_parts s places (r ∷ rs) (c ∷ cs) (p ∷ ps) chosen numbered =
+    ap₂ (λ (x : Ends) (xs : List Ends). x ∷ xs) (numbered.0.range ∙ chosen.0.range) (ranges_of_parts s places rs cs ps chosen.1 numbered.1)
+
+numbers_by_recursion : (s : InForce) (places : List PlaceParts) (segments : List Ends) (cs : List Choice) (ps : List Part) → AllZip (IsChosen s) segments cs → AllZip (IsNumbered places) cs ps → AllByRecursion (HasNumber s places) ps
+numbers_by_recursion s places segments cs [] chosen numbered = tt
+numbers_by_recursion s places segments [] (p ∷ ps) chosen numbered = absurd numbered
+numbers_by_recursion s places [] (c ∷ cs) (p ∷ ps) chosen numbered = absurd chosen
+numbers_by_recursion s places (r ∷ rs) (c ∷ cs) (p ∷ ps) chosen numbered =
+    let first : p.range ≡ r = numbered.0.range ∙ chosen.0.range in
+    ((numbered.0.few, numbered.0.place ∙ chosen.0.said ∙ ap (λ (x : Ends). spoken_at s x.first) (sym first)), numbers_by_recursion s places rs cs ps chosen.1 numbered.1)
+
+pub numbers_of_parts : (s : InForce) (places : List PlaceParts) (segments : List Ends) (cs : List Choice) (ps : List Part) → AllZip (IsChosen s) segments cs → AllZip (IsNumbered places) cs ps → All (HasNumber s places) ps
+numbers_of_parts s places segments cs ps chosen numbered = All-from_recursion (HasNumber s places) ps (numbers_by_recursion s places segments cs ps chosen numbered)
+
+-- an emit gives numbers to no more places than the segments are, and paints no more parts
+few_choices : (s : InForce) (touched segments : List Ends) (cs : List Choice) → AreSteady s touched segments → AllZip (IsChosen s) segments cs → length cs + 1 ≤ few_places touched s
+unfolding few_places
+few_choices s touched segments cs steady chosen = omega (arith, AllZip-long (IsChosen s) segments cs chosen, steady.few)
+
+pub few_places_of : (s : InForce) (touched segments : List Ends) (cs : List Choice) (before after : List PlaceParts) → AreSteady s touched segments → AllZip (IsChosen s) segments cs
+    → GrowsBy before after (length cs) → GrowsBy before after (few_places touched s)
+few_places_of s touched segments cs before after steady chosen (more, after-is, few) = (more, after-is, omega (arith, few, few_choices s touched segments cs steady chosen))
+
+pub few_parts : (s : InForce) (touched segments : List Ends) (cs : List Choice) (ps : List Part) (places : List PlaceParts) → AreSteady s touched segments → AllZip (IsChosen s) segments cs → AllZip (IsNumbered places) cs ps
+    → 256 * length ps + 256 ≤ bound touched s
+unfolding bound
+few_parts s touched segments cs ps places steady chosen numbered =
+    omega (arith, AllZip-long (IsNumbered places) cs ps numbered, few_choices s touched segments cs steady chosen)
+
+pub Answers-grown : (pairs : List Pair) (before after : List PlaceParts) (n : ℕ) (root : Root) (wanted : Option PlaceParts) (a : ℕ) → GrowsBy before after n → Answers pairs before root wanted a → Answers pairs after root wanted a
+Answers-grown pairs before after n root wanted a (more, after-is, few) h =
+    subst (λ (places : List PlaceParts). Answers pairs places root wanted a) (sym after-is)
     (record { leaf = h.leaf; is = h.is; few = omega (arith, h.few, length-append before more); place = place_at-grown before more h.leaf h.few ∙ h.place })
-
--- the empty root answers where there is no record
-pub Answers-empty : (pairs : List Pair) (places : List PlaceParts) (root : Root) (s : InForce) (a : ℕ) → tree_of pairs root ≡ one_leaf 0 → record_at s a ≡ None → Answers pairs places root s a
-Answers-empty pairs places root s a empty none = record { leaf = 0; is = ap (λ (t : Tree ℕ). look t (bits_of 128 a)) empty; few = omega arith; place = sym none }
 
 -- ---- the parts of the segments
 
@@ -73,21 +122,21 @@ IsAscending-from_steady s touched segments parts steady ranges = record {
     range_at : (k : ℕ) (d : Part) → get_or segments k d.range ≡ (get_or parts k d).range
     range_at k d = ap (λ (rs : List Ends). get_or rs k d.range) (sym ranges) ∙ get_or-map (λ (p : Part). p.range) parts k d
 
--- one record from the first address of a range to its last
+-- the same is said from the first address of a range to its last
 abbrev Steady : InForce → Ends → Type 0
-Steady s r = (a : ℕ) → IsWithin r a → record_at s a ≡ record_at s r.first
+Steady s r = (a : ℕ) → IsWithin r a → spoken_at s a ≡ spoken_at s r.first
 
--- where the parts have a leaf, it is the number of the record
-leaf_found : (s : InForce) (places : List PlaceParts) (parts : List Part) (a k : ℕ) → AllByRecursion (HasRecord s places) parts → AllByRecursion (Steady s) (map (λ p. p.range) parts)
-    → leaf_in parts a ≡ Some k → (k ≤ length places) × (place_at places k ≡ record_at s a)
+-- where the parts have a leaf, it is the number of what is said
+leaf_found : (s : InForce) (places : List PlaceParts) (parts : List Part) (a k : ℕ) → AllByRecursion (HasNumber s places) parts → AllByRecursion (Steady s) (map (λ p. p.range) parts)
+    → leaf_in parts a ≡ Some k → (k ≤ length places) × (place_at places k ≡ spoken_at s a)
 leaf_found s places [] a k have steady found = absurd (cc)
 leaf_found s places (p ∷ ps) a k have steady found = by (leaf_found s places ps a k have.1 steady.1) (leb p.range.first a && leb a p.range.last) refl found
   where
-    by : (leaf_in ps a ≡ Some k → (k ≤ length places) × (place_at places k ≡ record_at s a)) → (b : Bool) → (leb p.range.first a && leb a p.range.last) ≡ b → cond b (Some p.leaf) (leaf_in ps a) ≡ Some k → (k ≤ length places) × (place_at places k ≡ record_at s a)
+    by : (leaf_in ps a ≡ Some k → (k ≤ length places) × (place_at places k ≡ spoken_at s a)) → (b : Bool) → (leb p.range.first a && leb a p.range.last) ≡ b → cond b (Some p.leaf) (leaf_in ps a) ≡ Some k → (k ≤ length places) × (place_at places k ≡ spoken_at s a)
     by rest true inside is =
         let same : p.leaf ≡ k = cc in
         let within : IsWithin p.range a = (grind (arith, nat_tests), grind (arith, nat_tests)) in
-        subst (λ (n : ℕ). (n ≤ length places) × (place_at places n ≡ record_at s a)) same (have.0.0, have.0.1 ∙ sym (steady.0 a within))
+        subst (λ (n : ℕ). (n ≤ length places) × (place_at places n ≡ spoken_at s a)) same (have.0.0, have.0.1 ∙ sym (steady.0 a within))
     by rest false outside is = rest is
 
 -- where they have none, no segment has the address
@@ -103,13 +152,13 @@ leaf_missed (p ∷ ps) a none any = by (leaf_missed ps a) (leb p.range.first a &
         grind (arith, nat_tests)
     by rest false outside none (suc k, r, below, is, within) = rest none (k, r, omega (arith, below), is, within)
 
--- the root on which the segments were painted answers everywhere
-pub AnswersAll-painted : (s : InForce) (touched segments : List Ends) (parts : List Part) (old new : List Pair) (before after : List PlaceParts) (n : ℕ) (root painted : Root)
-    → AreSteady s touched segments → map (λ p. p.range) parts ≡ segments → All (HasRecord s after) parts → GrowsBy before after n
-    → ((a : ℕ) → a < 2 ^ 128 → is_touched touched a ≡ false → Answers old before root s a)
+-- the root on which the segments were painted answers what is said, outside the blocks that carry IPv4 addresses
+pub AnswersSpoken-painted : (s : InForce) (touched segments : List Ends) (parts : List Part) (old new : List Pair) (before after : List PlaceParts) (n : ℕ) (root painted : Root)
+    → AreSteady s touched segments → map (λ p. p.range) parts ≡ segments → All (HasNumber s after) parts → GrowsBy before after n
+    → ((a : ℕ) → a < 2 ^ 128 → is_alias a ≡ false → is_touched touched a ≡ false → Answers old before root (spoken_at s a) a)
     → ((a : ℕ) → a < 2 ^ 128 → leaf_at new painted a ≡ over (leaf_in parts a) (leaf_at old root a))
-    → AnswersAll new after painted s
-AnswersAll-painted s touched segments parts old new before after n root painted steady ranges have grown elsewhere lookups a below = by (leaf_in parts a) refl
+    → AnswersSpoken new after painted s
+AnswersSpoken-painted s touched segments parts old new before after n root painted steady ranges have grown elsewhere lookups a below own = by (leaf_in parts a) refl
   where
     none_touched : leaf_in parts a ≡ None → is_touched touched a ≡ false
     none_touched none = by (is_touched touched a) refl
@@ -118,11 +167,11 @@ AnswersAll-painted s touched segments parts old new before after n root painted 
         by true is = absurd (leaf_missed parts a none (subst (λ (rs : List Ends). Any (λ r. IsWithin r a) rs) (sym ranges) (steady.covered a is)))
         by false is = is
 
-    by : (found : Option ℕ) → leaf_in parts a ≡ found → Answers new after painted s a
+    by : (found : Option ℕ) → leaf_in parts a ≡ found → Answers new after painted (spoken_at s a) a
     by (Some k) is =
-        let right = leaf_found s after parts a k (recursion_from_All (HasRecord s after) parts have)
+        let right = leaf_found s after parts a k (recursion_from_All (HasNumber s after) parts have)
         (subst (AllByRecursion (Steady s)) (sym ranges) (recursion_from_All (Steady s) segments steady.steady)) is in
         record { leaf = k; is = lookups a below ∙ ap (λ found. over found (leaf_at old root a)) is; few = right.0; place = right.1 }
     by None is =
-        let was = Answers-grown old before after n root s a grown (elsewhere a below (none_touched is)) in
+        let was = Answers-grown old before after n root (spoken_at s a) a grown (elsewhere a below own (none_touched is)) in
         record { leaf = was.leaf; is = lookups a below ∙ ap (λ found. over found (leaf_at old root a)) is ∙ was.is; few = was.few; place = was.place }

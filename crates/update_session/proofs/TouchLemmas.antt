@@ -1,22 +1,22 @@
 -- There are no more segments than the touch.
 use Rattle.std.proofs.Common.{◌≡◌, ℕ, ◌*◌, zero, suc, ◌+◌, ◌≤◌, Bool, true, false, cond, eqb, List, [], ◌∷◌, length, Contains, refl, sym, ap, ◌∙◌, inl, inr, arith}
 use Rattle.std.specs.List.{All, filter, flat_map, count_by}
-use Rattle.std.specs.List.Sorted.{IsStrictlyIncreasing}
+use Rattle.std.specs.List.Sorted.{IsPermutation, IsStrictlyIncreasing}
 use Rattle.std.proofs.lemmas.Bool.Decides.{Decides-eqb}
 use Rattle.std.proofs.lemmas.List.Sums.{length-filter, count_by-le-length}
-use Rattle.geo_addr.specs.Ranges.{Ends, IsCut, IsWithin, ground_first}
+use Rattle.geo_addr.specs.Ranges.{Ends, IsCut, IsWithin, ground_first, edges_of}
 use Rattle.geo_terms.specs.Cuts.{statement_ranges}
-use Rattle.geo_terms.specs.Precedence.{record_at}
+use Rattle.geo_terms.specs.Precedence.{spoken_at}
 use Rattle.geo_terms.specs.Sources.{InForce}
 use Rattle.mmdb_file.proofs.WritingLemmas.{length-each_once}
 use Rattle.least_nodes.proofs.Elements.{In, In-each_once-new}
 use Rattle.geo_terms.proofs.Members.{Among, contains_from_among, among_filter}
 use Rattle.geo_terms.proofs.RankLemmas.{Up, up_from, up_above}
 use Rattle.precedence.specs.CutPlaces.{AreSourceSegments}
-use Rattle.precedence.specs.Segments.{is_touched}
+use Rattle.source_changes.specs.Laws.{OrderDoesNotMatter}
+use Rattle.source_changes.specs.Touched.{is_touched}
 use Rattle.update_session.specs.Build.{AreSteady}
-use Rattle.update_session.specs.State.{State}
-use Rattle.update_session.specs.Touch.{edges_of, edges, touch, bound}
+use Rattle.update_session.specs.Touch.{edges, touch, few_places, bound}
 
 -- a list with a member taken out, where it first stands
 abbrev taken : ℕ → List ℕ → List ℕ
@@ -97,8 +97,8 @@ few_cuts p rs cuts up are =
     edge : (c : ℕ) → Among c cuts → Among c (edges rs)
     edge c is = among_from_in c (edges rs) (In-each_once-new eqb Decides-eqb c [] (flat_map edges_of rs) (in_from_among c (flat_map edges_of rs) (among_edges c rs (are c (contains_from_among c cuts is)))))
 
--- segments of the sources are steady, and few
-pub AreSteady-from_segments : (s : InForce) (touched out : List Ends) → AreSourceSegments s touched out → All (λ r. (a : ℕ) → IsWithin r a → record_at s a ≡ record_at s r.first) out → AreSteady s touched out
+-- of all of a segment of the sources the same is said, and there are few segments
+pub AreSteady-from_segments : (s : InForce) (touched out : List Ends) → AreSourceSegments s touched out → All (λ r. (a : ℕ) → IsWithin r a → spoken_at s a ≡ spoken_at s r.first) out → AreSteady s touched out
 unfolding touch
 AreSteady-from_segments s touched out segments steady =
     let few : count_by (is_touched touched) segments.places ≤ length (filter (is_touched touched) (edges (statement_ranges s))) =
@@ -116,13 +116,33 @@ length-edges : (rs : List Ends) → length (flat_map edges_of rs) ≡ 2 * length
 length-edges [] = refl
 length-edges (r ∷ rs) = omega (arith, length-edges rs)
 
--- the bound grows with the number of statements alone
-pub bound_by_statements : (s : State) → bound s ≤ 256 * (3 * length (statement_ranges s.sources) + 1)
-unfolding bound touch
-bound_by_statements s =
-    let rs : List Ends = statement_ranges s.sources in
-    let kept_are : length (filter (is_touched rs) (edges rs)) ≡ count_by (is_touched rs) (edges rs) = length-filter (is_touched rs) (edges rs) in
-    let few_kept : count_by (is_touched rs) (edges rs) ≤ length (edges rs) = count_by-le-length (is_touched rs) (edges rs) in
+-- the bound grows with the numbers of changed statements and of those in force alone
+pub bound_by_statements : (touched : List Ends) (s : InForce) → bound touched s ≤ 256 * (length touched + 2 * length (statement_ranges s) + 1)
+unfolding bound few_places touch
+bound_by_statements touched s =
+    let rs : List Ends = statement_ranges s in
+    let kept_are : length (filter (is_touched touched) (edges rs)) ≡ count_by (is_touched touched) (edges rs) = length-filter (is_touched touched) (edges rs) in
+    let few_kept : count_by (is_touched touched) (edges rs) ≤ length (edges rs) = count_by-le-length (is_touched touched) (edges rs) in
     let few_edges : length (edges rs) ≤ length (flat_map edges_of rs) = omega (arith, length-each_once eqb [] (flat_map edges_of rs)) in
     let two_each : length (flat_map edges_of rs) ≡ 2 * length rs = length-edges rs in
     omega arith
+
+-- the touch is the same in whatever order the grounds stand
+filter-same : (p q : ℕ → Bool) → ((c : ℕ) → p c ≡ q c) → (xs : List ℕ) → filter p xs ≡ filter q xs
+filter-same p q same [] = refl
+filter-same p q same (x ∷ xs) = rw (same x, filter-same p q same xs) refl
+
+touch-moved : OrderDoesNotMatter → (xs ys all : List Ends) → IsPermutation xs ys → touch ys all ≡ touch xs all
+unfolding touch
+touch-moved order xs ys all moved =
+    let both = order xs ys moved in
+    let kept : filter (is_touched ys) (edges all) ≡ filter (is_touched xs) (edges all) = filter-same (is_touched ys) (is_touched xs) (λ c. sym (both.1 c)) (edges all) in
+    omega (arith, both.0, ap length kept)
+
+pub few_places-moved : OrderDoesNotMatter → (xs ys : List Ends) (s : InForce) → IsPermutation xs ys → few_places ys s ≡ few_places xs s
+unfolding few_places
+few_places-moved order xs ys s moved = ap (λ n. n + 1) (touch-moved order xs ys (statement_ranges s) moved)
+
+pub bound-moved : OrderDoesNotMatter → (xs ys : List Ends) (s : InForce) → IsPermutation xs ys → bound ys s ≡ bound xs s
+unfolding bound
+bound-moved order xs ys s moved = ap (λ n. 256 * n) (few_places-moved order xs ys s moved)

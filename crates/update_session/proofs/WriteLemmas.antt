@@ -7,6 +7,8 @@ use Rattle.geo_terms.specs.PlaceForm.{PlaceParts}
 use Rattle.geo_terms.specs.Precedence.{record_at}
 use Rattle.geo_terms.specs.Sources.{InForce}
 use Rattle.mmdb_file.specs.FileImage.{file, file_of as image_of, file_with, file_nodes, file_section, file_end, node_records, records_end, same_answer, section, record_tree, fresh}
+use Rattle.mmdb_file.specs.declared.fault.FileFault as file_fault
+use Rattle.mmdb_file.specs.declared.fault.FileFault.TheVariants as file_faults
 use Rattle.mmdb_tree.specs.Nodes.{smallest, record_size}
 use Rattle.mmdb_tree.specs.declared.bits.Bits.{Bits}
 use Rattle.mmdb_tree.specs.declared.bits.Bits.TheVariants.{B24, B28, B32}
@@ -14,11 +16,13 @@ use Rattle.trie_core.specs.declared.node.Pair.{Pair}
 use Rattle.trie_core.specs.declared.node.Root.{Root}
 use Rattle.trie_core.specs.Store.{leaf_at}
 use Rattle.trie_core.specs.Tree.{Tree}
-use Rattle.update_session.specs.Build.{Answers}
+use Rattle.update_session.specs.Faults.{emit_fault}
+use Rattle.update_session.specs.declared.fault.EmitFault.TheVariants as emit_faults
+use Rattle.update_session.specs.Kept.{Answers}
 use Rattle.update_session.specs.State.{State, FileValue, node_count, section_length, is_too_large, file_of}
 
 -- the leaf of a root that answers the record is the number of the record
-pub leaf_is : (pairs : List Pair) (places : List PlaceParts) (root : Root) (s : InForce) (a k : ℕ) → Answers pairs places root s a → leaf_at pairs root a ≡ Some k
+pub leaf_is : (pairs : List Pair) (places : List PlaceParts) (root : Root) (s : InForce) (a k : ℕ) → Answers pairs places root (record_at s a) a → leaf_at pairs root a ≡ Some k
     → (k ≤ length places) × (place_at places k ≡ record_at s a)
 leaf_is pairs places root s a k h is =
     let both : Some h.leaf ≡ Some k = sym h.is ∙ is in
@@ -107,3 +111,8 @@ too_large_means_no_file s =
     by : (found : Option Bits) → smallest (end_of s) ≡ found → with_bits (record_tree s.sources) s.epoch s.name found ≡ None → leb (2 ^ 32) (end_of s) ≡ true
     by None is none = none_holds (end_of s) is
     by (Some b) is none = absurd (some_file s b is none)
+
+-- a file that is too large is the only cause of an emit that is
+pub too_large_file : (why : file_fault.FileFault) → emit_fault why ≡ emit_faults.TooLarge → why ≡ file_faults.TooLarge
+too_large_file file_faults.TooLarge e = refl
+too_large_file file_faults.Memory e = absurd (cc)

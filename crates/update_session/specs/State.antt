@@ -1,11 +1,10 @@
 -- What a session stands for, and the file that it emits.
-use Rattle.std.specs.Prelude.{◌≡◌, ◌+◌, ℕ, ◌^◌, nat_le, Bool, List, [], length, Option, None, option_map, option_and_then}
-use Rattle.geo_terms.specs.SourceForm.{StatsParts}
+use Rattle.std.specs.Prelude.{◌+◌, ℕ, ◌^◌, nat_le, Bool, List, length, map, Option, option_map, option_and_then}
 use Rattle.geo_terms.specs.Sources.{InForce, no_sources}
 use Rattle.mmdb_tree.specs.Nodes.{smallest, record_size}
-use Rattle.mmdb_file.specs.FileImage.{file_nodes, file_section, record_tree, fresh}
+use Rattle.least_nodes.specs.Together.{nodes_of}
+use Rattle.mmdb_file.specs.FileImage.{file_nodes, file_section, record_tree, same_answer, fresh}
 use Rattle.mmdb_file.specs.declared.writing.Emitted.{Emitted}
-use Rattle.geo_terms.specs.SlotOrder.{placed}
 
 -- the sources in force, and the build epoch and the name of the files
 pub record State : Type 0 where
@@ -13,17 +12,9 @@ pub record State : Type 0 where
   pub epoch : ℕ
   pub name : List ℕ
 
--- statistics are the only sources
-abbrev pub StatsAlone : InForce → Type 0
-StatsAlone s = s ≡ record { dumps = []; feeds = []; stats = s.stats; overrides = None }
-
--- a session that was just begun
+-- the state of a session that was just begun
 abbrev pub begun : (epoch : ℕ) (name : List ℕ) → State
 begun epoch name = record { sources = no_sources; epoch = epoch; name = name }
-
--- the session with one more statistics file, which takes the place of the one of its slot
-abbrev pub with_stats : StatsParts → State → State
-with_stats stats s = record s { sources = record s.sources { stats = placed (λ t. t.slot) stats s.sources.stats } }
 
 -- a file, and its counts: nodes, bytes of the data section, and bits of a record
 pub record FileValue : Type 0 where
@@ -54,3 +45,7 @@ file_of s =
 -- a file that was written, as its definition
 abbrev pub value_of : Emitted → FileValue
 value_of e = record { bytes = e.bytes.items; nodes = e.nodes; section = e.section; bits = e.bits }
+
+-- the different nodes under the trees of these sources, counted
+unfoldable pub nodes_under : List InForce → ℕ
+nodes_under bases = length (nodes_of same_answer (map record_tree bases))

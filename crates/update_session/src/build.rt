@@ -1,73 +1,37 @@
-//! The tree of the record: the touched grounds are cut into segments, each segment's record gets its
-//! number, and all segments are painted in one pass.
-ghost use Rattle.std.specs.Prelude.{◌≡◌, ℕ, ◌+◌, ◌-◌, ◌*◌, ◌^◌, ◌<◌, ◌≤◌, ◌⊎◌, ◌++◌, [], false, length, map, flat_map, All, IfOk, OnOk, Some, Err};
+//! The kept tree, painted anew: the touched grounds are cut into segments, what is said of each gets its
+//! number, all segments are painted in one pass, and the blocks that carry IPv4 addresses follow.
+ghost use Rattle.std.specs.Prelude.{◌≡◌, ℕ, ◌+◌, ◌-◌, ◌*◌, ◌^◌, ◌<◌, ◌≤◌, ◌⊎◌, [], length, map, All, IfOk, Ok, Some, Err};
+ghost use Rattle.std.specs.List.{AllZip};
 ghost use Rattle.geo_terms.specs.Cuts.{statement_ranges};
 ghost use Rattle.geo_terms.specs.Numbers.{place_at};
-ghost use Rattle.precedence.specs.Segments.{is_touched};
 ghost use Rattle.trie_core.specs.Paint.{IsAscending, leaf_in, over};
-ghost use Rattle.trie_core.specs.Store.{leaf_at, record_of, IsRootOf, GrowsBy, AddedUnder};
-ghost use Rattle.update_session.specs.Build.{Answers, AnswersAll, AreSteady, GrowsBy as PlacesGrowBy, HasRecord};
-ghost use Rattle.update_session.specs.State.{StatsAlone};
-ghost use Rattle.update_session.specs.Touch.{touch};
+ghost use Rattle.trie_core.specs.Store.{leaf_at, IsRootOf, GrowsBy};
+ghost use Rattle.update_session.specs.Build.{AreSteady, IsNumbered};
+ghost use Rattle.update_session.specs.Kept.{AnswersAll, GrowsBy as PlacesGrowBy, HasBase};
+ghost use Rattle.update_session.specs.Touch.{bound, few_places, touch};
 
+use crate::alias::with_aliases;
+use crate::choosing::{Choice, choose};
 use crate::fault::EmitFault;
+use fan_work::Forks;
 use geo_addr::{Memory, Range};
-use geo_outside::Steps;
+use geo_outside::{Gate, Steps};
 use geo_terms::{Place, Places, PlacesFault};
 use precedence::Sources;
 use std::alloc::Global;
+use std::marker::Sync;
 use std::sync::ledger::Ledger;
+use std::thread::Threads;
 use trie_core::{Part, Root, Store, StoreFault};
 
-/// A tree that was built: its nodes, the places that its leaves number, and its root.
-#[derive(Drop)]
-pub struct Built {
-    pub store: Store,
-    pub places: Places,
-    pub root: Root,
-}
-
-/// The tree of the record of the sources in force, in a store of nothing else.
-pub fn build_tree<L: Ledger>(
-    alloc: Global,
-    sources: &Sources,
-    steps: &mut Steps<L>,
-) -> Result<Built, EmitFault>
-    requires { StatsAlone sources.now }
-    ensures of { IfOk result (λ built. IsRootOf built.store built.root) }
-    ensures answers { IfOk result (λ built. AnswersAll built.store built.places built.root sources.now) }
-    ensures under { IfOk result (λ built. AddedUnder [] built.store (record_of built.root)) }
-    ensures ticks { steps.old ≤ steps.new }
-    ensures few_ticks { steps.new ≤ steps.old + 256 * touch (statement_ranges sources.now) (statement_ranges sources.now) }
-    ensures full { result ≡ Err EmitFault.TooLarge
-        → 2 ^ 32 - 1 ≤ 256 * touch (statement_ranges sources.now) (statement_ranges sources.now) }
-{
-    let touched = sources.ranges()?;
-    let mut store = Store::new(alloc);
-    let mut places = Places::new(alloc);
-    let empty = store.empty();
-    let root = repaint(
-        alloc,
-        sources,
-        touched.as_slice(),
-        &mut store,
-        &mut places,
-        empty,
-        steps,
-    )?;
-    Ok(Built {
-        store,
-        places,
-        root,
-    })
-}
-
-/// A root that at each address has the number of the address's record, where the given one has it
-/// outside the touched grounds.
+/// The root that at each address has the number of the address's record, where the given one has those of
+/// sources that said the same off the touched grounds.
 ///
-/// A refusal may leave nodes and places that were made on the way.
-pub fn repaint<L: Ledger>(
-    alloc: Global,
+/// Where nothing is touched it is the given root. A refusal may leave nodes and places that were made on
+/// the way.
+#[tactic(auto, unfolding(crate::specs::Touch::bound, crate::specs::Touch::few_places))]
+pub(crate) fn repaint<R: Threads + Sync, G: Gate, L: Ledger>(
+    forks: &Forks<R, G>,
     sources: &Sources,
     touched: &[Range],
     store: &mut Store,
@@ -76,23 +40,27 @@ pub fn repaint<L: Ledger>(
     steps: &mut Steps<L>,
 ) -> Result<Root, EmitFault>
     requires root { IsRootOf store.old root }
-    requires elsewhere { (a : ℕ) → a < 2 ^ 128 → is_touched touched.now a ≡ false → Answers store.old places.old root sources.now a }
+    requires base { HasBase store.old places.old root touched.now sources.now }
     ensures of { IfOk result (λ r. IsRootOf store.new r) }
     ensures answers { IfOk result (λ r. AnswersAll store.new places.new r sources.now) }
     ensures ticks { steps.old ≤ steps.new }
-    ensures few_ticks { steps.new ≤ steps.old + 256 * touch touched.now (statement_ranges sources.now) }
+    ensures few_ticks { steps.new ≤ steps.old + bound touched.now sources.now }
     ensures grows { GrowsBy store.old store.new (steps.new - steps.old) }
-    ensures under { IfOk result (λ r. AddedUnder store.old store.new (record_of r)) }
-    ensures places { PlacesGrowBy places.old places.new (touch touched.now (statement_ranges sources.now)) }
+    ensures places { PlacesGrowBy places.old places.new (few_places touched.now sources.now) }
     ensures full { result ≡ Err EmitFault.TooLarge → (length store.new + 1 ≡ 2 ^ 32) ⊎ (length places.new + 1 ≡ 2 ^ 32) }
+    ensures idle { touched.now ≡ [] → (result ≡ Ok root) × (store.new ≡ store.old) × (places.new ≡ places.old) × (steps.new ≡ steps.old) }
 {
+    if touched.is_empty() {
+        return Ok(root);
+    }
     let segments = cut(sources, touched)?;
-    let parts = parts_of(alloc, sources, segments.as_slice(), places)?;
-    let root = paint(store, root, parts.as_slice(), steps)?;
-    Ok(root)
+    let choices = choose(forks, sources, segments.as_slice())?;
+    let parts = parts_of(forks.alloc, choices.as_slice(), places)?;
+    let painted = paint(store, root, parts.as_slice(), steps)?;
+    with_aliases(store, painted, steps)
 }
 
-// The touched grounds, cut where the record may change.
+// The touched grounds, cut where something else may be said.
 fn cut(sources: &Sources, touched: &[Range]) -> Result<Vec<Range>, Memory>
     ensures { IfOk result (λ segments. AreSteady sources.now touched.now segments.items) }
 {
@@ -100,39 +68,32 @@ fn cut(sources: &Sources, touched: &[Range]) -> Result<Vec<Range>, Memory>
     Ok(segments)
 }
 
-// Each segment with the number of its record.
-fn parts_of(
-    alloc: Global,
-    sources: &Sources,
-    segments: &[Range],
-    places: &mut Places,
-) -> Result<Vec<Part>, EmitFault>
-    ensures ranges { IfOk result (λ parts. map (λ p. p.range) parts.items ≡ segments.now) }
-    ensures leaves { IfOk result (λ parts. All (HasRecord sources.now places.new) parts.items) }
-    ensures places { PlacesGrowBy places.old places.new (length segments.now) }
+// Each choice with the number of its place.
+fn parts_of(alloc: Global, choices: &[Choice], places: &mut Places) -> Result<Vec<Part>, EmitFault>
+    ensures numbered { IfOk result (λ parts. AllZip (IsNumbered places.new) choices.entry.now parts.items) }
+    ensures places { PlacesGrowBy places.old places.new (length choices.entry.now) }
     ensures full { result ≡ Err EmitFault.TooLarge → length places.new + 1 ≡ 2 ^ 32 }
 {
-    let mut parts = Vec::with_capacity(alloc, segments.len())?;
-    for segment in segments {
-        let part = part_of(sources, *segment, places)?;
+    let mut parts = Vec::with_capacity(alloc, choices.len())?;
+    for choice in choices {
+        let part = part_of(choice, places)?;
         parts.push(part)?;
     }
     Ok(parts)
 }
 
-// A segment with the number of its record.
-fn part_of(sources: &Sources, segment: Range, places: &mut Places) -> Result<Part, EmitFault>
-    ensures range { IfOk result (λ part. part.range ≡ segment) }
-    ensures record { IfOk result (λ part. HasRecord sources.now places.new part) }
+// A choice with the number of its place.
+fn part_of(choice: &Choice, places: &mut Places) -> Result<Part, EmitFault>
+    ensures numbered { IfOk result (IsNumbered places.new choice.entry.now) }
     ensures places { PlacesGrowBy places.old places.new 1 }
     ensures full { result ≡ Err EmitFault.TooLarge → length places.new + 1 ≡ 2 ^ 32 }
 {
-    let leaf = match sources.choice(segment) {
+    let leaf = match choice.place {
         Some(place) => number_of(places, place)?,
         None => 0,
     };
     Ok(Part {
-        range: segment,
+        range: choice.range,
         leaf,
     })
 }
@@ -165,7 +126,6 @@ fn paint<L: Ledger>(
     ensures ticks { steps.old ≤ steps.new }
     ensures few_ticks { steps.new ≤ steps.old + 256 * length parts.now }
     ensures grows { GrowsBy store.old store.new (steps.new - steps.old) }
-    ensures under { IfOk result (λ r. AddedUnder store.old store.new (record_of r)) }
     ensures full { result ≡ Err EmitFault.TooLarge → length store.new + 1 ≡ 2 ^ 32 }
 {
     match store.paint_all(root, parts, steps) {

@@ -1,14 +1,19 @@
-//! A session: sources in force, and the file that is emitted for them.
+//! A session: sources in force, and the file that is emitted for them, by what changed since the last one.
 #![tactic(auto)]
 
+mod alias;
 mod build;
+mod choosing;
+mod compacting;
 mod fault;
 pub mod laws;
+mod marking;
+mod marks;
+mod replaced;
 mod session;
+mod setting;
 mod write;
 
-pub use fault::EmitFault;
+pub use fault::{BackFault, EmitFault};
+pub use precedence::DropFault;
 pub use session::Session;
-
-#[cfg(test)]
-mod tests;

@@ -6,15 +6,17 @@ ghost use Rattle.geo_terms.specs.Precedence.{record_at};
 ghost use Rattle.geo_terms.specs.Sources.{InForce};
 ghost use Rattle.least_nodes.specs.NodeList.{Member};
 ghost use Rattle.least_nodes.specs.Laws.{Finds};
+ghost use Rattle.mmdb_file.specs.FileImage.{record_tree};
 ghost use Rattle.mmdb_file.specs.PlaceValue.{place_value};
 ghost use Rattle.mmdb_file.specs.Walk.{walk};
+ghost use Rattle.mmdb_file.specs.Writing.{place_tree};
 ghost use Rattle.trie_core.specs.Store.{leaf_at, IsRootOf};
-ghost use Rattle.update_session.specs.Build.{AnswersAll};
+ghost use Rattle.update_session.specs.Kept.{AnswersAll};
 ghost use Rattle.update_session.specs.State.{file_of, value_of, is_too_large};
 
 use crate::fault::EmitFault;
 use geo_terms::Places;
-use mmdb_file::{Emitted, FileFault, Meta, write_file};
+use mmdb_file::{Emitted, Meta, numbers_to_places, write_file};
 use std::alloc::Global;
 use trie_core::{Root, Store};
 
@@ -39,9 +41,15 @@ pub fn write(
     ensures too_large { result ≡ Err EmitFault.TooLarge → (s : InForce) → AnswersAll store.now places.now root s
         → IsTrue (is_too_large (record { sources = s; epoch = meta.now.epoch; name = meta.now.name })) }
 {
-    match write_file(alloc, store, root, places, meta) {
-        Ok(file) => Ok(file),
-        Err(FileFault::TooLarge) => Err(EmitFault::TooLarge),
-        Err(FileFault::Memory) => Err(EmitFault::Memory),
-    }
+    let file = write_file(alloc, store, root, places, meta)?;
+    Ok(file)
+}
+
+/// The law that a root that answers a record means the record's tree. Calling it does nothing.
+pub(crate) fn means_records(store: &Store, root: Root, places: &Places)
+    requires root { IsRootOf store.now root }
+    requires numbers { (address k : ℕ) → address < 2 ^ 128 → leaf_at store.now root address ≡ Some k → k ≤ length places.now }
+    ensures { (s : InForce) → AnswersAll store.now places.now root s → place_tree places.now store.now root ≡ record_tree s }
+{
+    numbers_to_places(store, root, places);
 }

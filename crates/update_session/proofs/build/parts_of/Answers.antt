@@ -1,19 +1,13 @@
-use Rattle.std.proofs.Common.{List, sym, subst, arith}
-use Rattle.std.specs.List.{All}
-use Rattle.std.proofs.lemmas.Grind.{common_steps}
-use Rattle.std.proofs.lemmas.List.Elements.{All-push}
-use Rattle.trie_core.specs.declared.paint.Part.{Part}
-use Rattle.update_session.specs.Build.{HasRecord}
-use Rattle.update_session.proofs.BuildLemmas.{GrowsBy-trans, All-HasRecord-grown}
+use Rattle.std.proofs.Common.{arith, rules}
+use Rattle.update_session.proofs.BuildLemmas.{GrowsBy-trans, AllZip-IsNumbered-grown, one_more_numbered}
 use Rattle.update_session.proofs.build.parts_of.Goals as goal
 
-pub loop-segment-preserved : goal.loop-segment-preserved
-loop-segment-preserved c =
-    let kept : All (HasRecord c.args.sources.now c.part_of.new.places) c.loop-segment.parts.items =
-    All-HasRecord-grown c.args.sources.now c.loop-segment.places c.part_of.new.places 1 c.loop-segment.parts.items c.in_ok-part.ensures.places c.loop-segment.invariant.leaves in
+pub loop-choice-preserved : goal.loop-choice-preserved
+loop-choice-preserved c =
     record {
-      ranges = grind (arith, common_steps);
-      leaves = subst (λ (ps : List Part). All (HasRecord c.args.sources.now c.part_of.new.places) ps) (sym c.in_ok-push.ensures.items)
-          (All-push (HasRecord c.args.sources.now c.part_of.new.places) c.loop-segment.parts.items c.in_ok-part.part kept c.in_ok-part.ensures.record);
-      grown = GrowsBy-trans _ _ _ _ _ _ c.loop-segment.invariant.grown c.in_ok-part.ensures.places (omega arith);
+      numbered = one_more_numbered c.part_of.new.places c.args.choices.now c.loop-choice.parts.items c.push.new.self.items c.loop-choice.choice-index _ c.in_ok-part.part
+          (search rules) (search rules)
+          (AllZip-IsNumbered-grown c.loop-choice.places c.part_of.new.places 1 _ c.loop-choice.parts.items c.in_ok-part.ensures.places c.loop-choice.invariant.numbered)
+          c.in_ok-part.ensures.numbered (search rules);
+      grown = GrowsBy-trans _ _ _ _ _ _ c.loop-choice.invariant.grown c.in_ok-part.ensures.places (omega arith);
     }

@@ -1,11 +1,11 @@
-use Rattle.std.proofs.Common.{◌≡◌, map, take}
-use Rattle.std.specs.List.{All}
-use Rattle.update_session.specs.Build.{GrowsBy, HasRecord}
+use Rattle.std.proofs.Common.{take}
+use Rattle.std.specs.List.{AllZip}
+use Rattle.update_session.specs.Build.{IsNumbered}
+use Rattle.update_session.specs.Kept.{GrowsBy}
 use Rattle.update_session.proofs.build.parts_of.Given as goal
 
-abbrev pub invariant-loop-segment : goal.invariant-loop-segment
-invariant-loop-segment l = record {
-  ranges : map (λ p. p.range) l.parts.items ≡ take l.segment-index l.segments;
-  leaves : All (HasRecord l.sources l.places) l.parts.items;
-  grown : GrowsBy l.fn.places l.places l.segment-index;
+abbrev pub invariant-loop-choice : goal.invariant-loop-choice
+invariant-loop-choice l = record {
+  numbered : AllZip (IsNumbered l.places) (take l.choice-index l.choices) l.parts.items;
+  grown : GrowsBy l.fn.places l.places l.choice-index;
 }

@@ -1,30 +1,37 @@
-use Rattle.std.proofs.Common.{◌≤◌, List, length, Option, subst}
-use Rattle.std.specs.Prelude.{Result, Ok, Err, IfOk}
+use Rattle.std.proofs.Common.{◌≡◌, ◌<◌, ◌≤◌, ◌^◌, ℕ, List, length, Option, subst}
+use Rattle.std.specs.Prelude.{Ok, option_map}
+use Rattle.geo_addr.specs.Bits.{bits_of}
 use Rattle.geo_terms.specs.PlaceForm.{PlaceParts}
 use Rattle.geo_terms.specs.Precedence.{record_at}
-use Rattle.geo_terms.specs.Sources.{InForce}
 use Rattle.least_nodes.specs.Laws.{Finds}
 use Rattle.least_nodes.specs.NodeList.{Member}
-use Rattle.mmdb_file.specs.declared.writing.Emitted.{Emitted}
-use Rattle.update_session.specs.Build.{AnswersAll}
-use Rattle.update_session.specs.State.{State}
-use Rattle.update_session.specs.declared.fault.EmitFault.{EmitFault}
+use Rattle.mmdb_file.specs.PlaceValue.{place_value}
+use Rattle.mmdb_file.specs.Walk.{walk}
+use Rattle.update_session.specs.Kept.{Held}
+use Rattle.update_session.proofs.KeptLemmas.{IsSession-emitted, IsSession-grown}
 use Rattle.update_session.proofs.WriteLemmas.{leaf_is}
 use Rattle.update_session.proofs.session.Session.emit.Goals as goal
 
 pub write-requires-clause-numbers : goal.write-requires-clause-numbers
 write-requires-clause-numbers g c = λ address k below is.
-    (leaf_is _ _ _ c.self.inside.sources address k (c.in_ok-built.ensures.answers address below) is).0
+    (leaf_is _ _ _ c.self.inside.sources address k (c.in_ok-root.ensures.answers address below) is).0
 
--- no list of nodes that answers the record is shorter than the file's
-abbrev IsFewest : InForce → Emitted → Type 0
-IsFewest s file = (nodes : List (Member (Option PlaceParts) × Member (Option PlaceParts))) → Finds 128 nodes (record_at s) → file.nodes ≤ length nodes
+pub invariant_of-self : goal.invariant_of-self
+invariant_of-self g c = (c.self.invariant.0, IsSession-grown _ _ _ _ _ _ _ _ _ _ c.repaint.ensures.grows c.repaint.ensures.places c.self.invariant.1)
 
-fewest_of : (r : Result Emitted EmitFault) (s : InForce) (P : InForce → Type 0) → P s → IfOk r (λ file. (s : InForce) → P s → IsFewest s file) → IfOk r (IsFewest s)
-fewest_of (Ok file) s P answers h = h s answers
-fewest_of (Err fault) s P answers h = tt
+pub invariant_of-self-in_err-file : goal.invariant_of-self-in_err-file
+invariant_of-self-in_err-file g c = (c.self.invariant.0, IsSession-grown _ _ _ _ _ _ _ _ _ _ c.repaint.ensures.grows c.repaint.ensures.places c.self.invariant.1)
+
+pub returns-clause-walked : goal.returns-clause-walked
+returns-clause-walked g c =
+    subst (λ (held : Held). (a : ℕ) → a < 2 ^ 128 → walk c.in_ok-file.file.bytes.items (bits_of 128 a) ≡ Ok (option_map place_value (record_at held.state.sources a))) c.self.view_is
+    (c.in_ok-file.ensures.walked c.self.inside.sources c.in_ok-root.ensures.answers)
 
 pub returns-clause-fewest : goal.returns-clause-fewest
 returns-clause-fewest g c =
-    subst (λ (state : State). IfOk c.write.result (IsFewest state.sources)) c.self.view_is
-    (fewest_of c.write.result c.self.inside.sources (AnswersAll c.in_ok-built.built.store c.in_ok-built.built.places c.in_ok-built.built.root) c.in_ok-built.ensures.answers c.write.ensures.fewest)
+    subst (λ (held : Held). (nodes : List (Member (Option PlaceParts) × Member (Option PlaceParts))) → Finds 128 nodes (record_at held.state.sources) → c.in_ok-file.file.nodes ≤ length nodes) c.self.view_is
+    (c.in_ok-file.ensures.fewest c.self.inside.sources c.in_ok-root.ensures.answers)
+
+pub invariant_of-self-2 : goal.invariant_of-self-2
+invariant_of-self-2 g c =
+    (c.self.invariant.0, IsSession-emitted _ _ _ _ _ _ _ _ _ _ _ _ c.repaint.ensures.grows c.repaint.ensures.places c.self.invariant.1 c.in_ok-root.ensures.of c.in_ok-root.ensures.answers c.clear.ensures.items)

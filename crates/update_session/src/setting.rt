@@ -1,0 +1,166 @@
+//! The calls that set and drop sources.
+//!
+//! Each takes its memory before it changes anything: a drop looks whether the source is there, and each finds the statements that come and go, makes room for
+//! their grounds, and only then changes the sources.
+
+use crate::replaced::{
+    add, delegations_of, entries_of, has_dump, has_file, make_room, references_of, rows_of,
+};
+use crate::session::Session;
+use geo_addr::Memory;
+use geo_terms::{Dump, Feed, Overrides, Stats};
+use precedence::DropFault;
+use source_changes::laws::{kept_by_one_more, sources_stay};
+use source_changes::{changed_grounds, keep_all};
+
+impl Session {
+    ghost use Rattle.std.specs.Prelude.{◌≡◌, ◌↔◌, IsSome, None, OnOk, OnErr, Err};
+    ghost use Rattle.authority.specs.declared.fault.DropFault.{DropFault};
+    ghost use Rattle.source_changes.specs.Changes.{SetDump, SetFeed, SetOverrides, SetStats, DropDump, DropFeed, DropOverrides, DropStats, named};
+    ghost use Rattle.update_session.specs.Calls.{HasChanged};
+
+    /// Puts a registry dump in the place of the one with the same slot, which is dropped.
+    pub fn set_rpsl(&mut self, dump: Dump) -> Result<(), Memory>
+        ensures ok { OnOk result (HasChanged (SetDump dump) self.old self.new) }
+        ensures err { OnErr result (self.new ≡ self.old) }
+    {
+        kept_by_one_more();
+        sources_stay();
+        let new = dump.refs.as_slice();
+        let old = references_of(self.sources.dumps(), dump.slot.as_str());
+        let grounds = changed_grounds(self.alloc, old, new)?;
+        make_room(&mut self.touched, &grounds)?;
+        self.sources.set_rpsl(dump)?;
+        add(&mut self.touched, grounds);
+        Ok(())
+    }
+
+    /// Takes the dump of a slot out of force.
+    pub fn drop_rpsl(&mut self, slot: &str) -> Result<(), DropFault>
+        ensures ok { OnOk result (HasChanged (DropDump slot.now) self.old self.new) }
+        ensures there { OnOk result (IsSome (named (λ x. x.slot) slot.now self.old.state.sources.dumps)) }
+        ensures absent { result ≡ Err DropFault.NotThere ↔ (named (λ x. x.slot) slot.now self.old.state.sources.dumps ≡ None) }
+        ensures err { OnErr result (self.new ≡ self.old) }
+    {
+        kept_by_one_more();
+        sources_stay();
+        if !has_dump(self.sources.dumps(), slot) {
+            return Err(DropFault::NotThere);
+        }
+        let old = references_of(self.sources.dumps(), slot);
+        let grounds = changed_grounds(self.alloc, old, &[])?;
+        make_room(&mut self.touched, &grounds)?;
+        self.sources.drop_rpsl(slot)?;
+        add(&mut self.touched, grounds);
+        Ok(())
+    }
+
+    /// Puts a feed in the place of the one with the same URL, which is dropped.
+    pub fn set_feed(&mut self, feed: Feed) -> Result<(), Memory>
+        ensures ok { OnOk result (HasChanged (SetFeed feed) self.old self.new) }
+        ensures err { OnErr result (self.new ≡ self.old) }
+    {
+        kept_by_one_more();
+        sources_stay();
+        let new = feed.entries.as_slice();
+        keep_all(new);
+        let old = entries_of(self.sources.feed_of(feed.url.as_str()));
+        let grounds = changed_grounds(self.alloc, old, new)?;
+        make_room(&mut self.touched, &grounds)?;
+        self.sources.set_feed(feed)?;
+        add(&mut self.touched, grounds);
+        Ok(())
+    }
+
+    /// Takes the feed of a URL out of force.
+    pub fn drop_feed(&mut self, url: &str) -> Result<(), DropFault>
+        ensures ok { OnOk result (HasChanged (DropFeed url.now) self.old self.new) }
+        ensures there { OnOk result (IsSome (named (λ x. x.url) url.now self.old.state.sources.feeds)) }
+        ensures absent { result ≡ Err DropFault.NotThere ↔ (named (λ x. x.url) url.now self.old.state.sources.feeds ≡ None) }
+        ensures err { OnErr result (self.new ≡ self.old) }
+    {
+        kept_by_one_more();
+        sources_stay();
+        let Some(feed) = self.sources.feed_of(url) else {
+            return Err(DropFault::NotThere);
+        };
+        let old = entries_of(Some(feed));
+        let grounds = changed_grounds(self.alloc, old, &[])?;
+        make_room(&mut self.touched, &grounds)?;
+        self.sources.drop_feed(url)?;
+        add(&mut self.touched, grounds);
+        Ok(())
+    }
+
+    /// Puts a statistics file in the place of the one with the same slot, which is dropped.
+    pub fn set_stats(&mut self, stats: Stats) -> Result<(), Memory>
+        ensures ok { OnOk result (HasChanged (SetStats stats) self.old self.new) }
+        ensures err { OnErr result (self.new ≡ self.old) }
+    {
+        kept_by_one_more();
+        sources_stay();
+        let new = stats.rows.as_slice();
+        keep_all(new);
+        let old = delegations_of(self.sources.stats(), stats.slot.as_str());
+        let grounds = changed_grounds(self.alloc, old, new)?;
+        make_room(&mut self.touched, &grounds)?;
+        self.sources.set_stats(stats)?;
+        add(&mut self.touched, grounds);
+        Ok(())
+    }
+
+    /// Takes the statistics file of a slot out of force.
+    pub fn drop_stats(&mut self, slot: &str) -> Result<(), DropFault>
+        ensures ok { OnOk result (HasChanged (DropStats slot.now) self.old self.new) }
+        ensures there { OnOk result (IsSome (named (λ x. x.slot) slot.now self.old.state.sources.stats)) }
+        ensures absent { result ≡ Err DropFault.NotThere ↔ (named (λ x. x.slot) slot.now self.old.state.sources.stats ≡ None) }
+        ensures err { OnErr result (self.new ≡ self.old) }
+    {
+        kept_by_one_more();
+        sources_stay();
+        if !has_file(self.sources.stats(), slot) {
+            return Err(DropFault::NotThere);
+        }
+        let old = delegations_of(self.sources.stats(), slot);
+        let grounds = changed_grounds(self.alloc, old, &[])?;
+        make_room(&mut self.touched, &grounds)?;
+        self.sources.drop_stats(slot)?;
+        add(&mut self.touched, grounds);
+        Ok(())
+    }
+
+    /// Puts overrides in the place of those in force, which are dropped.
+    pub fn set_overrides(&mut self, rows: Overrides) -> Result<(), Memory>
+        ensures ok { OnOk result (HasChanged (SetOverrides rows) self.old self.new) }
+        ensures err { OnErr result (self.new ≡ self.old) }
+    {
+        kept_by_one_more();
+        sources_stay();
+        let old = rows_of(self.sources.overrides());
+        let grounds = changed_grounds(self.alloc, old, rows.rows.as_slice())?;
+        make_room(&mut self.touched, &grounds)?;
+        self.sources.set_overrides(rows)?;
+        add(&mut self.touched, grounds);
+        Ok(())
+    }
+
+    /// Takes the overrides out of force.
+    pub fn drop_overrides(&mut self) -> Result<(), DropFault>
+        ensures ok { OnOk result (HasChanged DropOverrides self.old self.new) }
+        ensures there { OnOk result (IsSome self.old.state.sources.overrides) }
+        ensures absent { result ≡ Err DropFault.NotThere ↔ (self.old.state.sources.overrides ≡ None) }
+        ensures err { OnErr result (self.new ≡ self.old) }
+    {
+        kept_by_one_more();
+        sources_stay();
+        let Some(rows) = self.sources.overrides() else {
+            return Err(DropFault::NotThere);
+        };
+        let old = rows_of(Some(rows));
+        let grounds = changed_grounds(self.alloc, old, &[])?;
+        make_room(&mut self.touched, &grounds)?;
+        self.sources.drop_overrides()?;
+        add(&mut self.touched, grounds);
+        Ok(())
+    }
+}
