@@ -1,0 +1,9 @@
+pub mod Acts
+pub mod Drafts
+pub mod Forms
+pub mod Job
+pub mod Laws
+pub mod Names
+pub mod Places
+pub mod Said
+pub mod Words

@@ -1,0 +1,24 @@
+//! What a job says: the settings and the steps of its lines, read whole.
+#![tactic(auto)]
+
+mod act;
+mod acts;
+mod draft;
+mod drops;
+mod fault;
+mod form;
+mod job;
+mod kept;
+pub mod laws;
+mod names;
+mod operands;
+mod words;
+
+pub use act::{Act, Gone};
+pub use fault::JobFault;
+pub use job::{Job, Step, read_job};
+pub use names::{is_name, is_slot};
+pub use operands::feed_key;
+
+#[cfg(test)]
+mod tests;
