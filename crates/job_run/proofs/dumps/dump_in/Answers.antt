@@ -1,0 +1,16 @@
+use Rattle.std.proofs.Common.{◌≡◌, List, [], Some, arith, length, subst, sym}
+use Rattle.std.proofs.lemmas.Bool.Decides.{nat_tests}
+use Rattle.std.proofs.lemmas.List.{nil_from_length}
+use Rattle.std.specs.Prelude.{IfErr}
+use Rattle.job_run.specs.Dumps.{no_dump}
+use Rattle.job_run.specs.Stops.{IsHindered}
+use Rattle.job_run.specs.World.{held_in}
+use Rattle.job_run.specs.declared.apart.Apart.{Apart}
+use Rattle.job_run.proofs.dumps.dump_in.Goals as goal
+
+pub returns-then-is_empty-clause-unread : goal.returns-then-is_empty-clause-unread
+returns-then-is_empty-clause-unread g c w told =
+    let zero_is : length c.args.apart.now ≡ 0 = grind (arith, nat_tests) in
+    let none : [] ≡ c.args.apart.now = sym (nil_from_length c.args.apart.now zero_is) in
+    subst (λ (files : List Apart). IfErr c.read_dump.result (λ why. IsHindered why (λ cause. no_dump c.args.slot.now (held_in files w c.args.name.now) ≡ Some cause))) none
+    (c.read_dump.ensures.unread w told)

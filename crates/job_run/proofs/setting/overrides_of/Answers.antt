@@ -1,0 +1,21 @@
+use Rattle.std.proofs.Common.{◌<◌, length}
+use Rattle.override_rows.specs.File.{longest, most}
+use Rattle.job_run.specs.Sources.{settings_of}
+use Rattle.job_run.proofs.ActLemmas.{too_long, too_many, usable}
+use Rattle.job_run.proofs.setting.overrides_of.Goals as goal
+
+pub returns-in-Ok-clause-few : goal.returns-in-Ok-clause-few
+returns-in-Ok-clause-few c =
+    usable longest most settings_of c.args.bytes.now
+    (λ (over : longest < length c.args.bytes.now). let e = c.in-Ok.ensures.too_long.1 over in cc)
+    c.in-Ok.ensures.within
+
+pub returns-in-Err-TooLong-clause-unset : goal.returns-in-Err-TooLong-clause-unset
+returns-in-Err-TooLong-clause-unset c =
+    too_long longest most settings_of c.args.bytes.now (c.in-Err-TooLong.ensures.too_long.0 (cc))
+
+pub returns-in-Err-TooMany-clause-unset : goal.returns-in-Err-TooMany-clause-unset
+returns-in-Err-TooMany-clause-unset c =
+    too_many longest most settings_of c.args.bytes.now
+    (λ (over : longest < length c.args.bytes.now). let e = c.in-Err-TooMany.ensures.too_long.1 over in cc)
+    (c.in-Err-TooMany.ensures.too_many (cc))

@@ -1,0 +1,11 @@
+pub mod Acts
+pub mod Course
+pub mod Dumps
+pub mod Feeds
+pub mod Moves
+pub mod Parts
+pub mod Published
+pub mod Seen
+pub mod Sources
+pub mod Stops
+pub mod World

@@ -1,0 +1,266 @@
+//! Lines that set feeds together: their files are read in order, then parsed side by side, then
+//! set in order.
+ghost use Rattle.std.specs.Prelude.{◌≡◌, ◌≢◌, ◌≤◌, ◌<◌, ◌+◌, ◌⊎◌, [], true, length, map, IfErr, IfOk, None, Ok, OnOk, Some};
+ghost use Rattle.std.specs.List.{AllZip, list_all};
+ghost use Rattle.feed_csv.specs.File.{feed, longest};
+ghost use Rattle.geo_outside.specs.Count.{Rose};
+ghost use Rattle.geo_outside.specs.Files.{Told};
+ghost use Rattle.update_session.specs.Standing.{Standing, Stands};
+ghost use Rattle.job_run.specs.Feeds.{HaltsReading, IsFirstRefused, IsRead, Parses, RefusesParsing, no_read, with_feeds};
+ghost use Rattle.job_run.specs.Moves.{LacksAt, read_rooms, sets_feed, together};
+ghost use Rattle.job_run.specs.Parts.{DoesPart, FailsAt};
+ghost use Rattle.job_run.specs.Seen.{Seen};
+ghost use Rattle.job_run.specs.Sources.{LacksApart, no_feed, read_room};
+ghost use Rattle.job_run.specs.Stops.{IsHindered, IsIn};
+ghost use Rattle.job_run.specs.World.{World};
+
+use crate::apart::Apart;
+use crate::course::StepStop;
+use crate::reading::read_source;
+use crate::stop::{Cause, Stop};
+use fan_work::{Forks, Work, map_pieces};
+use feed_csv::read_feed;
+use geo_addr::Memory;
+use geo_outside::{Folder, Gate};
+use geo_terms::{Feed, SourceFault};
+use job_lines::{Act, Step};
+use std::alloc::Global;
+use std::marker::Sync;
+use std::thread::Threads;
+use update_session::Session;
+use update_session::laws::standing_stays;
+
+/// The most bytes of a feed.
+const LONGEST_FEED: u64 = 67_108_864;
+
+/// What the file of a line holds, and the URL that it is set under.
+#[derive(Debug, Drop)]
+pub(crate) struct Held<'a> {
+    pub(crate) url: &'a str,
+    pub(crate) bytes: Vec<u8>,
+}
+
+/// Work that reads the lines of a feed.
+#[derive(Clone, Copy, Debug)]
+struct Parsing;
+
+impl<'a> Work<Held<'a>, Result<Feed, Stop>> for Parsing {
+    ghost use Rattle.job_run.specs.Feeds.{Parses};
+
+    ghost related = { λ work held parsed. Parses held parsed };
+
+    fn done(&self, alloc: Global, item: &Held<'a>) -> Result<Result<Feed, Stop>, Memory> {
+        Ok(feed_of(alloc, item.url, item.bytes.as_slice()))
+    }
+}
+
+/// Does lines that set feeds, at least one, together.
+pub(crate) fn set_together<R: Threads + Sync, F: Folder, G: Gate>(
+    forks: &Forks<R, G>,
+    apart: &[Apart],
+    group: &[Step],
+    session: &mut Session,
+    folder: &mut F,
+) -> Result<(), StepStop>
+    requires some { 0 < length group.now }
+    requires feeds { list_all (λ s. sets_feed s.act) group.now ≡ true }
+    ensures done { (now : Seen) (world : World) → now.told ≡ F.told folder.old
+        → IsIn apart.now now.told session.old world
+        → OnOk result (DoesPart (together group.now) world session.new now now) }
+    ensures stopped { (now : Seen) (world : World) → now.told ≡ F.told folder.old
+        → IsIn apart.now now.told session.old world
+        → IfErr result
+        (λ stop. FailsAt stop.why (together group.now) group.now stop.at world now now) }
+    ensures at { IfErr result (λ stop. stop.at < length group.now) }
+    ensures reads { IfErr result (λ stop. (stop.why ≢ Stop.PutFailed) × (stop.why ≢ Stop.SinkFailed)
+        × (stop.why ≢ Stop.Blocked Cause.Words)) }
+
+    ensures read_failed { IfErr result (λ stop. stop.why ≡ Stop.ReadFailed
+        → Rose (F.read_faults folder.old) (F.read_faults folder.new)) }
+    ensures missing { apart.now ≡ [] → IfErr result (λ stop. stop.why ≡ Stop.Blocked Cause.Missing
+        → Rose (F.misses folder.old) (F.misses folder.new)) }
+    ensures same { F.told folder.new ≡ F.told folder.old }
+    ensures read_faults { F.read_faults folder.old ≤ F.read_faults folder.new }
+    ensures put_faults { F.put_faults folder.old ≤ F.put_faults folder.new }
+    ensures misses { F.misses folder.old ≤ F.misses folder.new }
+    ensures missing_apart { IfErr result (λ stop. stop.why ≡ Stop.Blocked Cause.Missing
+        → Rose (F.misses folder.old) (F.misses folder.new) ⊎ LacksAt apart.now group.now stop.at) }
+    ensures apart_only { apart.now ≢ [] → IfErr result (λ stop. stop.why ≢ Stop.ReadFailed)
+        × (F.given folder.new ≤ F.given folder.old) }
+    ensures given { F.given folder.new ≤ F.given folder.old + read_rooms group.now }
+{
+    let held = match read_all(forks.alloc, apart, group, folder) {
+        Ok(held) => held,
+        Err(stop) => return Err(stop),
+    };
+    let feeds = match parse_all(forks, held.as_slice()) {
+        Ok(feeds) => feeds,
+        Err(stop) => return Err(stop),
+    };
+    match set_all(feeds, session) {
+        Ok(()) => Ok(()),
+        Err(Memory) => Err(OUT_OF_MEMORY),
+    }
+}
+
+/// Want of memory stops a group as a whole: no line is printed for it.
+const OUT_OF_MEMORY: StepStop = StepStop {
+    at: 0,
+    why: Stop::Memory,
+};
+
+/// Reads the files of lines that set feeds, in order.
+fn read_all<'a, F: Folder>(
+    alloc: Global,
+    apart: &[Apart],
+    group: &'a [Step],
+    folder: &mut F,
+) -> Result<Vec<Held<'a>>, StepStop>
+    requires { list_all (λ s. sets_feed s.act) group.now ≡ true }
+    ensures read { (w : Told) → F.told folder.old ≡ Some w
+        → IfOk result (λ held. AllZip (IsRead apart.now w) group.entry.now held.items) }
+    ensures halted { (w : Told) → F.told folder.old ≡ Some w
+        → IfErr result (λ stop. HaltsReading apart.now w group.entry.now stop.why stop.at) }
+    ensures long { IfOk result (λ held. length held.items ≡ length group.entry.now) }
+    ensures at { IfErr result (λ stop. stop.at < length group.entry.now) }
+    ensures reads { IfErr result (λ stop. (stop.why ≢ Stop.PutFailed) × (stop.why ≢ Stop.SinkFailed)
+        × (stop.why ≢ Stop.Blocked Cause.Words)) }
+
+    ensures read_failed { IfErr result (λ stop. stop.why ≡ Stop.ReadFailed
+        → Rose (F.read_faults folder.old) (F.read_faults folder.new)) }
+    ensures missing { apart.now ≡ [] → IfErr result (λ stop. stop.why ≡ Stop.Blocked Cause.Missing
+        → Rose (F.misses folder.old) (F.misses folder.new)) }
+    ensures same { F.told folder.new ≡ F.told folder.old }
+    ensures read_faults { F.read_faults folder.old ≤ F.read_faults folder.new }
+    ensures put_faults { F.put_faults folder.old ≤ F.put_faults folder.new }
+    ensures misses { F.misses folder.old ≤ F.misses folder.new }
+    ensures missing_apart { IfErr result (λ stop. stop.why ≡ Stop.Blocked Cause.Missing
+        → Rose (F.misses folder.old) (F.misses folder.new)
+        ⊎ LacksAt apart.now group.entry.now stop.at) }
+    ensures apart_only { apart.now ≢ [] → IfErr result (λ stop. stop.why ≢ Stop.ReadFailed)
+        × (F.given folder.new ≤ F.given folder.old) }
+    ensures given { F.given folder.new ≤ F.given folder.old + read_rooms group.entry.now }
+{
+    let mut all = Vec::new(alloc);
+    for (at, step) in group.iter().enumerate() {
+        match read_line(alloc, apart, step, folder) {
+            Ok(held) => match all.push(held) {
+                Ok(()) => {}
+                Err(_) => return Err(StepStop {
+                    at,
+                    why: Stop::Memory,
+                }),
+            },
+            Err(why) => return Err(StepStop { at, why }),
+        }
+    }
+    Ok(all)
+}
+
+/// Reads the file of a line that sets a feed.
+fn read_line<'a, F: Folder>(
+    alloc: Global,
+    apart: &[Apart],
+    step: &'a Step,
+    folder: &mut F,
+) -> Result<Held<'a>, Stop>
+    requires { sets_feed step.now.act ≡ true }
+    ensures read { (w : Told) → F.told folder.old ≡ Some w
+        → IfOk result (IsRead apart.now w step.entry.now) }
+    ensures unread { (w : Told) → F.told folder.old ≡ Some w → IfErr result (λ why. IsHindered why
+        (λ cause. no_read apart.now w step.entry.now ≡ Some cause)) }
+    ensures reads { (result ≢ Err Stop.PutFailed) × (result ≢ Err Stop.SinkFailed)
+        × (result ≢ Err (Stop.Blocked Cause.Words)) }
+
+    ensures read_failed { result ≡ Err Stop.ReadFailed
+        → Rose (F.read_faults folder.old) (F.read_faults folder.new) }
+    ensures missing { apart.now ≡ [] → result ≡ Err (Stop.Blocked Cause.Missing)
+        → Rose (F.misses folder.old) (F.misses folder.new) }
+    ensures same { F.told folder.new ≡ F.told folder.old }
+    ensures read_faults { F.read_faults folder.old ≤ F.read_faults folder.new }
+    ensures put_faults { F.put_faults folder.old ≤ F.put_faults folder.new }
+    ensures misses { F.misses folder.old ≤ F.misses folder.new }
+    ensures missing_apart { result ≡ Err (Stop.Blocked Cause.Missing)
+        → Rose (F.misses folder.old) (F.misses folder.new)
+        ⊎ LacksApart apart.now step.entry.now.act }
+    ensures apart_only { apart.now ≢ [] → (result ≢ Err Stop.ReadFailed)
+        × (F.given folder.new ≤ F.given folder.old) }
+    ensures given { F.given folder.new ≤ F.given folder.old + read_room step.entry.now.act }
+{
+    let Act::Feed { url, file } = &step.act else {
+        unreachable!()
+    };
+    match read_source(alloc, apart, folder, file.as_str(), LONGEST_FEED) {
+        Ok(bytes) => Ok(Held {
+            url: url.as_str(),
+            bytes,
+        }),
+        Err(why) => Err(why),
+    }
+}
+
+/// The feeds of what was read, by pieces side by side, or the first that is none.
+fn parse_all<R: Threads + Sync, G: Gate>(
+    forks: &Forks<R, G>,
+    held: &[Held<'_>],
+) -> Result<Vec<Feed>, StepStop>
+    ensures feeds { IfOk result (λ feeds. AllZip Parses held.now (map Ok feeds.items)) }
+    ensures refused { IfErr result (λ stop. RefusesParsing held.now stop.why stop.at) }
+{
+    match map_pieces(forks, held, &Parsing) {
+        Ok(parsed) => all_feeds(forks.alloc, parsed),
+        Err(Memory) => Err(OUT_OF_MEMORY),
+    }
+}
+
+/// The feeds, where none was refused, or the first that was.
+fn all_feeds(alloc: Global, parsed: Vec<Result<Feed, Stop>>) -> Result<Vec<Feed>, StepStop>
+    ensures feeds { IfOk result (λ feeds. parsed.items ≡ map Ok feeds.items) }
+    ensures refused { IfErr result (λ stop. IsFirstRefused parsed.items stop.why stop.at
+        ⊎ ((stop.why ≡ Stop.Memory) × (stop.at ≡ 0))) }
+{
+    let mut feeds = Vec::new(alloc);
+    for found in parsed {
+        match found {
+            Ok(feed) => match feeds.push(feed) {
+                Ok(()) => {}
+                Err(_) => return Err(OUT_OF_MEMORY),
+            },
+            Err(why) => return Err(StepStop {
+                at: feeds.len(),
+                why,
+            }),
+        }
+    }
+    Ok(feeds)
+}
+
+/// The feed that these bytes are.
+fn feed_of(alloc: Global, url: &str, bytes: &[u8]) -> Result<Feed, Stop>
+    ensures feed { IfOk result (λ found. found ≡ feed url.now bytes.now) }
+    ensures few { OnOk result (no_feed (Some bytes.now) ≡ None) }
+    ensures unset { IfErr result (λ why. IsHindered why
+        (λ cause. no_feed (Some bytes.now) ≡ Some cause)) }
+    ensures read { (result ≢ Err Stop.ReadFailed) × (result ≢ Err (Stop.Blocked Cause.Missing)) }
+    ensures reads { (result ≢ Err Stop.PutFailed) × (result ≢ Err Stop.SinkFailed)
+        × (result ≢ Err (Stop.Blocked Cause.Words)) }
+{
+    match read_feed(alloc, url, bytes) {
+        Ok(found) => Ok(found),
+        Err(SourceFault::TooLong) => Err(Stop::Blocked(Cause::TooLong)),
+        Err(SourceFault::TooMany) => Err(Stop::Blocked(Cause::TooMany)),
+        Err(SourceFault::Memory) => Err(Stop::Memory),
+    }
+}
+
+/// Sets feeds, one after another.
+fn set_all(feeds: Vec<Feed>, session: &mut Session) -> Result<(), Memory>
+    ensures { (w : Standing) → Stands session.old w
+        → OnOk result (Stands session.new (with_feeds feeds.items w)) }
+{
+    standing_stays();
+    for feed in feeds {
+        session.set_feed(feed)?;
+    }
+    Ok(())
+}

@@ -1,0 +1,28 @@
+//! How the steps of a job are done, one after another, over a session, a folder and a sink.
+#![tactic(auto)]
+
+mod acts;
+mod apart;
+mod course;
+mod dropping;
+mod dumps;
+mod emitting;
+mod feeds;
+mod marking;
+mod printing;
+mod reading;
+mod reporting;
+mod scope;
+mod setting;
+mod stop;
+
+pub use acts::name_of;
+pub use apart::Apart;
+pub use course::{StepStop, do_steps};
+pub use printing::print;
+pub use reading::read_file;
+pub use scope::Scope;
+pub use stop::{Cause, Stop};
+
+#[cfg(test)]
+mod tests;

@@ -1,0 +1,184 @@
+//! A source, read and set.
+ghost use Rattle.std.specs.Prelude.{◌≡◌, ◌≢◌, ◌⊎◌, ◌≤◌, ◌+◌, ◌^◌, [], IfErr, IfOk, None, OnErr, OnOk, Some};
+ghost use Rattle.geo_outside.specs.Count.{Rose};
+ghost use Rattle.geo_outside.specs.Files.{Told};
+ghost use Rattle.nro_stats.specs.File.{stats};
+ghost use Rattle.override_rows.specs.File.{overrides};
+ghost use Rattle.job_run.specs.Sources.{IsSet, LacksApart, no_overrides, no_source, no_stats};
+ghost use Rattle.job_run.specs.Stops.{IsHindered};
+ghost use Rattle.job_run.specs.World.{held_in};
+
+use crate::apart::Apart;
+use crate::dumps::dump_in;
+use crate::reading::read_source;
+use crate::stop::{Cause, Stop};
+use geo_outside::Folder;
+use geo_terms::{Overrides, SourceFault, Stats};
+use job_lines::Act;
+use nro_stats::read_stats;
+use override_rows::read_overrides;
+use std::alloc::Global;
+use update_session::Session;
+
+/// The most bytes of a statistics file.
+const LONGEST_STATS: u64 = 268_435_456;
+
+/// The most bytes of a file of overrides.
+const LONGEST_OVERRIDES: u64 = 67_108_864;
+
+/// Sets the dump in this slot to what the file of this name holds.
+pub(crate) fn set_dump<F: Folder>(
+    alloc: Global,
+    apart: &[Apart],
+    slot: &str,
+    name: &str,
+    session: &mut Session,
+    folder: &mut F,
+) -> Result<(), Stop>
+    ensures set { (w : Told) → F.told folder.old ≡ Some w → OnOk result
+        (IsSet (Act.Rpsl slot.now name.now) (held_in apart.now w name.now) session.old session.new) }
+    ensures unset { (w : Told) → F.told folder.old ≡ Some w → IfErr result (λ why. IsHindered why
+        (λ cause. no_source (Act.Rpsl slot.now name.now) (held_in apart.now w name.now) ≡ Some cause)) }
+    ensures err { OnErr result (session.new ≡ session.old) }
+    ensures reads { (result ≢ Err Stop.PutFailed) × (result ≢ Err Stop.SinkFailed)
+        × (result ≢ Err (Stop.Blocked Cause.Words)) }
+
+    ensures read_failed { result ≡ Err Stop.ReadFailed
+        → Rose (F.read_faults folder.old) (F.read_faults folder.new) }
+    ensures missing { apart.now ≡ [] → result ≡ Err (Stop.Blocked Cause.Missing)
+        → Rose (F.misses folder.old) (F.misses folder.new) }
+    ensures same { F.told folder.new ≡ F.told folder.old }
+    ensures read_faults { F.read_faults folder.old ≤ F.read_faults folder.new }
+    ensures put_faults { F.put_faults folder.old ≤ F.put_faults folder.new }
+    ensures misses { F.misses folder.old ≤ F.misses folder.new }
+    ensures missing_apart { result ≡ Err (Stop.Blocked Cause.Missing)
+        → Rose (F.misses folder.old) (F.misses folder.new)
+        ⊎ LacksApart apart.now (Act.Rpsl slot.now name.now) }
+    ensures apart_only { apart.now ≢ [] → (result ≢ Err Stop.ReadFailed)
+        × (F.given folder.new ≤ F.given folder.old) }
+    ensures given { F.given folder.new ≤ F.given folder.old + (2 ^ 40 + 65536) }
+{
+    let dump = match dump_in(alloc, apart, folder, slot, name) {
+        Ok(dump) => dump,
+        Err(why) => return Err(why),
+    };
+    session.set_rpsl(dump)?;
+    Ok(())
+}
+
+/// Sets the statistics file in this slot to what the file of this name holds.
+pub(crate) fn set_stats<F: Folder>(
+    alloc: Global,
+    apart: &[Apart],
+    slot: &str,
+    name: &str,
+    session: &mut Session,
+    folder: &mut F,
+) -> Result<(), Stop>
+    ensures set { (w : Told) → F.told folder.old ≡ Some w → OnOk result
+        (IsSet (Act.Stats slot.now name.now) (held_in apart.now w name.now) session.old session.new) }
+    ensures unset { (w : Told) → F.told folder.old ≡ Some w → IfErr result (λ why. IsHindered why
+        (λ cause. no_source (Act.Stats slot.now name.now) (held_in apart.now w name.now) ≡ Some cause)) }
+    ensures err { OnErr result (session.new ≡ session.old) }
+    ensures reads { (result ≢ Err Stop.PutFailed) × (result ≢ Err Stop.SinkFailed)
+        × (result ≢ Err (Stop.Blocked Cause.Words)) }
+
+    ensures read_failed { result ≡ Err Stop.ReadFailed
+        → Rose (F.read_faults folder.old) (F.read_faults folder.new) }
+    ensures missing { apart.now ≡ [] → result ≡ Err (Stop.Blocked Cause.Missing)
+        → Rose (F.misses folder.old) (F.misses folder.new) }
+    ensures same { F.told folder.new ≡ F.told folder.old }
+    ensures read_faults { F.read_faults folder.old ≤ F.read_faults folder.new }
+    ensures put_faults { F.put_faults folder.old ≤ F.put_faults folder.new }
+    ensures misses { F.misses folder.old ≤ F.misses folder.new }
+    ensures missing_apart { result ≡ Err (Stop.Blocked Cause.Missing)
+        → Rose (F.misses folder.old) (F.misses folder.new)
+        ⊎ LacksApart apart.now (Act.Stats slot.now name.now) }
+    ensures apart_only { apart.now ≢ [] → (result ≢ Err Stop.ReadFailed)
+        × (F.given folder.new ≤ F.given folder.old) }
+    ensures given { F.given folder.new ≤ F.given folder.old + (268435456 + 65536) }
+{
+    let bytes = match read_source(alloc, apart, folder, name, LONGEST_STATS) {
+        Ok(bytes) => bytes,
+        Err(why) => return Err(why),
+    };
+    let stats = stats_of(alloc, slot, bytes.as_slice())?;
+    session.set_stats(stats)?;
+    Ok(())
+}
+
+/// The statistics file that these bytes are.
+fn stats_of(alloc: Global, slot: &str, bytes: &[u8]) -> Result<Stats, Stop>
+    ensures stats { IfOk result (λ found. found ≡ stats slot.now bytes.now) }
+    ensures few { OnOk result (no_stats slot.now (Some bytes.now) ≡ None) }
+    ensures unset { IfErr result (λ why. IsHindered why
+        (λ cause. no_stats slot.now (Some bytes.now) ≡ Some cause)) }
+    ensures read { (result ≢ Err Stop.ReadFailed) × (result ≢ Err (Stop.Blocked Cause.Missing)) }
+    ensures reads { (result ≢ Err Stop.PutFailed) × (result ≢ Err Stop.SinkFailed)
+        × (result ≢ Err (Stop.Blocked Cause.Words)) }
+{
+    match read_stats(alloc, slot, bytes) {
+        Ok(found) => Ok(found),
+        Err(SourceFault::TooLong) => Err(Stop::Blocked(Cause::TooLong)),
+        Err(SourceFault::TooMany) => Err(Stop::Blocked(Cause::TooMany)),
+        Err(SourceFault::Memory) => Err(Stop::Memory),
+    }
+}
+
+/// Sets the overrides to what the file of this name holds.
+pub(crate) fn set_overrides<F: Folder>(
+    alloc: Global,
+    apart: &[Apart],
+    name: &str,
+    session: &mut Session,
+    folder: &mut F,
+) -> Result<(), Stop>
+    ensures set { (w : Told) → F.told folder.old ≡ Some w → OnOk result
+        (IsSet (Act.Overrides name.now) (held_in apart.now w name.now) session.old session.new) }
+    ensures unset { (w : Told) → F.told folder.old ≡ Some w → IfErr result (λ why. IsHindered why
+        (λ cause. no_source (Act.Overrides name.now) (held_in apart.now w name.now) ≡ Some cause)) }
+    ensures err { OnErr result (session.new ≡ session.old) }
+    ensures reads { (result ≢ Err Stop.PutFailed) × (result ≢ Err Stop.SinkFailed)
+        × (result ≢ Err (Stop.Blocked Cause.Words)) }
+
+    ensures read_failed { result ≡ Err Stop.ReadFailed
+        → Rose (F.read_faults folder.old) (F.read_faults folder.new) }
+    ensures missing { apart.now ≡ [] → result ≡ Err (Stop.Blocked Cause.Missing)
+        → Rose (F.misses folder.old) (F.misses folder.new) }
+    ensures same { F.told folder.new ≡ F.told folder.old }
+    ensures read_faults { F.read_faults folder.old ≤ F.read_faults folder.new }
+    ensures put_faults { F.put_faults folder.old ≤ F.put_faults folder.new }
+    ensures misses { F.misses folder.old ≤ F.misses folder.new }
+    ensures missing_apart { result ≡ Err (Stop.Blocked Cause.Missing)
+        → Rose (F.misses folder.old) (F.misses folder.new)
+        ⊎ LacksApart apart.now (Act.Overrides name.now) }
+    ensures apart_only { apart.now ≢ [] → (result ≢ Err Stop.ReadFailed)
+        × (F.given folder.new ≤ F.given folder.old) }
+    ensures given { F.given folder.new ≤ F.given folder.old + (67108864 + 65536) }
+{
+    let bytes = match read_source(alloc, apart, folder, name, LONGEST_OVERRIDES) {
+        Ok(bytes) => bytes,
+        Err(why) => return Err(why),
+    };
+    let overrides = overrides_of(alloc, bytes.as_slice())?;
+    session.set_overrides(overrides)?;
+    Ok(())
+}
+
+/// The overrides that these bytes are.
+fn overrides_of(alloc: Global, bytes: &[u8]) -> Result<Overrides, Stop>
+    ensures overrides { IfOk result (λ found. found ≡ overrides bytes.now) }
+    ensures few { OnOk result (no_overrides (Some bytes.now) ≡ None) }
+    ensures unset { IfErr result (λ why. IsHindered why
+        (λ cause. no_overrides (Some bytes.now) ≡ Some cause)) }
+    ensures read { (result ≢ Err Stop.ReadFailed) × (result ≢ Err (Stop.Blocked Cause.Missing)) }
+    ensures reads { (result ≢ Err Stop.PutFailed) × (result ≢ Err Stop.SinkFailed)
+        × (result ≢ Err (Stop.Blocked Cause.Words)) }
+{
+    match read_overrides(alloc, bytes) {
+        Ok(found) => Ok(found),
+        Err(SourceFault::TooLong) => Err(Stop::Blocked(Cause::TooLong)),
+        Err(SourceFault::TooMany) => Err(Stop::Blocked(Cause::TooMany)),
+        Err(SourceFault::Memory) => Err(Stop::Memory),
+    }
+}
