@@ -1,0 +1,5 @@
+pub mod CommandLemmas
+pub mod FormLemmas
+pub mod NameLemmas
+pub mod TextLemmas
+pub mod WordLemmas

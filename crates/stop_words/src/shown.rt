@@ -1,0 +1,35 @@
+//! A word as it is shown: in quotes, without what would move a terminal's cursor, and not endless.
+use geo_addr::Memory;
+use std::alloc::Global;
+
+/// The most characters of a word that are shown.
+const MOST: usize = 100;
+
+/// The word in quotes, as much of it as is shown.
+pub(crate) fn shown(alloc: Global, word: &[u8]) -> Result<String, Memory> {
+    match str::from_utf8(word) {
+        Ok(text) => quoted(alloc, text),
+        Err(_) => Ok(String::from_str(alloc, "(not UTF-8)")?),
+    }
+}
+
+fn quoted(alloc: Global, text: &str) -> Result<String, Memory> {
+    let mut line = String::from_str(alloc, "\"")?;
+    for (at, letter) in text.chars().enumerate() {
+        if at == MOST {
+            line.push_str("..")?;
+            break;
+        }
+        line.push(visible(letter))?;
+    }
+    line.push('"')?;
+    Ok(line)
+}
+
+// The character, or another in the place of one that is not seen but done.
+fn visible(letter: char) -> char {
+    match letter {
+        '\0'..='\u{1F}' | '\u{7F}'..='\u{9F}' => '\u{FFFD}',
+        _ => letter,
+    }
+}
