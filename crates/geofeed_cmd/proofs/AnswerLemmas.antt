@@ -1,102 +1,38 @@
 -- How a command's answer follows from where it stopped.
-use Rattle.std.proofs.Common.{◌≡◌, ℕ, zero, suc, ◌+◌, ◌≤◌, ◌<◌, Bool, true, false, nat_lt, inl, inr, List, [], ◌∷◌, ◌++◌, length, take, refl, sym, ◌∙◌, ap, subst, append_assoc, arith, rules}
-use Rattle.std.specs.Prelude.{Option, Some, None, Result, Ok, Err, OnOk, IsSomeAnd, slice_get, if◌then◌else◌}
+use Rattle.std.proofs.Common.{◌≡◌, ℕ, ◌+◌, ◌≤◌, ◌<◌, Bool, true, false, nat_lt, inl, inr, List, []}
+use Rattle.std.proofs.Common.{length, refl, sym, ◌∙◌, ap, subst, arith, rules}
+use Rattle.std.specs.Prelude.{Option, Some, None, Err, IsSomeAnd, if◌then◌else◌}
 use Rattle.std.specs.Str.{is_utf8}
 use Rattle.geo_addr.specs.Lines.{numbered_lines}
 use Rattle.geo_outside.specs.Count.{Rose}
 use Rattle.geo_outside.specs.Files.{Told}
-use Rattle.geo_outside.specs.declared.folder.OutErr.{OutErr}
-use Rattle.geo_outside.specs.declared.folder.OutErr.TheVariants as out_errs
-use Rattle.update_session.specs.State.{State}
-use Rattle.geofeed_cmd.specs.declared.job.JobFault.TheVariants as job_faults
-use Rattle.geofeed_cmd.specs.declared.job.Step.{Step}
+use Rattle.update_session.specs.Kept.{Held}
+use Rattle.job_lines.specs.declared.fault.JobFault.TheVariants as job_faults
+use Rattle.job_lines.specs.declared.job.Step.{Step}
+use Rattle.job_lines.specs.Job.{job, job_of as job_of_draft, draft_from}
+use Rattle.job_lines.specs.Drafts.{no_lines}
+use Rattle.command_words.specs.Commands.{Command}
+use Rattle.command_words.specs.Commands as commands
+use Rattle.job_run.specs.declared.stop.Cause.{Cause}
+use Rattle.job_run.specs.declared.stop.Cause.TheVariants as causes
+use Rattle.job_run.specs.declared.stop.Stop.{Stop}
+use Rattle.job_run.specs.declared.stop.Stop.TheVariants as stops
+use Rattle.job_run.specs.Acts.{Move, looks, counts, does, shows, effect, line_of, step_of}
+use Rattle.job_run.specs.Course.{stopped, IsAt}
+use Rattle.job_run.specs.Seen.{Seen, seen}
+use Rattle.job_run.specs.Sources.{file_named}
+use Rattle.job_run.specs.Stops.{Halts, IsBlocked, IsHindered, IsUncounted, DoesAll, StopsAt}
+use Rattle.job_run.specs.World.{World}
+use Rattle.job_run.proofs.CourseLemmas.{course_blocked}
+use Rattle.job_run.proofs.RunLemmas.{named_move}
 use Rattle.geofeed_cmd.specs.declared.status.Status.{Status}
 use Rattle.geofeed_cmd.specs.declared.status.Status.TheVariants as statuses
-use Rattle.geofeed_cmd.specs.declared.stop.Cause.{Cause}
-use Rattle.geofeed_cmd.specs.declared.stop.Cause.TheVariants as causes
-use Rattle.geofeed_cmd.specs.declared.stop.Stop.{Stop}
-use Rattle.geofeed_cmd.specs.declared.stop.Stop.TheVariants as stops
-use Rattle.geofeed_cmd.specs.Commands.{Command, file_first}
-use Rattle.geofeed_cmd.specs.Job.{job, job_of, draft_from}
-use Rattle.geofeed_cmd.specs.Job.Drafts.{no_lines}
-use Rattle.geofeed_cmd.specs.Run.Acts.{Move, does, shows, effect, line_of, moves_of, step_of}
 use Rattle.geofeed_cmd.specs.Run.Answers.{ComesTo, IsDone, Leaves, Comes, read, write, memory, spent, IsAnswer}
-use Rattle.geofeed_cmd.specs.Run.Course.{stopped, IsAt}
-use Rattle.geofeed_cmd.specs.Run.Ending.{refused, planned, plan_of, build_plan, job_plan, ending, ending_by, ending_of, Reaches}
+use Rattle.geofeed_cmd.specs.Run.Closes.{Closes, EndsWith}
+use Rattle.geofeed_cmd.specs.Run.Ending.{ending, ending_by, ending_of}
 use Rattle.geofeed_cmd.specs.Run.Lines.{status_of, cause_status, stop_line}
-use Rattle.geofeed_cmd.specs.Run.Seen.{Seen, seen, Closes, EndsWith, Prints}
-use Rattle.geofeed_cmd.specs.Run.Stops.{Tail, Halts, IsBlocked, IsHindered, IsUncounted, DoesAll, StopsAt}
-use Rattle.geofeed_cmd.specs.Run.World.{World}
-use Rattle.geofeed_cmd.proofs.CourseLemmas.{course_blocked}
-
-pub append-nil : (xs : List ℕ) → xs ++ [] ≡ xs
-append-nil [] = refl
-append-nil (x ∷ xs) = ap (λ ys. x ∷ ys) (append-nil xs)
-
--- a text, and then a stop line
-pub closes-after : (old mid new : Option (List ℕ)) (faults faults_mid faults_now : ℕ) (text line : List ℕ)
-    → Prints old mid text → Closes mid new faults_mid faults_now [] line → faults ≤ faults_mid → Closes old new faults faults_now text line
-closes-after old mid new faults faults_mid faults_now text line printed closed rises before was =
-    elim (closed (before ++ text) (printed before was)) [
-      | inl whole ↦ inl (whole ∙ ap Some (append_assoc before text line))
-      | inr rest ↦ elim rest [
-        | inl none ↦ inr (inl (none ∙ ap Some (append-nil (before ++ text))))
-        | inr part ↦ inr (inr (part.0, part.1 ∙ ap Some (append_assoc before text (take part.0 line)), let rose : Rose faults_mid faults_now = part.2 in omega arith))
-      ]
-    ]
-
--- no line
-pub closes-nothing : (old new : Option (List ℕ)) (faults faults_now : ℕ) → new ≡ old → Closes old new faults faults_now [] []
-closes-nothing old new faults faults_now same before was = inl (same ∙ was ∙ ap Some (sym (append-nil before)))
-
--- a line that is written, or is not
-pub closes-written : (result : Result (Unit {0}) OutErr) (old new : Option (List ℕ)) (faults faults_now : ℕ) (piece line : List ℕ) → piece ≡ line
-    → ((text : List ℕ) → old ≡ Some text → OnOk result (new ≡ Some (text ++ piece)))
-    → ((text : List ℕ) → old ≡ Some text → result ≡ Err out_errs.Failed → (n : ℕ) × (new ≡ Some (text ++ take n piece)))
-    → (result ≡ Err out_errs.Failed → Rose faults faults_now) → (result ≡ Err out_errs.Memory → new ≡ old)
-    → Closes old new faults faults_now [] line
-closes-written (Ok done) old new faults faults_now piece line same ok part failed unwritten before was =
-    inl (ok before was ∙ ap (λ p. Some (before ++ p)) same)
-closes-written (Err out_errs.Failed) old new faults faults_now piece line same ok part failed unwritten before was =
-    inr (inr ((part before was refl).0, (part before was refl).1 ∙ ap (λ p. Some (before ++ take (part before was refl).0 p)) same, failed refl))
-closes-written (Err out_errs.Memory) old new faults faults_now piece line same ok part failed unwritten before was =
-    inr (inl (unwritten refl ∙ was ∙ ap Some (sym (append-nil before))))
-
-take-nil : (n : ℕ) → take {A = ℕ} n [] ≡ []
-take-nil zero = refl
-take-nil (suc n) = refl
-
-pub prints-nothing : (old new : Option (List ℕ)) (faults faults_now : ℕ) (text : List ℕ) → Closes old new faults faults_now text [] → Prints old new text
-prints-nothing old new faults faults_now text closed before was =
-    elim (closed before was) [
-      | inl whole ↦ whole ∙ ap (λ t. Some (before ++ t)) (append-nil text)
-      | inr rest ↦ elim rest [ inl none ↦ none | inr part ↦ part.1 ∙ ap (λ t. Some (before ++ (text ++ t))) (take-nil part.0) ∙ ap (λ t. Some (before ++ t)) (append-nil text) ]
-    ]
-
--- no line is printed where the sink failed or memory ran out
-no-line : (line : ℕ) (name : List ℕ) → (stop_line stops.SinkFailed line name ≡ []) × (stop_line stops.Memory line name ≡ [])
-unfolding stop_line
-no-line line name = (refl, refl)
-
--- what is left by a move that stopped, from what it printed and the line behind it
-pub leaves : (why : Stop) (move : Move) (world : World) (old new : Seen) (mid : Option (List ℕ)) (faults_mid : ℕ) (line : List ℕ) → line ≡ stop_line why (line_of move) (effect move world).name
-    → Tail why world.text (effect move world).text old.written mid → Closes mid new.written faults_mid new.print_faults [] line → old.print_faults ≤ faults_mid
-    → Leaves why move world old new
-leaves (stops.Blocked cause) move world old new mid faults line is tail closed rises =
-    subst (EndsWith old new world.text) is (closes-after old.written mid new.written old.print_faults faults new.print_faults world.text line tail closed rises)
-leaves stops.ReadFailed move world old new mid faults line is tail closed rises =
-    subst (EndsWith old new world.text) is (closes-after old.written mid new.written old.print_faults faults new.print_faults world.text line tail closed rises)
-leaves stops.PutFailed move world old new mid faults line is tail closed rises =
-    subst (EndsWith old new world.text) is (closes-after old.written mid new.written old.print_faults faults new.print_faults world.text line tail closed rises)
-leaves stops.SinkFailed move world old new mid faults line is tail closed rises = λ before was.
-    let empty = is ∙ (no-line (line_of move) (effect move world).name).0 in
-    let still = prints-nothing mid new.written faults new.print_faults [] (subst (Closes mid new.written faults new.print_faults []) empty closed) in
-    let part = tail before was in
-    (part.0, still _ part.1 ∙ ap Some (append-nil _))
-leaves stops.Memory move world old new mid faults line is tail closed rises = λ before was.
-    let empty = is ∙ (no-line (line_of move) (effect move world).name).1 in
-    let still = prints-nothing mid new.written faults new.print_faults [] (subst (Closes mid new.written faults new.print_faults []) empty closed) in
-    still _ (tail before was) ∙ ap Some (append-nil _)
+use Rattle.geofeed_cmd.specs.Run.Plans.{Reaches, accepted, file_first, held_job, is_command, job_plan, plan_of, planned, refused}
+use Rattle.geofeed_cmd.proofs.CloseLemmas.{append-nil, leaves, no-line, prints-nothing}
 
 -- an answer that comes to the ending
 comes-ended : (cause : Cause) (command : Option Command) (first : Told) (old new : Seen) (puts puts_now : ℕ) → ComesTo (ending first command) (cause_status cause) old new → Comes (cause_status cause) command first old new puts puts_now
@@ -105,6 +41,9 @@ comes-ended causes.Missing command first old new puts puts_now comes = comes
 comes-ended (causes.Job fault) command first old new puts puts_now comes = comes
 comes-ended causes.TooLong command first old new puts puts_now comes = comes
 comes-ended causes.TooMany command first old new puts puts_now comes = comes
+comes-ended causes.NotThere command first old new puts puts_now comes = comes
+comes-ended causes.NoMark command first old new puts puts_now comes = comes
+comes-ended causes.NoFeed command first old new puts puts_now comes = comes
 comes-ended causes.TooLarge command first old new puts puts_now comes = inl comes
 comes-ended (causes.File fault) command first old new puts puts_now comes = comes
 
@@ -172,6 +111,8 @@ answered statuses.TooLarge command first old new puts puts_now comes =
     ]
 answered statuses.File command first old new puts puts_now comes = inl comes.same
 answered statuses.Drop command first old new puts puts_now comes = inl comes.same
+answered statuses.Mark command first old new puts puts_now comes = inl comes.same
+answered statuses.Absent command first old new puts puts_now comes = inl comes.same
 
 -- a count of puts that failed that was lower before
 pub comes_earlier : (status : Status) (command : Option Command) (first : Told) (old new : Seen) (earlier puts puts_now : ℕ) → earlier ≤ puts
@@ -191,6 +132,8 @@ comes_earlier statuses.Source command first old new earlier puts puts_now rises 
 comes_earlier statuses.TooLarge command first old new earlier puts puts_now rises comes = comes
 comes_earlier statuses.File command first old new earlier puts puts_now rises comes = comes
 comes_earlier statuses.Drop command first old new earlier puts puts_now rises comes = comes
+comes_earlier statuses.Mark command first old new earlier puts puts_now rises comes = comes
+comes_earlier statuses.Absent command first old new earlier puts puts_now rises comes = comes
 
 -- a move that a command reaches is one of the moves of its plan
 pub at_planned : (command : Option Command) (first : Told) (moves : List Move) (start : World) → plan_of first command ≡ planned moves start
@@ -202,7 +145,7 @@ at_planned command first moves start plan move world reach =
     record { done = cc; next = cc }
 
 -- all moves were made
-pub comes_done : (command : Option Command) (first : Told) (moves : List Move) (start : World) (old new : Seen) (session : State) → plan_of first command ≡ planned moves start → start.session.spent ≡ 0
+pub comes_done : (command : Option Command) (first : Told) (moves : List Move) (start : World) (old new : Seen) (session : Held) → plan_of first command ≡ planned moves start → start.session.spent ≡ 0
     → DoesAll moves start session old new → IsDone command first old new
 comes_done command first moves start old new session plan unspent all = record {
   moves = moves;
@@ -216,24 +159,35 @@ comes_done command first moves start old new session plan unspent all = record {
   published = λ move world reach. all.published reach.count move world (at_planned command first moves start plan move world reach);
 }
 
--- a move that belongs to a step
-its-move : (move : Move) (step : Step) → step_of move ≡ Some step → does step ≡ move
-its-move (does other) step its = let same : other ≡ step = cc in ap does (sym same)
-its-move (shows last) step its = absurd (cc)
+-- a move that belongs to a step has its line
+move-line : (move : Move) (step : Step) → step_of move ≡ Some step → step.line ≡ line_of move
+move-line (looks other) step its = let same : other ≡ step = cc in ap (λ (s : Step). s.line) (sym same)
+move-line (counts other) step its = let same : other ≡ step = cc in ap (λ (s : Step). s.line) (sym same)
+move-line (does other) step its = let same : other ≡ step = cc in ap (λ (s : Step). s.line) (sym same)
+move-line (shows last) step its = absurd (cc)
 
 -- one of the steps of a job was not done, and a line was printed behind
-pub comes_stop : (command : Option Command) (first : Told) (list : List Step) (start : World) (old mid : Seen) (written : Option (List ℕ)) (faults : ℕ) → plan_of first command ≡ planned (moves_of list) start → start.session.spent ≡ 0
-    → (why : Stop) (at : ℕ) (step : Step) (line : List ℕ) → slice_get list at ≡ Some step → ((world : World) → line ≡ stop_line why step.line (effect (does step) world).name)
-    → StopsAt why at list start old mid → Closes mid.written written mid.print_faults faults [] line → old.print_faults ≤ mid.print_faults
-    → (puts puts_now : ℕ) → (why ≡ stops.PutFailed → Rose puts puts_now) → (why ≡ stops.SinkFailed → Rose old.print_faults faults)
+pub comes_stop : (command : Option Command) (first : Told) (list : List Step) (moves all : List Move) (start : World)
+    (old mid : Seen) (written : Option (List ℕ)) (faults : ℕ)
+    → plan_of first command ≡ planned all start → start.session.spent ≡ 0
+    → ((count : ℕ) (move : Move) (world : World) → IsAt moves start count move world → IsAt all start count move world)
+    → (why : Stop) (at : ℕ) (stop : StopsAt why at moves list start old mid)
+    → Closes mid.written written mid.print_faults faults []
+    (stop_line why stop.step.line (file_named stop.step.act)) → old.print_faults ≤ mid.print_faults
+    → (puts puts_now : ℕ) → (why ≡ stops.PutFailed → Rose puts puts_now)
+    → (why ≡ stops.SinkFailed → Rose old.print_faults faults)
     → Comes (status_of why) command first old (seen mid.told written faults mid.steps) puts puts_now
-comes_stop command first list start old mid written faults plan unspent why at step line found said stop closed rises puts puts_now put sink =
-    let this : step ≡ stop.step = let named = stop.named in cc in
-    let same : does step ≡ stop.move = its-move stop.move step (stop.its ∙ ap Some (sym this)) in
-    let is : line ≡ stop_line why (line_of stop.move) (effect stop.move stop.world).name = subst (λ m. line ≡ stop_line why (line_of m) (effect m stop.world).name) same (said stop.world) in
-    let steps : mid.steps ≤ old.steps + (effect stop.move stop.world).session.spent = let paid = stop.spent in omega (arith, unspent, paid) in
-    by_cause command first (moves_of list) start old (seen mid.told written faults mid.steps) puts puts_now plan why stop.count stop.move stop.world stop.there stop.fails.files
-    (leaves why stop.move stop.world old (seen mid.told written faults mid.steps) mid.written mid.print_faults line is stop.fails.printed closed rises) steps put sink
+comes_stop command first list moves all start old mid written faults plan unspent lift why at stop closed rises puts puts_now put sink =
+    let line = stop_line why stop.step.line (file_named stop.step.act) in
+    let is : line ≡ stop_line why (line_of stop.move) (effect stop.move stop.world).name =
+    ap (λ n. stop_line why n (file_named stop.step.act)) (move-line stop.move stop.step stop.its)
+    ∙ ap (stop_line why (line_of stop.move)) (sym (named_move stop.move stop.step stop.world stop.its)) in
+    let steps : mid.steps ≤ old.steps + (effect stop.move stop.world).session.spent =
+    let paid = stop.spent in omega (arith, unspent, paid) in
+    by_cause command first all start old (seen mid.told written faults mid.steps) puts puts_now plan why stop.count stop.move stop.world
+    (lift stop.count stop.move stop.world stop.there) stop.fails.files
+    (leaves why stop.move stop.world old (seen mid.told written faults mid.steps) mid.written mid.print_faults line is stop.fails.printed closed rises)
+    steps put sink
 
 -- a command that is refused before its first move
 comes-refused : (command : Option Command) (first : Told) (cause : Cause) (name : List ℕ) (old new : Seen) → plan_of first command ≡ refused cause name → new.told ≡ Some first
@@ -259,10 +213,34 @@ comes_hindered known name first old new puts puts_now named stops.Memory stop fi
       steps = steps;
     })
 
+-- nothing was done for want of memory
+pub comes_unchanged : (command : Option Command) (first : Told) (old new : Seen) (puts puts_now : ℕ)
+    → new.told ≡ Some first → new.written ≡ old.written → new.steps ≡ old.steps
+    → Comes statuses.Memory command first old new puts puts_now
+comes_unchanged command first old new puts puts_now files written steps = inl (record {
+  files = files;
+  printed = λ before was. written ∙ was ∙ ap Some (sym (append-nil before));
+  steps = omega (arith, steps);
+})
+
 -- words that are no command
-pub comes_words : (first : Told) (old new : Seen) (puts puts_now : ℕ) → new.told ≡ Some first → EndsWith old new [] (stop_line (stops.Blocked causes.Words) 0 []) → new.steps ≤ old.steps
-    → Comes statuses.Words None first old new puts puts_now
-comes_words first old new puts puts_now files closed steps = comes-refused None first causes.Words [] old new refl files closed steps
+no-plan : (command : Option Command) (first : Told) → is_command command ≡ false
+    → plan_of first command ≡ refused causes.Words []
+no-plan None first none = refl
+no-plan (Some (commands.build name)) first none = absurd (cc)
+no-plan (Some (commands.lookup name address)) first none = absurd (cc)
+no-plan (Some (commands.explain name address)) first none = absurd (cc)
+no-plan (Some (commands.gen lines file)) first none = absurd (cc)
+no-plan (Some (commands.publish name block file)) first none = absurd (cc)
+no-plan (Some (commands.check name url)) first none = refl
+no-plan (Some (commands.census name)) first none = refl
+
+pub comes_words : (command : Option Command) (first : Told) (old new : Seen) (puts puts_now : ℕ)
+    → is_command command ≡ false → new.told ≡ Some first
+    → EndsWith old new [] (stop_line (stops.Blocked causes.Words) 0 []) → new.steps ≤ old.steps
+    → Comes statuses.Words command first old new puts puts_now
+comes_words command first old new puts puts_now none files closed steps =
+    comes-refused command first causes.Words [] old new (no-plan command first none) files closed steps
 
 if-true : {A : Type 0} (b : Bool) (x y : A) → b ≡ true → (if b then x else y) ≡ x
 if-true true x y h = refl
@@ -271,10 +249,22 @@ if-true false x y h = cc
 too-long : (bytes : List ℕ) → 1048576 < length bytes → job bytes ≡ Err job_faults.TooLong
 unfolding job
 too-long bytes long =
-    if-true (nat_lt 1048576 (length bytes)) (Err job_faults.TooLong) (if is_utf8 bytes then job_of (draft_from (numbered_lines bytes) no_lines) else Err job_faults.Utf8) (search rules)
+    if-true (nat_lt 1048576 (length bytes)) (Err job_faults.TooLong)
+    (if is_utf8 bytes then job_of_draft (draft_from (numbered_lines bytes) no_lines) else Err job_faults.Utf8)
+    (search rules)
 
 -- a job of too many bytes
-pub plan-too-long : (first : Told) (name : List ℕ) (file : Option (List ℕ)) → IsSomeAnd file (λ bytes. 1048576 < length bytes)
-    → build_plan first name file ≡ refused (causes.Job job_faults.TooLong) name
-plan-too-long first name None long = absurd long
-plan-too-long first name (Some bytes) long = ap (job_plan first name) (too-long bytes long)
+pub held-too-long : (file : Option (List ℕ)) → IsSomeAnd file (λ bytes. 1048576 < length bytes)
+    → held_job file ≡ Err (causes.Job job_faults.TooLong)
+held-too-long None long = absurd long
+held-too-long (Some bytes) long = ap accepted (too-long bytes long)
+
+-- a job that is there, or is not, as the plan of a command
+pub hindered_job : (known : Command) (first : Told) (name : List ℕ) (why : Stop) (file : Option (List ℕ))
+    → IsHindered why (λ cause. held_job file ≡ Err cause)
+    → IsHindered why (λ cause. job_plan known first name (held_job file) ≡ refused cause name)
+hindered_job known first name (stops.Blocked cause) file stop = ap (job_plan known first name) stop
+hindered_job known first name stops.ReadFailed file stop = stop
+hindered_job known first name stops.PutFailed file stop = stop
+hindered_job known first name stops.SinkFailed file stop = stop
+hindered_job known first name stops.Memory file stop = stop

@@ -1,32 +1,34 @@
 -- Each answer that is no fault has its cause, and a cause has no other answer.
-use Rattle.std.proofs.Common.{◌≡◌, ◌≤◌, ◌<◌, ℕ, zero, suc, ◌⊎◌, inl, inr, Bool, true, false, nat_lt, List, [], ◌∷◌, length, take, refl, sym, ◌∙◌, ap, subst, rules}
-use Rattle.std.specs.Prelude.{Option, Some, None, Result, Ok, Err, slice_get, if◌then◌else◌}
+use Rattle.std.proofs.Common.{◌≡◌, ◌≤◌, ◌<◌, ℕ, suc, ◌⊎◌, inl, inr, Bool, true, false, nat_lt, List, [], ◌∷◌}
+use Rattle.std.proofs.Common.{length, take, refl, sym, ◌∙◌, ap, subst, rules}
+use Rattle.std.specs.Prelude.{Option, Some, None, Result, Ok, Err}
 use Rattle.std.specs.FinMap as map
 use Rattle.geo_outside.specs.Files.{Told}
-use Rattle.nro_stats.specs.File.{longest, most}
-use Rattle.update_session.specs.State.{is_too_large}
-use Rattle.geofeed_cmd.specs.declared.job.Act.{Act}
-use Rattle.geofeed_cmd.specs.declared.job.Act.TheVariants.{Stats, Emit, Report}
-use Rattle.geofeed_cmd.specs.declared.job.Job.{Job}
-use Rattle.geofeed_cmd.specs.declared.job.JobFault.{JobFault}
-use Rattle.geofeed_cmd.specs.declared.job.Step.{Step}
-use Rattle.geofeed_cmd.specs.declared.lookup.LookupFault.{LookupFault}
+use Rattle.job_lines.specs.declared.job.Job.{Job}
+use Rattle.job_lines.specs.declared.fault.JobFault.{JobFault}
+use Rattle.job_lines.specs.Job.{job}
+use Rattle.file_lookup.specs.declared.lookup.LookupFault.{LookupFault}
+use Rattle.file_lookup.specs.Lookup.{answer}
+use Rattle.command_words.specs.Commands.{Command, build, lookup, explain, gen, publish, check, census}
+use Rattle.job_run.specs.declared.stop.Cause.{Cause}
+use Rattle.job_run.specs.declared.stop.Cause.TheVariants as causes
+use Rattle.job_run.specs.Acts.{Move, shows, blocked, after}
+use Rattle.job_run.specs.Course.{Outcome, ended, stopped, unless, course, IsAt}
+use Rattle.job_run.specs.Moves.{moves_of}
+use Rattle.job_run.specs.Sources.{unreadable}
+use Rattle.job_run.specs.declared.scope.Scope.TheVariants.{Whole}
+use Rattle.job_run.specs.World.{World, printing}
+use Rattle.job_run.proofs.ActLemmas.{readable, unreadable-long, unreadable-none}
+use Rattle.job_run.proofs.CourseLemmas.{course_blocked, course_free}
 use Rattle.geofeed_cmd.specs.declared.status.Status.{Status}
 use Rattle.geofeed_cmd.specs.declared.status.Status.TheVariants as statuses
-use Rattle.geofeed_cmd.specs.declared.stop.Cause.{Cause}
-use Rattle.geofeed_cmd.specs.declared.stop.Cause.TheVariants as causes
-use Rattle.geofeed_cmd.specs.Run.Acts.{Move, does, shows, act_effect, blocked, after, moves_of, crowded, rows_of, uncounted, unreadable}
+use Rattle.geofeed_cmd.specs.Commands.Gen.{gen_start, gen_steps}
 use Rattle.geofeed_cmd.specs.Run.Answers.{Prevails, IsAnswer}
 use Rattle.geofeed_cmd.specs.Run.Causes.{IsFree, IsAbsent, IsNoJob, IsBlockedFor, IsOverLimit, IsDamaged, Causes}
-use Rattle.geofeed_cmd.specs.Commands.{Command, build, lookup, file_first}
-use Rattle.geofeed_cmd.specs.Run.Course.{Outcome, ended, stopped, unless, course, IsAt}
-use Rattle.geofeed_cmd.specs.Run.Ending.{Plan, planned, plan_of, build_plan, job_plan, start_of, lookup_plan, answer_plan, answered_in, unless_unreadable, alone, longest_file, ending, ending_by, ending_of}
+use Rattle.geofeed_cmd.specs.Run.Ending.{ending, ending_by, ending_of}
 use Rattle.geofeed_cmd.specs.Run.Lines.{cause_status}
-use Rattle.geofeed_cmd.specs.Job.{job}
-use Rattle.geofeed_cmd.specs.Lookup.{answer}
-use Rattle.geofeed_cmd.specs.Run.World.{World, file_in, printing}
-use Rattle.geofeed_cmd.proofs.ActLemmas.{readable, unreadable-long, unreadable-none}
-use Rattle.geofeed_cmd.proofs.CourseLemmas.{course_blocked, course_free}
+use Rattle.geofeed_cmd.specs.Run.Plans.{Plan, accepted, alone, answer_plan, answered_in, file_first, held_job, is_command, job_of, job_plan, longest_file, lookup_plan, moves_for, plan_of, plan_on, planned, start_of, unless_unreadable}
+use Rattle.geofeed_cmd.proofs.FitLemmas.{AreFit, AreOfMove, IsOfMove, fit_at, fit_for, fit_moves, fit_shown}
 
 -- where a run stopped
 record StoppedAt (moves : List Move) (start : World) (move : Move) (why : Cause) (world : World) : Type 0 where
@@ -67,95 +69,70 @@ free-plan : (command : Option Command) (first : Told) (moves : List Move) (start
 free-plan command first moves start last plan all =
     record { moves = moves; start = start; plan = plan; free = λ count move world there. course_free moves start last count move world all there }
 
--- the causes for which a step of a job is blocked
-abbrev IsOfStep : Cause → Type 0
-IsOfStep causes.Words = ⊥
-IsOfStep causes.Missing = Unit {0}
-IsOfStep (causes.Job fault) = ⊥
-IsOfStep causes.TooLong = Unit {0}
-IsOfStep causes.TooMany = Unit {0}
-IsOfStep causes.TooLarge = Unit {0}
-IsOfStep (causes.File fault) = ⊥
-
-abbrev AreOfStep : Option Cause → Type 0
-AreOfStep None = Unit {0}
-AreOfStep (Some why) = IsOfStep why
-
-either : (b : Bool) (x y : Option Cause) → AreOfStep x → AreOfStep y → AreOfStep (if b then x else y)
-either true x y p q = p
-either false x y p q = q
-
-reading : (limit : ℕ) (held : Option (List ℕ)) → AreOfStep (unreadable limit held)
-unfolding unreadable
-reading limit None = tt
-reading limit (Some bytes) = either (nat_lt limit (length bytes)) (Some causes.TooLong) None tt tt
-
-counting : (room n : ℕ) → AreOfStep (crowded room n)
-unfolding crowded
-counting room n = either (nat_lt room n) (Some causes.TooMany) None tt tt
-
-setting : (why : Option Cause) (room : ℕ) (statements : List ℕ → ℕ) (held : Option (List ℕ)) → AreOfStep why → AreOfStep (uncounted why room statements held)
-setting (Some why) room statements held its = its
-setting None room statements None its = tt
-setting None room statements (Some bytes) its = counting room (statements bytes)
-
-acting : (act : Act) (world : World) → AreOfStep (act_effect act world).blocked
-acting (Stats slot file) world = setting (unreadable longest (file_in world file)) most (rows_of slot) (file_in world file) (reading longest (file_in world file))
-acting (Emit file) world = either (is_too_large world.session.state) (Some causes.TooLarge) None tt tt
-acting Report world = tt
-
--- a plan whose moves are blocked for such causes alone
-abbrev AreSteps : List Move → Type 0
-AreSteps moves = (count : ℕ) (move : Move) → slice_get moves count ≡ Some move → (world : World) → AreOfStep (blocked move world)
-
-steps-of : (list : List Step) → AreSteps (moves_of list)
-steps-of [] count move next world = absurd (cc)
-steps-of (first ∷ rest) zero move next world = subst (λ m. AreOfStep (blocked m world)) (let e : does first ≡ move = cc in e) (acting first.act world)
-steps-of (first ∷ rest) (suc count) move next world = steps-of rest count move next world
-
-shown : (text : List ℕ) → AreSteps (shows (printing text) ∷ [])
-shown text zero move next world = subst (λ m. AreOfStep (blocked m world)) (let e : shows (printing text) ≡ move = cc in e) tt
-shown text (suc count) move next world = absurd (cc)
-
-of-stop : (why : Cause) (command : Option Command) (first : Told) → IsOfStep why → IsBlockedFor why command first → Causes (cause_status why) command first
+of-stop : (why : Cause) (command : Option Command) (first : Told) → IsOfMove why → IsBlockedFor why command first
+    → Causes (cause_status why) command first
 of-stop causes.Words command first its found = absurd its
 of-stop causes.Missing command first its found = inr found
 of-stop (causes.Job fault) command first its found = absurd its
 of-stop causes.TooLong command first its found = inr (inl found)
 of-stop causes.TooMany command first its found = inr (inr found)
+of-stop causes.NotThere command first its found = found
+of-stop causes.NoMark command first its found = found
+of-stop causes.NoFeed command first its found = found
 of-stop causes.TooLarge command first its found = found
 of-stop (causes.File fault) command first its found = absurd its
 
 abbrev IsCaused : Option Command → (first : Told) → Plan → Type 0
 IsCaused command first plan = Causes (ending_by first plan).status command first
 
-of-plan : (command : Option Command) (first : Told) (moves : List Move) (start : World) → AreSteps moves → plan_of first command ≡ planned moves start → IsCaused command first (planned moves start)
-of-plan command first moves start steps plan =
+of-plan : (command : Option Command) (first : Told) (moves : List Move) (start : World) → AreFit moves
+    → plan_of first command ≡ planned moves start → IsCaused command first (planned moves start)
+of-plan command first moves start fit plan =
     let go : (out : Outcome) → course moves start ≡ out → Causes (ending_of out).status command first =
     λ out. elim out as (λ (out : Outcome). course moves start ≡ out → Causes (ending_of out).status command first) [
       | ended last ↦ λ all. free-plan command first moves start last plan all
       | stopped move why world ↦ λ stop.
           let found = blocked-for command first moves start plan move why world stop in
           let at = stopped-at moves start move why world stop in
-          of-stop why command first (subst AreOfStep at.cause (steps at.at move at.there.next world)) found
+          of-stop why command first
+          (subst AreOfMove at.cause (fit_at moves at.at move fit at.there.next world)) found
     ] in
     go (course moves start) refl
 
-of-job : (first : Told) (name bytes : List ℕ) (read : Result Job JobFault) → map.get first.held name ≡ Some bytes → job bytes ≡ read → IsCaused (Some (build name)) first (job_plan first name read)
-of-job first name bytes (Err fault) held is = record { name = name; bytes = bytes; fault = fault; commanded = refl; held = held; refusal = is }
-of-job first name bytes (Ok j) held is =
-    of-plan (Some (build name)) first (moves_of j.steps) (start_of first j) (steps-of j.steps) (ap (build_plan first name) held ∙ ap (job_plan first name) is)
+-- a command whose plan is that of its job
+module _ (known : Command) (first : Told) (name : List ℕ) (its : job_of known ≡ Some name)
+    (reads : file_first known ≡ Some name) (plan : plan_of first (Some known) ≡ plan_on known first name) where
+  of-job : (bytes : List ℕ) (read : Result Job JobFault) → map.get first.held name ≡ Some bytes → job bytes ≡ read
+      → IsCaused (Some known) first (job_plan known first name (accepted read))
+  of-job bytes (Err fault) held is = record {
+    known = known;
+    name = name;
+    bytes = bytes;
+    fault = fault;
+    commanded = refl;
+    its = its;
+    held = held;
+    refusal = is;
+  }
+  of-job bytes (Ok j) held is =
+      of-plan (Some known) first (moves_for known j.steps) (start_of first j) (fit_for known j.steps)
+      (plan ∙ ap (λ f. job_plan known first name (held_job f)) held
+      ∙ ap (λ r. job_plan known first name (accepted r)) is)
 
-of-file : (first : Told) (name : List ℕ) (file : Option (List ℕ)) → map.get first.held name ≡ file → IsCaused (Some (build name)) first (build_plan first name file)
-of-file first name None held = inl (record { known = build name; name = name; commanded = refl; named = refl; absent = held })
-of-file first name (Some bytes) held = of-job first name bytes (job bytes) held refl
+  of-file : (file : Option (List ℕ)) → map.get first.held name ≡ file
+      → IsCaused (Some known) first (job_plan known first name (held_job file))
+  of-file None held = inl (record { known = known; name = name; commanded = refl; named = reads; absent = held })
+  of-file (Some bytes) held = of-job bytes (job bytes) held refl
+
+  on-caused : IsCaused (Some known) first (plan_of first (Some known))
+  on-caused = subst (IsCaused (Some known) first) (sym plan) (of-file (map.get first.held name) refl)
 
 of-answer : (first : Told) (name : List ℕ) (address : ℕ) (bytes : List ℕ) (found : Result (List ℕ) LookupFault) → map.get first.held name ≡ Some bytes → length bytes ≤ longest_file → answer bytes address ≡ found
     → plan_of first (Some (lookup name address)) ≡ answer_plan first name found → IsCaused (Some (lookup name address)) first (answer_plan first name found)
 of-answer first name address bytes (Err fault) held within is plan =
     record { name = name; address = address; bytes = bytes; fault = fault; commanded = refl; held = held; within = within; damage = is }
 of-answer first name address bytes (Ok text) held within is plan =
-    of-plan (Some (lookup name address)) first (shows (printing text) ∷ []) (alone first) (shown text) plan
+    of-plan (Some (lookup name address)) first (shows (printing text) ∷ []) (alone first) (fit_shown text) plan
 
 abbrev unless_held : (first : Told) (name : List ℕ) (address : ℕ) → Option (List ℕ) → Option Cause → Plan
 unless_held first name address file why = unless_unreadable why name (answered_in address first name file)
@@ -186,8 +163,16 @@ of-looked first name address (Some bytes) held = of-bytes first name address byt
 -- the status of an ending has its cause
 ending_caused : (command : Option Command) (first : Told) → Causes (ending first command).status command first
 ending_caused None first = refl
-ending_caused (Some (build name)) first = of-file first name (map.get first.held name) refl
+ending_caused (Some (build name)) first = on-caused (build name) first name refl refl refl
 ending_caused (Some (lookup name address)) first = of-looked first name address (map.get first.held name) refl
+ending_caused (Some (explain name address)) first = on-caused (explain name address) first name refl refl refl
+ending_caused (Some (gen lines file)) first =
+    of-plan (Some (gen lines file)) first (moves_of (gen_steps file)) (gen_start lines first)
+    (fit_moves Whole [] (gen_steps file)) refl
+ending_caused (Some (publish name block file)) first =
+    on-caused (publish name block file) first name refl refl refl
+ending_caused (Some (check name url)) first = refl
+ending_caused (Some (census name)) first = refl
 
 -- an answer prevails, or it has its cause
 pub caused : (command : Option Command) (first : Told) (status : Status) → IsAnswer command first status → Prevails command first status ⊎ Causes status command first
@@ -212,24 +197,78 @@ free-status : (command : Option Command) (first : Told) → IsFree command first
 free-status command first free =
     ap (λ e. e.status) (ap (ending_by first) free.plan ∙ ap ending_of (ends-free free.moves free.start free.free).1)
 
-absent-known : (known : Command) (name : List ℕ) (first : Told) → file_first known ≡ Some name → map.get first.held name ≡ None → (ending first (Some known)).status ≡ statuses.Missing
-absent-known (build other) name first named absent =
-    let same : other ≡ name = cc in
-    ap (λ n. (ending_by first (build_plan first n (map.get first.held n))).status) same ∙ ap (λ f. (ending_by first (build_plan first name f)).status) absent
+-- the plan of a command that does a job
+abbrev status_by : (first : Told) → Plan → Status
+status_by first plan = (ending_by first plan).status
+
+abbrev known_status : Command → (first : Told) → Status
+known_status known first = (ending first (Some known)).status
+
+absent-job : (known : Command) (name other : List ℕ) (first : Told) → other ≡ name → map.get first.held name ≡ None
+    → status_by first (plan_on known first other) ≡ statuses.Missing
+absent-job known name other first same absent =
+    ap (λ n. status_by first (plan_on known first n)) same
+    ∙ ap (λ f. status_by first (job_plan known first name (held_job f))) absent
+
+absent-known : (known : Command) (name : List ℕ) (first : Told) → file_first known ≡ Some name
+    → map.get first.held name ≡ None → known_status known first ≡ statuses.Missing
+absent-known (build other) name first named absent = absent-job (build other) name other first (cc) absent
 absent-known (lookup other address) name first named absent =
     let same : other ≡ name = cc in
-    ap (λ n. (ending_by first (lookup_plan first n address (map.get first.held n))).status) same
-    ∙ ap (λ f. (ending_by first (lookup_plan first name address f)).status) absent
-    ∙ ap (λ why. (ending_by first (unless_held first name address None why)).status) (unreadable-none longest_file None refl)
+    ap (λ n. status_by first (lookup_plan first n address (map.get first.held n))) same
+    ∙ ap (λ f. status_by first (lookup_plan first name address f)) absent
+    ∙ ap (λ why. status_by first (unless_held first name address None why)) (unreadable-none longest_file None refl)
+absent-known (explain other address) name first named absent =
+    absent-job (explain other address) name other first (cc) absent
+absent-known (gen lines file) name first named absent = absurd (cc)
+absent-known (publish other block file) name first named absent =
+    absent-job (publish other block file) name other first (cc) absent
+absent-known (check other url) name first named absent = absurd (cc)
+absent-known (census other) name first named absent = absurd (cc)
 
-absent-status : (command : Option Command) (first : Told) → IsAbsent command first → (ending first command).status ≡ statuses.Missing
-absent-status command first absent = ap (λ c. (ending first c).status) absent.commanded ∙ absent-known absent.known absent.name first absent.named absent.absent
+absent-status : (command : Option Command) (first : Told) → IsAbsent command first
+    → (ending first command).status ≡ statuses.Missing
+absent-status command first absent =
+    ap (λ c. (ending first c).status) absent.commanded
+    ∙ absent-known absent.known absent.name first absent.named absent.absent
 
-refused-status : (command : Option Command) (first : Told) → IsNoJob command first → (ending first command).status ≡ statuses.Job
+refused-job : (known : Command) (name other bytes : List ℕ) (fault : JobFault) (first : Told) → other ≡ name
+    → map.get first.held name ≡ Some bytes → job bytes ≡ Err fault
+    → status_by first (plan_on known first other) ≡ statuses.Job
+refused-job known name other bytes fault first same held refusal =
+    ap (λ n. status_by first (plan_on known first n)) same
+    ∙ ap (λ f. status_by first (job_plan known first name (held_job f))) held
+    ∙ ap (λ r. status_by first (job_plan known first name (accepted r))) refusal
+
+refused-known : (known : Command) (name bytes : List ℕ) (fault : JobFault) (first : Told) → job_of known ≡ Some name
+    → map.get first.held name ≡ Some bytes → job bytes ≡ Err fault → known_status known first ≡ statuses.Job
+refused-known (build other) name bytes fault first its held refusal =
+    refused-job (build other) name other bytes fault first (cc) held refusal
+refused-known (lookup other address) name bytes fault first its held refusal = absurd (cc)
+refused-known (explain other address) name bytes fault first its held refusal =
+    refused-job (explain other address) name other bytes fault first (cc) held refusal
+refused-known (gen lines file) name bytes fault first its held refusal = absurd (cc)
+refused-known (publish other block file) name bytes fault first its held refusal =
+    refused-job (publish other block file) name other bytes fault first (cc) held refusal
+refused-known (check other url) name bytes fault first its held refusal = absurd (cc)
+refused-known (census other) name bytes fault first its held refusal = absurd (cc)
+
+refused-status : (command : Option Command) (first : Told) → IsNoJob command first
+    → (ending first command).status ≡ statuses.Job
 refused-status command first none =
-    ap (λ e. (ending first e).status) none.commanded
-    ∙ ap (λ f. (ending_by first (build_plan first none.name f)).status) none.held
-    ∙ ap (λ r. (ending_by first (job_plan first none.name r)).status) none.refusal
+    ap (λ c. (ending first c).status) none.commanded
+    ∙ refused-known none.known none.name none.bytes none.fault first none.its none.held none.refusal
+
+words-status : (command : Option Command) (first : Told) → is_command command ≡ false
+    → (ending first command).status ≡ statuses.Words
+words-status None first none = refl
+words-status (Some (build name)) first none = absurd (cc)
+words-status (Some (lookup name address)) first none = absurd (cc)
+words-status (Some (explain name address)) first none = absurd (cc)
+words-status (Some (gen lines file)) first none = absurd (cc)
+words-status (Some (publish name block file)) first none = absurd (cc)
+words-status (Some (check name url)) first none = refl
+words-status (Some (census name)) first none = refl
 
 over-status : (command : Option Command) (first : Told) → IsOverLimit command first → (ending first command).status ≡ statuses.Source
 over-status command first over =
@@ -247,7 +286,7 @@ damaged-status command first damaged =
 cause-status : (status : Status) (command : Option Command) (first : Told) → Causes status command first → (ending first command).status ≡ status
 cause-status statuses.Done command first cause = free-status command first cause
 cause-status statuses.Memory command first cause = absurd cause
-cause-status statuses.Words command first cause = ap (λ c. (ending first c).status) cause
+cause-status statuses.Words command first cause = words-status command first cause
 cause-status statuses.ReadFault command first cause = absurd cause
 cause-status statuses.Missing command first cause =
     elim cause [ inl absent ↦ absent-status command first absent | inr found ↦ blocked-status causes.Missing command first found ]
@@ -260,7 +299,9 @@ cause-status statuses.Source command first cause =
     ]
 cause-status statuses.TooLarge command first cause = blocked-status causes.TooLarge command first cause
 cause-status statuses.File command first cause = damaged-status command first cause
-cause-status statuses.Drop command first cause = absurd cause
+cause-status statuses.Drop command first cause = blocked-status causes.NotThere command first cause
+cause-status statuses.Mark command first cause = blocked-status causes.NoMark command first cause
+cause-status statuses.Absent command first cause = blocked-status causes.NoFeed command first cause
 
 -- where the cause of a status stands, the answer is that status or one that prevails
 pub certain : (command : Option Command) (first : Told) (answer : Status) → IsAnswer command first answer

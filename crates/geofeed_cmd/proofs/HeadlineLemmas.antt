@@ -8,17 +8,17 @@ use Rattle.geo_terms.specs.Precedence.{record_at}
 use Rattle.least_nodes.specs.NodeList.{Member, at, says, go, side, records_at, map_member, map_pair}
 use Rattle.least_nodes.specs.Laws.{Finds}
 use Rattle.update_session.specs.State.{State, FileValue}
-use Rattle.geofeed_cmd.specs.declared.job.Act.TheVariants.{Emit}
-use Rattle.geofeed_cmd.specs.declared.job.Step.{Step}
+use Rattle.job_lines.specs.declared.act.Act.TheVariants.{Emit}
+use Rattle.job_lines.specs.declared.job.Step.{Step}
 use Rattle.geofeed_cmd.specs.declared.status.Status.{Status}
 use Rattle.geofeed_cmd.specs.declared.status.Status.TheVariants as statuses
-use Rattle.geofeed_cmd.specs.Run.Acts.{does}
+use Rattle.job_run.specs.Acts.{does}
 use Rattle.geofeed_cmd.specs.Run.Answers.{Comes, IsDone, Prevails, SpendsAll, read, write, memory, spent}
-use Rattle.geofeed_cmd.specs.Commands.{Command}
-use Rattle.geofeed_cmd.specs.Run.Ending.{Reaches}
-use Rattle.geofeed_cmd.specs.Run.Published.{IsLeastByValue, IsPublished}
-use Rattle.geofeed_cmd.specs.Run.Seen.{Seen}
-use Rattle.geofeed_cmd.specs.Run.World.{World}
+use Rattle.command_words.specs.Commands.{Command}
+use Rattle.geofeed_cmd.specs.Run.Plans.{Reaches}
+use Rattle.job_run.specs.Published.{IsLeastByValue, IsPublished}
+use Rattle.job_run.specs.Seen.{Seen}
+use Rattle.job_run.specs.World.{World}
 use Rattle.geofeed_cmd.proofs.ValueLemmas.{record_of, record_back}
 
 module _ {A B : Type 0} (f : A → B) where

@@ -4,17 +4,17 @@ use Rattle.std.specs.Prelude.{Option, Some, slice_get}
 use Rattle.geo_outside.specs.Count.{Rose}
 use Rattle.geo_outside.specs.Files.{Told}
 use Rattle.geofeed_cmd.specs.declared.status.Status.TheVariants as statuses
-use Rattle.geofeed_cmd.specs.declared.stop.Stop.{Stop}
-use Rattle.geofeed_cmd.specs.declared.stop.Stop.TheVariants.{SinkFailed, Memory}
-use Rattle.geofeed_cmd.specs.Commands.{Command}
-use Rattle.geofeed_cmd.specs.Run.Acts.{Move, shows, after}
+use Rattle.job_run.specs.declared.stop.Stop.{Stop}
+use Rattle.job_run.specs.declared.stop.Stop.TheVariants.{SinkFailed, Memory}
+use Rattle.command_words.specs.Commands.{Command}
+use Rattle.job_run.specs.Acts.{Move, shows, after}
 use Rattle.geofeed_cmd.specs.Run.Answers.{Comes, Leaves}
-use Rattle.geofeed_cmd.specs.Run.Ending.{plan_of, planned, alone}
+use Rattle.geofeed_cmd.specs.Run.Plans.{plan_of, planned, alone}
 use Rattle.geofeed_cmd.specs.Run.Lines.{status_of}
-use Rattle.geofeed_cmd.specs.Run.Published.{Publishes}
-use Rattle.geofeed_cmd.specs.Run.Seen.{Seen, Prints}
-use Rattle.geofeed_cmd.specs.Run.Stops.{Halts, Tail}
-use Rattle.geofeed_cmd.specs.Run.World.{printing}
+use Rattle.job_run.specs.Published.{Publishes}
+use Rattle.job_run.specs.Seen.{Seen, Prints}
+use Rattle.job_run.specs.Stops.{Halts, Tail}
+use Rattle.job_run.specs.World.{printing}
 use Rattle.geofeed_cmd.proofs.AnswerLemmas.{at_planned, by_cause}
 
 only_move : (text : List ℕ) (count : ℕ) (move : Move) → slice_get (shows (printing text) ∷ []) count ≡ Some move → shows (printing text) ≡ move

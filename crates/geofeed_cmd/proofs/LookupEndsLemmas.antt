@@ -5,13 +5,14 @@ use Rattle.std.specs.FinMap as map
 use Rattle.geo_addr.specs.Bits.{bits_of}
 use Rattle.geo_outside.specs.Files.{Told}
 use Rattle.mmdb_file.specs.Walk.{walk}
-use Rattle.geofeed_cmd.specs.declared.stop.Cause.{Cause}
-use Rattle.geofeed_cmd.specs.declared.stop.Cause.TheVariants.{TooLong}
-use Rattle.geofeed_cmd.specs.Commands.{lookup}
-use Rattle.geofeed_cmd.specs.Lookup.{answer, answer_of, looked}
-use Rattle.geofeed_cmd.specs.Lookup.Ends.{EndsByCases}
-use Rattle.geofeed_cmd.specs.Run.Ending.{Ending, ending, ending_by, answer_plan, answered_in, longest_file, lookup_plan, unless_unreadable}
-use Rattle.geofeed_cmd.proofs.ActLemmas.{readable, unreadable-long, unreadable-none}
+use Rattle.job_run.specs.declared.stop.Cause.{Cause}
+use Rattle.job_run.specs.declared.stop.Cause.TheVariants.{TooLong}
+use Rattle.command_words.specs.Commands.{lookup}
+use Rattle.file_lookup.specs.Lookup.{answer, answer_of, looked}
+use Rattle.geofeed_cmd.specs.Run.LookupEnds.{EndsByCases}
+use Rattle.geofeed_cmd.specs.Run.Ending.{Ending, ending, ending_by}
+use Rattle.geofeed_cmd.specs.Run.Plans.{answer_plan, answered_in, longest_file, lookup_plan, unless_unreadable}
+use Rattle.job_run.proofs.ActLemmas.{readable, unreadable-long, unreadable-none}
 
 answer_is : (bytes : List ℕ) (address : ℕ) → answer bytes address ≡ answer_of (walk bytes (bits_of 128 address))
 unfolding answer looked

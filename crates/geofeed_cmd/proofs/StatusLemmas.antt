@@ -1,9 +1,9 @@
 -- Which stop has a status.
 use Rattle.std.proofs.Common.{◌≡◌, ◌⊎◌, inl, inr, refl}
 use Rattle.geofeed_cmd.specs.declared.status.Status.TheVariants as statuses
-use Rattle.geofeed_cmd.specs.declared.stop.Cause.TheVariants.{Words, Missing, Job, TooLong, TooMany, TooLarge, File}
-use Rattle.geofeed_cmd.specs.declared.stop.Stop.{Stop}
-use Rattle.geofeed_cmd.specs.declared.stop.Stop.TheVariants.{Blocked, ReadFailed, PutFailed, SinkFailed, Memory}
+use Rattle.job_run.specs.declared.stop.Cause.TheVariants.{Words, Missing, Job, TooLong, TooMany, NotThere, NoMark, NoFeed, TooLarge, File}
+use Rattle.job_run.specs.declared.stop.Stop.{Stop}
+use Rattle.job_run.specs.declared.stop.Stop.TheVariants.{Blocked, ReadFailed, PutFailed, SinkFailed, Memory}
 use Rattle.geofeed_cmd.specs.Run.Lines.{status_of}
 
 pub read_status : (why : Stop) → status_of why ≡ statuses.ReadFault → why ≡ ReadFailed
@@ -12,6 +12,9 @@ read_status (Blocked Missing) is = cc
 read_status (Blocked (Job fault)) is = cc
 read_status (Blocked TooLong) is = cc
 read_status (Blocked TooMany) is = cc
+read_status (Blocked NotThere) is = cc
+read_status (Blocked NoMark) is = cc
+read_status (Blocked NoFeed) is = cc
 read_status (Blocked TooLarge) is = cc
 read_status (Blocked (File fault)) is = cc
 read_status ReadFailed is = refl
@@ -25,6 +28,9 @@ missing_status (Blocked Missing) is = refl
 missing_status (Blocked (Job fault)) is = cc
 missing_status (Blocked TooLong) is = cc
 missing_status (Blocked TooMany) is = cc
+missing_status (Blocked NotThere) is = cc
+missing_status (Blocked NoMark) is = cc
+missing_status (Blocked NoFeed) is = cc
 missing_status (Blocked TooLarge) is = cc
 missing_status (Blocked (File fault)) is = cc
 missing_status ReadFailed is = cc
@@ -38,6 +44,9 @@ words_status (Blocked Missing) is = cc
 words_status (Blocked (Job fault)) is = cc
 words_status (Blocked TooLong) is = cc
 words_status (Blocked TooMany) is = cc
+words_status (Blocked NotThere) is = cc
+words_status (Blocked NoMark) is = cc
+words_status (Blocked NoFeed) is = cc
 words_status (Blocked TooLarge) is = cc
 words_status (Blocked (File fault)) is = cc
 words_status ReadFailed is = cc
@@ -51,6 +60,9 @@ write_status (Blocked Missing) is = absurd (cc)
 write_status (Blocked (Job fault)) is = absurd (cc)
 write_status (Blocked TooLong) is = absurd (cc)
 write_status (Blocked TooMany) is = absurd (cc)
+write_status (Blocked NotThere) is = absurd (cc)
+write_status (Blocked NoMark) is = absurd (cc)
+write_status (Blocked NoFeed) is = absurd (cc)
 write_status (Blocked TooLarge) is = absurd (cc)
 write_status (Blocked (File fault)) is = absurd (cc)
 write_status ReadFailed is = absurd (cc)

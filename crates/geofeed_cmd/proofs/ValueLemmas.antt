@@ -13,7 +13,7 @@ use Rattle.mmdb_data.specs.View.{members_of}
 use Rattle.mmdb_file.specs.FileImage.{same_answer, record_tree}
 use Rattle.mmdb_file.specs.PlaceValue.{place_value, one, unless_empty, subdivision, subdivision_list, city_member, country_member, postal_member, region_member}
 use Rattle.mmdb_file.proofs.PlaceTreeLemmas.{answer_equality}
-use Rattle.geofeed_cmd.specs.Run.Published.{AreDistinct}
+use Rattle.job_run.specs.Published.{AreDistinct}
 use Rattle.update_session.specs.State.{State}
 
 both : (a b : Bool) → a && b ≡ true → (a ≡ true) × (b ≡ true)

@@ -1,4 +1,2 @@
 pub mod Commands
-pub mod Job
-pub mod Lookup
 pub mod Run

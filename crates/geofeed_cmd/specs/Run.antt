@@ -1,12 +1,9 @@
--- The run of a command: its moves, where it stops, and what each answer leaves.
-pub mod Acts
+-- The run of a command: what it is to do, how it comes out, and what each answer leaves.
 pub mod Answers
 pub mod Causes
-pub mod Course
+pub mod Closes
 pub mod Ending
-pub mod Laws
 pub mod Lines
-pub mod Published
-pub mod Seen
-pub mod Stops
-pub mod World
+pub mod LookupEnds
+pub mod Pieces
+pub mod Plans

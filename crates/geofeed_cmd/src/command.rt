@@ -1,44 +1,57 @@
 //! The whole command.
-ghost use Rattle.std.specs.Prelude.{◌≡◌, ◌⊎◌, ◌↔◌, ℕ, List, None, Some, map, string_bytes};
+ghost use Rattle.std.specs.Prelude.{◌≡◌, ◌⊎◌, ◌≢◌, ◌≤◌, ◌+◌, ℕ, [], List, None, Some, false, map, string_bytes};
 ghost use Rattle.geo_outside.specs.Count.{Rose};
 ghost use Rattle.geo_outside.specs.Files.{Told};
-ghost use Rattle.geofeed_cmd.specs.Commands.{command_of};
-ghost use Rattle.geofeed_cmd.specs.Run.Acts.{does};
+ghost use Rattle.command_words.specs.Commands.{command_of};
+ghost use Rattle.command_words.specs.Words.{lines_said, named};
+ghost use Rattle.job_lines.specs.declared.act.Act.TheVariants.{Emit};
+ghost use Rattle.job_lines.specs.declared.job.Step as steps_of;
+ghost use Rattle.job_run.specs.Acts.{does};
+ghost use Rattle.job_run.specs.Published.{IsLeastByValue, IsPublished};
+ghost use Rattle.job_run.specs.Seen.{seen};
+ghost use Rattle.job_run.specs.World.{World};
 ghost use Rattle.geofeed_cmd.specs.Run.Answers.{Comes, IsAnswer, IsDone, Prevails, SpendsAll};
 ghost use Rattle.geofeed_cmd.specs.Run.Causes.{Causes, IsFree};
-ghost use Rattle.geofeed_cmd.specs.Run.Ending.{Reaches};
-ghost use Rattle.geofeed_cmd.specs.Run.Published.{IsLeastByValue, IsPublished};
-ghost use Rattle.geofeed_cmd.specs.Run.Seen.{seen};
-ghost use Rattle.geofeed_cmd.specs.Run.World.{World};
-ghost use Rattle.geofeed_cmd.specs.declared.job.Act.TheVariants.{Emit};
-ghost use Rattle.geofeed_cmd.specs.declared.job.Step as steps_of;
+ghost use Rattle.geofeed_cmd.specs.Run.Closes.{Closes};
+ghost use Rattle.geofeed_cmd.specs.Run.Lines.{stop_line};
+ghost use Rattle.job_run.specs.declared.stop.Stop.TheVariants as stops;
+ghost use Rattle.job_run.specs.declared.stop.Cause.TheVariants as causes;
+ghost use Rattle.geofeed_cmd.specs.Run.Plans.{Reaches, is_command, puts_files, reads_folder, room_of, takes_steps};
 ghost use Rattle.geofeed_cmd.specs.declared.status.Status as statuses;
 
-use crate::lookup::command::lookup;
-use crate::running::build::build;
-use crate::spoken::{Spoken, command_in};
+use crate::commands::build::build;
+use crate::commands::explain::explain;
+use crate::commands::generate::generate;
+use crate::commands::lookup::lookup;
+use crate::commands::publish::publish;
 use crate::status::Status;
-use crate::stop::{Cause, Stop, stop_at};
+use crate::stop::stop_at;
+use command_words::{Spoken, command_in};
 use geo_outside::{Folder, Gate, Sink, Steps};
+use job_run::{Cause, Stop};
+use publish_move::is_plain;
 use std::alloc::Global;
+use std::marker::Sync;
 use std::sync::ledger::Ledger;
 use std::thread::Threads;
 
-/// Does the command that the words are: `build JOB` does the job in the file JOB, and `lookup FILE ADDR`
-/// prints what FILE says of the address ADDR.
+/// Does the command that the words are.
+///
+/// `build JOB` does the job in the file JOB, `explain JOB ADDR` prints why the address ADDR has its record by the
+/// sources of that job, and `lookup FILE ADDR` prints what FILE says of ADDR.
 ///
 /// Files are read and put by `folder`, and what is printed goes to `out`. A job is done line by line. The
 /// first line that cannot be done ends it, and one line on why is printed behind what was printed before.
 ///
 /// What each answer leaves is in the document on runs (`docs/run.md`): `Comes` has a case for each, and
 /// `Causes` says of the job alone when it comes.
-pub fn run<R: Threads, F: Folder, O: Sink, G: Gate, L: Ledger>(
-    _rt: &R,
+pub fn run<R: Threads + Sync, F: Folder, O: Sink, G: Gate, L: Ledger>(
+    rt: &R,
     alloc: Global,
     words: &[String],
     folder: &mut F,
     out: &mut O,
-    _gate: &G,
+    gate: &G,
     steps: &mut Steps<L>,
 ) -> Status
     // At `Done` every step was done: files, puts and text are those of the job's run.
@@ -50,59 +63,152 @@ pub fn run<R: Threads, F: Folder, O: Sink, G: Gate, L: Ledger>(
     // Each file that was written is a fresh build of the sources then in force; the walk through it gives every
     // address the value of its record, or none; and no list of nodes that finds the same records is shorter.
     ensures headline { (first : Told) → F.told folder.old ≡ Some first → result ≡ Status.Done
-        → (step : steps_of.Step) (name : List ℕ) (world : World) → Reaches (command_of (map string_bytes words.now)) first (does step) world
+        → (step : steps_of.Step) (name : List ℕ) (world : World)
+        → Reaches (command_of (map string_bytes words.now)) first (does step) world
         → step.act ≡ Emit name → IsPublished world.session.state }
     ensures by_value { (first : Told) → F.told folder.old ≡ Some first → result ≡ Status.Done
-        → (step : steps_of.Step) (name : List ℕ) (world : World) → Reaches (command_of (map string_bytes words.now)) first (does step) world
+        → (step : steps_of.Step) (name : List ℕ) (world : World)
+        → Reaches (command_of (map string_bytes words.now)) first (does step) world
         → step.act ≡ Emit name → IsLeastByValue world.session.state }
 
     // What there is at each answer.
-    ensures comes { (first : Told) → F.told folder.old ≡ Some first
-        → Comes result (command_of (map string_bytes words.now)) first
+    ensures comes { (first : Told) → F.told folder.old ≡ Some first → Comes result (command_of (map string_bytes words.now)) first
         (seen (F.told folder.old) (O.written out.old) (O.faults out.old) steps.old)
         (seen (F.told folder.new) (O.written out.new) (O.faults out.new) steps.new)
         (F.put_faults folder.old) (F.put_faults folder.new) }
 
     // Each answer has its cause, and a cause no other answer but those that prevail.
     ensures exact { (first : Told) → F.told folder.old ≡ Some first → IsAnswer (command_of (map string_bytes words.now)) first result }
-    ensures caused { (first : Told) → F.told folder.old ≡ Some first → Prevails (command_of (map string_bytes words.now)) first result ⊎ Causes result (command_of (map string_bytes words.now)) first }
+    ensures caused { (first : Told) → F.told folder.old ≡ Some first
+        → Prevails (command_of (map string_bytes words.now)) first result ⊎ Causes result (command_of (map string_bytes words.now)) first }
     ensures certain { (first : Told) → F.told folder.old ≡ Some first
-        → (status : statuses.Status) → Causes status (command_of (map string_bytes words.now)) first → (result ≡ status) ⊎ Prevails (command_of (map string_bytes words.now)) first result }
-    ensures complete { (first : Told) → F.told folder.old ≡ Some first → IsFree (command_of (map string_bytes words.now)) first → ¬ SpendsAll (command_of (map string_bytes words.now)) first
-        → ¬ Rose (F.read_faults folder.old) (F.read_faults folder.new) → ¬ Rose (F.put_faults folder.old) (F.put_faults folder.new) → ¬ Rose (O.faults out.old) (O.faults out.new)
+        → (status : statuses.Status) → Causes status (command_of (map string_bytes words.now)) first
+        → (result ≡ status) ⊎ Prevails (command_of (map string_bytes words.now)) first result }
+    ensures complete { (first : Told) → F.told folder.old ≡ Some first
+        → IsFree (command_of (map string_bytes words.now)) first → ¬ SpendsAll (command_of (map string_bytes words.now)) first
+        → ¬ Rose (F.read_faults folder.old) (F.read_faults folder.new)
+        → ¬ Rose (F.put_faults folder.old) (F.put_faults folder.new)
+        → ¬ Rose (O.faults out.old) (O.faults out.new)
         → (result ≡ Status.Done) ⊎ (result ≡ Status.Memory) }
 
     // These stand whatever the folder and the sink tell.
-    ensures words { (result ≡ Status.Words) ↔ (command_of (map string_bytes words.now) ≡ None) }
-    ensures untouched { command_of (map string_bytes words.now) ≡ None → folder.new ≡ folder.old }
-    ensures read { result ≡ Status.ReadFault → Rose (F.read_faults folder.old) (F.read_faults folder.new) }
+    ensures words { result ≡ Status.Words → is_command (command_of (map string_bytes words.now)) ≡ false }
+    ensures none { is_command (command_of (map string_bytes words.now)) ≡ false
+        → (result ≡ Status.Words) ⊎ (result ≡ Status.Memory) }
+    ensures untouched { is_command (command_of (map string_bytes words.now)) ≡ false → folder.new ≡ folder.old }
+    ensures unput { puts_files (command_of (map string_bytes words.now)) ≡ false → F.told folder.new ≡ F.told folder.old }
+    ensures still { takes_steps (command_of (map string_bytes words.now)) ≡ false → steps.new ≡ steps.old }
+    ensures given { (first : Told) → F.told folder.old ≡ Some first
+        → F.given folder.new ≤ F.given folder.old + room_of first (command_of (map string_bytes words.now)) }
+    ensures read { result ≡ Status.ReadFault
+        → Rose (F.read_faults folder.old) (F.read_faults folder.new) }
     ensures missing { result ≡ Status.Missing → Rose (F.misses folder.old) (F.misses folder.new) }
-    ensures write { result ≡ Status.WriteFault → Rose (F.put_faults folder.old) (F.put_faults folder.new) ⊎ Rose (O.faults out.old) (O.faults out.new) }
+    ensures unread { reads_folder (command_of (map string_bytes words.now)) ≡ false → (result ≢ Status.ReadFault)
+        × (F.given folder.new ≤ F.given folder.old) }
+    ensures write { result ≡ Status.WriteFault
+        → Rose (F.put_faults folder.old) (F.put_faults folder.new)
+        ⊎ Rose (O.faults out.old) (O.faults out.new) }
+    ensures unprinted { puts_files (command_of (map string_bytes words.now)) ≡ false → result ≡ Status.WriteFault
+        → Rose (O.faults out.old) (O.faults out.new) }
 {
-    do_words(alloc, words, folder, out, steps)
+    do_words(rt, alloc, words, folder, out, gate, steps)
 }
 
-fn do_words<F: Folder, O: Sink, L: Ledger>(
+fn do_words<R: Threads + Sync, F: Folder, O: Sink, G: Gate, L: Ledger>(
+    rt: &R,
     alloc: Global,
     words: &[String],
     folder: &mut F,
     out: &mut O,
+    gate: &G,
     steps: &mut Steps<L>,
 ) -> Status
-    ensures comes { (first : Told) → F.told folder.old ≡ Some first
-        → Comes result (command_of (map string_bytes words.now)) first
+    ensures comes { (first : Told) → F.told folder.old ≡ Some first → Comes result (command_of (map string_bytes words.now)) first
         (seen (F.told folder.old) (O.written out.old) (O.faults out.old) steps.old)
         (seen (F.told folder.new) (O.written out.new) (O.faults out.new) steps.new)
         (F.put_faults folder.old) (F.put_faults folder.new) }
-    ensures words { (result ≡ Status.Words) ↔ (command_of (map string_bytes words.now) ≡ None) }
-    ensures untouched { command_of (map string_bytes words.now) ≡ None → folder.new ≡ folder.old }
-    ensures read { result ≡ Status.ReadFault → Rose (F.read_faults folder.old) (F.read_faults folder.new) }
+    ensures words { result ≡ Status.Words → is_command (command_of (map string_bytes words.now)) ≡ false }
+    ensures none { is_command (command_of (map string_bytes words.now)) ≡ false
+        → (result ≡ Status.Words) ⊎ (result ≡ Status.Memory) }
+    ensures untouched { is_command (command_of (map string_bytes words.now)) ≡ false → folder.new ≡ folder.old }
+    ensures unput { puts_files (command_of (map string_bytes words.now)) ≡ false → F.told folder.new ≡ F.told folder.old }
+    ensures still { takes_steps (command_of (map string_bytes words.now)) ≡ false → steps.new ≡ steps.old }
+    ensures given { (first : Told) → F.told folder.old ≡ Some first
+        → F.given folder.new ≤ F.given folder.old + room_of first (command_of (map string_bytes words.now)) }
+    ensures read { result ≡ Status.ReadFault
+        → Rose (F.read_faults folder.old) (F.read_faults folder.new) }
     ensures missing { result ≡ Status.Missing → Rose (F.misses folder.old) (F.misses folder.new) }
-    ensures write { result ≡ Status.WriteFault → Rose (F.put_faults folder.old) (F.put_faults folder.new) ⊎ Rose (O.faults out.old) (O.faults out.new) }
+    ensures unread { reads_folder (command_of (map string_bytes words.now)) ≡ false → (result ≢ Status.ReadFault)
+        × (F.given folder.new ≤ F.given folder.old) }
+    ensures write { result ≡ Status.WriteFault
+        → Rose (F.put_faults folder.old) (F.put_faults folder.new)
+        ⊎ Rose (O.faults out.old) (O.faults out.new) }
+    ensures unprinted { puts_files (command_of (map string_bytes words.now)) ≡ false → result ≡ Status.WriteFault
+        → Rose (O.faults out.old) (O.faults out.new) }
 {
     match command_in(words) {
-        Some(Spoken::Build(name)) => build(alloc, name, folder, out, steps),
-        Some(Spoken::Lookup(name, at)) => lookup(alloc, name, at, folder, out),
-        None => stop_at(alloc, Stop::Blocked(Cause::Words), 0, "", out),
+        Some(spoken) => do_spoken(rt, alloc, spoken, folder, out, gate, steps),
+        None => no_command(alloc, out),
     }
+}
+
+/// Does a command as the words spoke it.
+fn do_spoken<R: Threads + Sync, F: Folder, O: Sink, G: Gate, L: Ledger>(
+    rt: &R,
+    alloc: Global,
+    spoken: Spoken<'_>,
+    folder: &mut F,
+    out: &mut O,
+    gate: &G,
+    steps: &mut Steps<L>,
+) -> Status
+    requires few { lines_said spoken ≤ 1000000 }
+    ensures comes { (first : Told) → F.told folder.old ≡ Some first → Comes result (named spoken.entry) first
+        (seen (F.told folder.old) (O.written out.old) (O.faults out.old) steps.old)
+        (seen (F.told folder.new) (O.written out.new) (O.faults out.new) steps.new)
+        (F.put_faults folder.old) (F.put_faults folder.new) }
+    ensures words { result ≡ Status.Words → is_command (named spoken.entry) ≡ false }
+    ensures none { is_command (named spoken.entry) ≡ false
+        → (result ≡ Status.Words) ⊎ (result ≡ Status.Memory) }
+    ensures untouched { is_command (named spoken.entry) ≡ false → folder.new ≡ folder.old }
+    ensures unput { puts_files (named spoken.entry) ≡ false → F.told folder.new ≡ F.told folder.old }
+    ensures still { takes_steps (named spoken.entry) ≡ false → steps.new ≡ steps.old }
+    ensures given { (first : Told) → F.told folder.old ≡ Some first
+        → F.given folder.new ≤ F.given folder.old + room_of first (named spoken.entry) }
+    ensures read { result ≡ Status.ReadFault
+        → Rose (F.read_faults folder.old) (F.read_faults folder.new) }
+    ensures missing { result ≡ Status.Missing → Rose (F.misses folder.old) (F.misses folder.new) }
+    ensures unread { reads_folder (named spoken.entry) ≡ false → (result ≢ Status.ReadFault)
+        × (F.given folder.new ≤ F.given folder.old) }
+    ensures write { result ≡ Status.WriteFault
+        → Rose (F.put_faults folder.old) (F.put_faults folder.new)
+        ⊎ Rose (O.faults out.old) (O.faults out.new) }
+    ensures unprinted { puts_files (named spoken.entry) ≡ false → result ≡ Status.WriteFault
+        → Rose (O.faults out.old) (O.faults out.new) }
+{
+    match spoken {
+        Spoken::Build(name) => build(rt, alloc, name, folder, out, gate, steps),
+        Spoken::Lookup(name, at) => lookup(alloc, name, at, folder, out),
+        Spoken::Explain(name, at) => explain(rt, alloc, name, at, folder, out, gate, steps),
+        Spoken::Gen(lines, name) => generate(rt, alloc, lines, name, folder, out, gate, steps),
+        Spoken::Publish(name, block, file) => {
+            if is_plain(block) {
+                publish(rt, alloc, name, block, file, folder, out, gate, steps)
+            } else {
+                no_command(alloc, out)
+            }
+        }
+        Spoken::Check(_, _) => no_command(alloc, out),
+        Spoken::Census(_) => no_command(alloc, out),
+    }
+}
+
+/// Words that are no command.
+fn no_command<O: Sink>(alloc: Global, out: &mut O) -> Status
+    ensures status { result ≡ Status.Words }
+    ensures closed { Closes (O.written out.old) (O.written out.new) (O.faults out.old)
+        (O.faults out.new) [] (stop_line (stops.Blocked causes.Words) 0 []) }
+    ensures faults { O.faults out.old ≤ O.faults out.new }
+{
+    stop_at(alloc, Stop::Blocked(Cause::Words), 0, "", out)
 }

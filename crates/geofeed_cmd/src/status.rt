@@ -25,4 +25,8 @@ pub enum Status {
     File = 9,
     /// A source to be dropped is not there.
     Drop = 10,
+    /// A mark to be gone back to is not there.
+    Mark = 11,
+    /// The feed to be checked is not there.
+    Absent = 12,
 }

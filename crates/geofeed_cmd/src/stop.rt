@@ -1,59 +1,15 @@
 //! Why a command stops, its status then, and the line that is printed.
 ghost use Rattle.std.specs.Prelude.{◌≡◌, ◌≤◌, ◌++◌, ℕ, List, [], IfOk, codes, decimal};
 ghost use Rattle.geofeed_cmd.specs.Run.Lines.{job_line, status_of, stop_line};
-ghost use Rattle.geofeed_cmd.specs.Run.Seen.{Closes};
+ghost use Rattle.geofeed_cmd.specs.Run.Closes.{Closes};
 
-use crate::job::JobFault;
-use crate::lookup::{LookupFault, file_line};
 use crate::status::Status;
+use file_lookup::file_line;
 use geo_addr::{Memory, Text};
 use geo_outside::Sink;
+use job_lines::JobFault;
+use job_run::{Cause, Stop};
 use std::alloc::Global;
-
-/// Why a command cannot be done with what there is.
-#[derive(Clone, Copy, Debug)]
-pub(crate) enum Cause {
-    /// The words are no command.
-    Words,
-    /// The file to be read is not there.
-    Missing,
-    /// It is no job.
-    Job(JobFault),
-    /// It is over its bytes.
-    TooLong,
-    /// It is over its statements.
-    TooMany,
-    /// The file to be written is too large for the format.
-    TooLarge,
-    /// The file to be looked up in is damaged on the way to the address.
-    File(LookupFault),
-}
-
-/// Why a command stopped.
-#[derive(Clone, Copy, Debug)]
-pub(crate) enum Stop {
-    /// What there is does not allow it.
-    Blocked(Cause),
-    /// The folder failed to read.
-    ReadFailed,
-    /// The folder failed to write.
-    PutFailed,
-    /// The sink failed to print.
-    SinkFailed,
-    /// Memory ran out.
-    Memory,
-}
-
-impl From<Memory> for Stop {
-    ghost use Rattle.std.specs.Prelude.{◌≡◌};
-    ghost use Rattle.geofeed_cmd.specs.declared.stop.Stop.{Stop};
-
-    ghost from_gives = { λ _ why. why ≡ Stop.Memory };
-
-    fn from(_refused: Memory) -> Stop {
-        Stop::Memory
-    }
-}
 
 /// The status of a command that stops for this.
 pub(crate) fn status_of(why: Stop) -> Status
@@ -64,6 +20,9 @@ pub(crate) fn status_of(why: Stop) -> Status
         Stop::Blocked(Cause::Missing) => Status::Missing,
         Stop::Blocked(Cause::Job(_)) => Status::Job,
         Stop::Blocked(Cause::TooLong | Cause::TooMany) => Status::Source,
+        Stop::Blocked(Cause::NotThere) => Status::Drop,
+        Stop::Blocked(Cause::NoMark) => Status::Mark,
+        Stop::Blocked(Cause::NoFeed) => Status::Absent,
         Stop::Blocked(Cause::TooLarge) => Status::TooLarge,
         Stop::Blocked(Cause::File(_)) => Status::File,
         Stop::ReadFailed => Status::ReadFault,
@@ -89,6 +48,9 @@ pub(crate) fn stop_line(alloc: Global, why: Stop, line: u64, name: &str) -> Resu
             line,
             " statements\n",
         ),
+        Stop::Blocked(Cause::NotThere) => numbered_line(alloc, "stop drop ", line, "\n"),
+        Stop::Blocked(Cause::NoMark) => numbered_line(alloc, "stop back ", line, "\n"),
+        Stop::Blocked(Cause::NoFeed) => named_line(alloc, "stop absent ", name),
         Stop::Blocked(Cause::TooLarge) => numbered_line(alloc, "stop large ", line, "\n"),
         Stop::Blocked(Cause::File(fault)) => file_line(alloc, fault),
         Stop::ReadFailed => named_line(alloc, "stop read ", name),

@@ -4,18 +4,20 @@ use Rattle.geo_outside.specs.Count.{Rose}
 use Rattle.geo_outside.specs.Files.{Told}
 use Rattle.geofeed_cmd.specs.declared.status.Status.{Status}
 use Rattle.geofeed_cmd.specs.declared.status.Status.TheVariants as statuses
-use Rattle.geofeed_cmd.specs.declared.stop.Cause.TheVariants as causes
-use Rattle.geofeed_cmd.specs.declared.stop.Stop.{Stop}
-use Rattle.geofeed_cmd.specs.declared.stop.Stop.TheVariants as stops
-use Rattle.geofeed_cmd.specs.Commands.{Command, file_first}
-use Rattle.geofeed_cmd.specs.Run.Acts.{Move, effect, line_of}
-use Rattle.geofeed_cmd.specs.Run.Course.{course, ended}
-use Rattle.geofeed_cmd.specs.Run.Ending.{Ending, Reaches, ending, plan_of, planned}
+use Rattle.job_run.specs.declared.stop.Cause.TheVariants as causes
+use Rattle.job_run.specs.declared.stop.Stop.{Stop}
+use Rattle.job_run.specs.declared.stop.Stop.TheVariants as stops
+use Rattle.command_words.specs.Commands.{Command}
+use Rattle.job_run.specs.Acts.{Move, effect, line_of}
+use Rattle.job_run.specs.Course.{course, ended}
+use Rattle.geofeed_cmd.specs.Run.Closes.{EndsWith}
+use Rattle.geofeed_cmd.specs.Run.Ending.{Ending, ending}
+use Rattle.geofeed_cmd.specs.Run.Plans.{Reaches, file_first, plan_of, planned}
 use Rattle.geofeed_cmd.specs.Run.Lines.{stop_line}
-use Rattle.geofeed_cmd.specs.Run.Published.{Publishes}
-use Rattle.geofeed_cmd.specs.Run.Seen.{Seen, EndsWith, Prints, PrintsPart}
-use Rattle.geofeed_cmd.specs.Run.Stops.{Halts, IsSpent}
-use Rattle.geofeed_cmd.specs.Run.World.{World}
+use Rattle.job_run.specs.Published.{Publishes}
+use Rattle.job_run.specs.Seen.{Seen, Prints, PrintsPart}
+use Rattle.job_run.specs.Stops.{Halts, IsSpent}
+use Rattle.job_run.specs.World.{World}
 
 -- a command came to this ending
 pub record ComesTo (end : Ending) (status : Status) (old new : Seen) : Type 0 where
@@ -97,6 +99,8 @@ Comes statuses.Source command first old new puts puts_now = ComesTo (ending firs
 Comes statuses.TooLarge command first old new puts puts_now = ComesTo (ending first command) statuses.TooLarge old new ⊎ IsSpentAt command first old new
 Comes statuses.File command first old new puts puts_now = ComesTo (ending first command) statuses.File old new
 Comes statuses.Drop command first old new puts puts_now = ComesTo (ending first command) statuses.Drop old new
+Comes statuses.Mark command first old new puts puts_now = ComesTo (ending first command) statuses.Mark old new
+Comes statuses.Absent command first old new puts puts_now = ComesTo (ending first command) statuses.Absent old new
 
 -- the emits that a command reaches may take so many steps that they are not counted
 pub record SpendsAll (command : Option Command) (first : Told) : Type 0 where

@@ -1,20 +1,20 @@
 -- The causes of the answers, in the words of the job alone.
-use Rattle.std.specs.Prelude.{◌≡◌, ◌≤◌, ◌<◌, ℕ, ◌⊎◌, List, length, Option, Some, None, Err}
+use Rattle.std.specs.Prelude.{◌≡◌, ◌≤◌, ◌<◌, ℕ, ◌⊎◌, false, List, length, Option, Some, None, Err}
 use Rattle.std.specs.FinMap as map
 use Rattle.geo_outside.specs.Files.{Told}
-use Rattle.geofeed_cmd.specs.declared.job.JobFault.{JobFault}
-use Rattle.geofeed_cmd.specs.declared.lookup.LookupFault.{LookupFault}
+use Rattle.job_lines.specs.declared.fault.JobFault.{JobFault}
+use Rattle.file_lookup.specs.declared.lookup.LookupFault.{LookupFault}
 use Rattle.geofeed_cmd.specs.declared.status.Status.{Status}
 use Rattle.geofeed_cmd.specs.declared.status.Status.TheVariants as statuses
-use Rattle.geofeed_cmd.specs.declared.stop.Cause.{Cause}
-use Rattle.geofeed_cmd.specs.declared.stop.Cause.TheVariants as causes
-use Rattle.geofeed_cmd.specs.Commands.{Command, build, lookup, file_first}
-use Rattle.geofeed_cmd.specs.Run.Course.{IsAt}
-use Rattle.geofeed_cmd.specs.Run.Ending.{longest_file, plan_of, planned, Reaches}
-use Rattle.geofeed_cmd.specs.Job.{job}
-use Rattle.geofeed_cmd.specs.Lookup.{answer}
-use Rattle.geofeed_cmd.specs.Run.Acts.{Move, blocked}
-use Rattle.geofeed_cmd.specs.Run.World.{World}
+use Rattle.job_run.specs.declared.stop.Cause.{Cause}
+use Rattle.job_run.specs.declared.stop.Cause.TheVariants as causes
+use Rattle.command_words.specs.Commands.{Command, lookup}
+use Rattle.job_run.specs.Course.{IsAt}
+use Rattle.geofeed_cmd.specs.Run.Plans.{Reaches, file_first, is_command, job_of, longest_file, plan_of, planned}
+use Rattle.job_lines.specs.Job.{job}
+use Rattle.file_lookup.specs.Lookup.{answer}
+use Rattle.job_run.specs.Acts.{Move, blocked}
+use Rattle.job_run.specs.World.{World}
 
 -- the command has a plan, and no move that it reaches is blocked. Of a job: it is held and accepted, the files that it sets are there and within their limits, and the file that it emits is not too large. Of a lookup: the file is held and within its limit, and no fault stands in the way
 pub record IsFree (command : Option Command) (first : Told) : Type 0 where
@@ -33,10 +33,12 @@ pub record IsAbsent (command : Option Command) (first : Told) : Type 0 where
 
 -- the job is refused
 pub record IsNoJob (command : Option Command) (first : Told) : Type 0 where
+  pub known : Command
   pub name : List ℕ
   pub bytes : List ℕ
   pub fault : JobFault
-  pub commanded : command ≡ Some (build name)
+  pub commanded : command ≡ Some known
+  pub its : job_of known ≡ Some name
   pub held : map.get first.held name ≡ Some bytes
   pub refusal : job bytes ≡ Err fault
 
@@ -71,7 +73,7 @@ pub record IsBlockedFor (why : Cause) (command : Option Command) (first : Told) 
 abbrev pub Causes : Status → Option Command → (first : Told) → Type 0
 Causes statuses.Done command first = IsFree command first
 Causes statuses.Memory command first = ⊥
-Causes statuses.Words command first = command ≡ None
+Causes statuses.Words command first = is_command command ≡ false
 Causes statuses.ReadFault command first = ⊥
 Causes statuses.Missing command first = IsAbsent command first ⊎ IsBlockedFor causes.Missing command first
 Causes statuses.WriteFault command first = ⊥
@@ -79,4 +81,6 @@ Causes statuses.Job command first = IsNoJob command first
 Causes statuses.Source command first = IsOverLimit command first ⊎ (IsBlockedFor causes.TooLong command first ⊎ IsBlockedFor causes.TooMany command first)
 Causes statuses.TooLarge command first = IsBlockedFor causes.TooLarge command first
 Causes statuses.File command first = IsDamaged command first
-Causes statuses.Drop command first = ⊥
+Causes statuses.Drop command first = IsBlockedFor causes.NotThere command first
+Causes statuses.Mark command first = IsBlockedFor causes.NoMark command first
+Causes statuses.Absent command first = IsBlockedFor causes.NoFeed command first

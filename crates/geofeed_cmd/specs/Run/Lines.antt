@@ -1,14 +1,14 @@
 -- The status and the line of each stop.
 use Rattle.std.specs.Prelude.{ℕ, List, [], ◌++◌, codes, decimal}
-use Rattle.geofeed_cmd.specs.declared.job.JobFault.{JobFault}
-use Rattle.geofeed_cmd.specs.declared.job.JobFault.TheVariants as job_faults
+use Rattle.job_lines.specs.declared.fault.JobFault.{JobFault}
+use Rattle.job_lines.specs.declared.fault.JobFault.TheVariants as job_faults
 use Rattle.geofeed_cmd.specs.declared.status.Status.{Status}
 use Rattle.geofeed_cmd.specs.declared.status.Status.TheVariants as statuses
-use Rattle.geofeed_cmd.specs.declared.stop.Cause.{Cause}
-use Rattle.geofeed_cmd.specs.declared.stop.Cause.TheVariants.{Words, Missing, Job, TooLong, TooMany, TooLarge, File}
-use Rattle.geofeed_cmd.specs.declared.stop.Stop.{Stop}
-use Rattle.geofeed_cmd.specs.declared.stop.Stop.TheVariants.{Blocked, ReadFailed, PutFailed, SinkFailed, Memory}
-use Rattle.geofeed_cmd.specs.Lookup.{file_line}
+use Rattle.job_run.specs.declared.stop.Cause.{Cause}
+use Rattle.job_run.specs.declared.stop.Cause.TheVariants.{Words, Missing, Job, TooLong, TooMany, NotThere, NoMark, NoFeed, TooLarge, File}
+use Rattle.job_run.specs.declared.stop.Stop.{Stop}
+use Rattle.job_run.specs.declared.stop.Stop.TheVariants.{Blocked, ReadFailed, PutFailed, SinkFailed, Memory}
+use Rattle.file_lookup.specs.Lookup.{file_line}
 
 abbrev pub cause_status : Cause → Status
 cause_status Words = statuses.Words
@@ -16,6 +16,9 @@ cause_status Missing = statuses.Missing
 cause_status (Job fault) = statuses.Job
 cause_status TooLong = statuses.Source
 cause_status TooMany = statuses.Source
+cause_status NotThere = statuses.Drop
+cause_status NoMark = statuses.Mark
+cause_status NoFeed = statuses.Absent
 cause_status TooLarge = statuses.TooLarge
 cause_status (File fault) = statuses.File
 
@@ -41,6 +44,9 @@ stop_line (Blocked Missing) line name = codes "stop missing " ++ (name ++ codes 
 stop_line (Blocked (Job fault)) line name = job_line fault
 stop_line (Blocked TooLong) line name = codes "stop source " ++ (decimal line ++ codes " bytes\n")
 stop_line (Blocked TooMany) line name = codes "stop source " ++ (decimal line ++ codes " statements\n")
+stop_line (Blocked NotThere) line name = codes "stop drop " ++ (decimal line ++ codes "\n")
+stop_line (Blocked NoMark) line name = codes "stop back " ++ (decimal line ++ codes "\n")
+stop_line (Blocked NoFeed) line name = codes "stop absent " ++ (name ++ codes "\n")
 stop_line (Blocked TooLarge) line name = codes "stop large " ++ (decimal line ++ codes "\n")
 stop_line (Blocked (File fault)) line name = file_line fault
 stop_line ReadFailed line name = codes "stop read " ++ (name ++ codes "\n")

@@ -1,5 +1,5 @@
 -- What the sink says of one write, of a line that ends a command.
-use Rattle.geofeed_cmd.proofs.AnswerLemmas.{closes-written}
+use Rattle.geofeed_cmd.proofs.CloseLemmas.{closes-written}
 use Rattle.geofeed_cmd.proofs.stop.print_text.Goals as goal
 
 pub returns-then-not-is_empty-clause-closed : goal.returns-then-not-is_empty-clause-closed

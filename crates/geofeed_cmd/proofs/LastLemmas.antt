@@ -1,0 +1,182 @@
+-- How a command's answer follows from its last move, behind the sources of its job.
+use Rattle.std.proofs.Common.{◌≡◌, ℕ, zero, suc, ◌+◌, ◌≤◌, ◌⊎◌, inl, inr, List, [], ◌∷◌, ◌++◌, length, take, refl, sym}
+use Rattle.std.proofs.Common.{◌∙◌, ap, subst, arith, append_assoc}
+use Rattle.std.proofs.lemmas.List.{take-append-le}
+use Rattle.std.proofs.lemmas.Option.{slice_get_within}
+use Rattle.std.proofs.Math.Seq.{take-append_seam}
+use Rattle.std.specs.Prelude.{Option, Some, slice_get}
+use Rattle.geo_outside.specs.Count.{Rose}
+use Rattle.geo_outside.specs.Files.{Told}
+use Rattle.trie_core.proofs.StoreLemmas.{slice_get-append, slice_get_last}
+use Rattle.update_session.specs.Kept.{Held}
+use Rattle.command_words.specs.Commands.{Command}
+use Rattle.job_run.specs.declared.stop.Stop.{Stop}
+use Rattle.job_run.specs.declared.stop.Stop.TheVariants as stops
+use Rattle.job_run.specs.Acts.{Move, shows, after, effect, line_of}
+use Rattle.job_run.specs.Course.{course, ended, unless, go_on, IsAt}
+use Rattle.job_run.specs.Published.{Publishes}
+use Rattle.job_run.specs.Seen.{Seen, seen, Prints}
+use Rattle.job_run.specs.Stops.{Does, DoesAll, Fails, Halts, IsPaid, Tail}
+use Rattle.job_run.specs.World.{World, printing}
+use Rattle.job_run.proofs.CourseLemmas.{course-append}
+use Rattle.geofeed_cmd.specs.Run.Answers.{Comes, IsDone}
+use Rattle.geofeed_cmd.specs.Run.Closes.{Closes}
+use Rattle.geofeed_cmd.specs.Run.Lines.{status_of, stop_line}
+use Rattle.geofeed_cmd.specs.Run.Plans.{plan_of, planned}
+use Rattle.geofeed_cmd.proofs.AnswerLemmas.{at_planned, by_cause}
+use Rattle.geofeed_cmd.proofs.CloseLemmas.{append-nil, closes-nothing, leaves, no-line}
+
+-- a move of a list is one of the list with more behind it
+pub at_longer : (moves more : List Move) (start : World) (count : ℕ) (move : Move) (world : World)
+    → IsAt moves start count move world → IsAt (moves ++ more) start count move world
+at_longer moves more start count move world there =
+    let within = slice_get_within moves count move there.next in
+    let same = take-append-le count moves more (omega arith) in
+    record {
+      done = ap (λ (ms : List Move). course ms start) same ∙ there.done;
+      next = slice_get-append moves more count move there.next;
+    }
+
+-- the move behind a list
+at_last : (moves : List Move) (last : Move) (start world : World) → course moves start ≡ ended world
+    → IsAt (moves ++ last ∷ []) start (length moves) last world
+at_last moves last start world done = record {
+  done = ap (λ (ms : List Move). course ms start) (take-append_seam moves (last ∷ [])) ∙ done;
+  next = slice_get_last moves last;
+}
+
+prints_more : (old mid new : Option (List ℕ)) (text more : List ℕ)
+    → Prints old mid text → Prints mid new more → Prints old new (text ++ more)
+prints_more old mid new text more first then before was =
+    then (before ++ text) (first before was) ∙ ap Some (append_assoc before text more)
+
+prints_still : (old mid new : Option (List ℕ)) (text : List ℕ)
+    → Prints old mid text → Prints mid new [] → Prints old new text
+prints_still old mid new text first then before was =
+    then (before ++ text) (first before was) ∙ ap Some (append-nil (before ++ text))
+
+tail_more : (why : Stop) (old mid new : Option (List ℕ)) (text part : List ℕ)
+    → Prints old mid text → Tail why [] part mid new → Tail why text part old new
+tail_more (stops.Blocked cause) old mid new text part first tail = prints_still old mid new text first tail
+tail_more stops.ReadFailed old mid new text part first tail = prints_still old mid new text first tail
+tail_more stops.PutFailed old mid new text part first tail = prints_still old mid new text first tail
+tail_more stops.SinkFailed old mid new text part first tail = λ before was.
+    let p = tail (before ++ text) (first before was) in
+    (p.0, p.1 ∙ ap Some (append_assoc before text (take p.0 part)))
+tail_more stops.Memory old mid new text part first tail = prints_still old mid new text first tail
+
+-- a place in a list with one member more: it is one of the list's, or the last
+pub data Place (moves : List Move) (last : Move) (count : ℕ) (move : Move) : Type 0 where
+  among : slice_get moves count ≡ Some move
+      → take count (moves ++ last ∷ []) ≡ take count moves → Place moves last count move
+  at_end : last ≡ move → take count (moves ++ last ∷ []) ≡ moves → Place moves last count move
+
+place-in : (moves : List Move) (last : Move) (count : ℕ) (move : Move)
+    → slice_get (moves ++ last ∷ []) count ≡ Some move → Place moves last count move
+place-in [] last zero move next = at_end (cc) refl
+place-in [] last (suc count) move next = absurd (cc)
+place-in (first ∷ rest) last zero move next = among next refl
+place-in (first ∷ rest) last (suc count) move next = elim (place-in rest last count move next) [
+  | among here same ↦ among here (ap (λ (ms : List Move). first ∷ ms) same)
+  | at_end is same ↦ at_end is (ap (λ (ms : List Move). first ∷ ms) same)
+]
+
+module _ (command : Option Command) (first : Told) (moves : List Move) (last : Move) (start : World)
+    (plan : plan_of first command ≡ planned (moves ++ last ∷ []) start) (unspent : start.session.spent ≡ 0)
+    (session : Held) (old mid : Seen) (all : DoesAll moves start session old mid) where
+  -- the last move was made
+  pub comes_last : (session' : Held) (new : Seen) → IsPaid (effect last all.world) all.world mid.steps new.steps
+      → Does last all.world session' mid new → IsDone command first old new
+  comes_last session' new paid made = record {
+    moves = moves ++ last ∷ [];
+    start = start;
+    last = after last all.world;
+    plan = plan;
+    all = course-append moves (last ∷ []) start ∙ ap (λ o. go_on o (last ∷ [])) all.done
+        ∙ ap (λ b. unless b last all.world (ended (after last all.world))) made.free;
+    files = made.now.tells;
+    printed = prints_more old.written mid.written new.written all.world.text (effect last all.world).text
+        all.printed made.printed;
+    steps = (let p = all.steps in omega (arith, p, paid, unspent));
+    published = λ move world reach.
+        let there = at_planned command first (moves ++ last ∷ []) start plan move world reach in
+        elim (place-in moves last reach.count move there.next) [
+          | among here same ↦ all.published reach.count move world
+              (record { done = ap (λ (ms : List Move). course ms start) (sym same) ∙ there.done; next = here })
+          | at_end is same ↦
+              let both : ended all.world ≡ ended world =
+              sym all.done ∙ ap (λ (ms : List Move). course ms start) (sym same) ∙ there.done in
+              let one : all.world ≡ world = cc in
+              subst (λ (m : Move). Publishes m world.session.state) is
+              (subst (λ (w : World). Publishes last w.session.state) one made.published)
+        ];
+  }
+
+  -- the last move was not made, and a line was printed behind
+  pub comes_unmade : (why : Stop) (new : Seen) (written : Option (List ℕ)) (faults : ℕ) (line : List ℕ)
+      → line ≡ stop_line why (line_of last) (effect last all.world).name
+      → IsPaid (effect last all.world) all.world mid.steps new.steps → Fails why last all.world [] mid new
+      → Closes new.written written new.print_faults faults [] line → old.print_faults ≤ new.print_faults
+      → (puts puts_now : ℕ) → (why ≡ stops.PutFailed → Rose puts puts_now)
+      → (why ≡ stops.SinkFailed → Rose old.print_faults faults)
+      → Comes (status_of why) command first old (seen new.told written faults new.steps) puts puts_now
+  comes_unmade why new written faults line is paid fails closed rises puts puts_now put sink =
+      let now = seen new.told written faults new.steps in
+      let printed = tail_more why old.written mid.written new.written all.world.text (effect last all.world).text
+      all.printed fails.printed in
+      let steps : now.steps ≤ old.steps + (effect last all.world).session.spent =
+      let p = all.steps in omega (arith, p, paid, unspent) in
+      by_cause command first (moves ++ last ∷ []) start old now puts puts_now plan why (length moves) last all.world
+      (at_last moves last start all.world all.done) fails.files
+      (leaves why last all.world old now new.written new.print_faults line is printed closed rises) steps put sink
+
+-- the last move only prints
+module _ (text : World → List ℕ) (command : Option Command) (first : Told) (moves : List Move) (start : World)
+    (plan : plan_of first command ≡ planned (moves ++ shows (λ world. printing (text world) world) ∷ []) start)
+    (unspent : start.session.spent ≡ 0) (session : Held) (old mid : Seen) (all : DoesAll moves start session old mid)
+    (new : Seen) (told : new.told ≡ mid.told) (steps : new.steps ≡ mid.steps) where
+  abbrev shown : Move
+  shown = shows (λ world. printing (text world) world)
+
+  paid : IsPaid (effect shown all.world) all.world mid.steps new.steps
+  paid = omega (arith, steps)
+
+  pub comes_shown : Prints mid.written new.written (text all.world) → IsDone command first old new
+  comes_shown printed =
+      comes_last command first moves shown start plan unspent session old mid all session new paid
+      (record {
+        free = refl;
+        now = record { tells = told ∙ all.stands.tells; aside = refl; stands = all.stands.stands };
+        printed = printed;
+        published = tt;
+      })
+
+  fails : (why : Stop) → (why ≡ stops.SinkFailed) ⊎ (why ≡ stops.Memory)
+      → Tail why [] (text all.world) mid.written new.written → Fails why shown all.world [] mid new
+  fails why causes tail = record {
+    files = elim causes [
+      | inl failed ↦ subst (λ w. Halts w shown all.world new.told) (sym failed)
+          (record { free = refl; files = told ∙ all.stands.tells })
+      | inr out ↦ subst (λ w. Halts w shown all.world new.told) (sym out) (inl (told ∙ all.stands.tells))
+    ];
+    printed = tail;
+  }
+
+  no-line-of : (why : Stop) → (why ≡ stops.SinkFailed) ⊎ (why ≡ stops.Memory) → [] ≡ stop_line why 0 []
+  no-line-of why causes = elim causes [
+    | inl failed ↦ sym (ap (λ w. stop_line w 0 []) failed ∙ (no-line 0 []).0)
+    | inr out ↦ sym (ap (λ w. stop_line w 0 []) out ∙ (no-line 0 []).1)
+  ]
+
+  pub comes_unshown : (why : Stop) → (why ≡ stops.SinkFailed) ⊎ (why ≡ stops.Memory)
+      → Tail why [] (text all.world) mid.written new.written → old.print_faults ≤ new.print_faults
+      → (puts puts_now : ℕ) → (why ≡ stops.SinkFailed → Rose old.print_faults new.print_faults)
+      → Comes (status_of why) command first old new puts puts_now
+  comes_unshown why causes tail rises puts puts_now sink =
+      comes_unmade command first moves shown start plan unspent session old mid all why new new.written
+      new.print_faults [] (no-line-of why causes) paid (fails why causes tail)
+      (closes-nothing new.written new.written new.print_faults new.print_faults refl) rises puts puts_now
+      (λ put. absurd (elim causes [
+        | inl failed ↦ (let a = put in let b = failed in cc)
+        | inr out ↦ (let a = put in let b = out in cc)
+      ])) sink

@@ -1,0 +1,44 @@
+-- The answer of the generated job from that of its lines.
+use Rattle.std.proofs.Common.{refl, sym, ◌∙◌, ap, List, Some, inl, inr, subst, ◌≡◌}
+use Rattle.job_lines.specs.declared.job.Step.{Step}
+use Rattle.job_lines.specs.Job.{default_name}
+use Rattle.job_run.specs.declared.apart.Apart.{Apart}
+use Rattle.job_run.specs.Moves.{LacksAt, moves_of}
+use Rattle.command_words.specs.Commands.{gen}
+use Rattle.geofeed_cmd.specs.Commands.Gen.{gen_start, gen_steps}
+use Rattle.geofeed_cmd.specs.Run.Plans.{planned}
+use Rattle.geofeed_cmd.proofs.GenLemmas.{none_lacks, some_apart}
+use Rattle.geofeed_cmd.proofs.commands.generate.generate.Goals as goal
+
+pub returns-clause-comes : goal.returns-clause-comes
+returns-clause-comes g c =
+    λ first told.
+    let start = gen_start c.args.lines first in
+    let begun = c.standing_stays.ensures.begins 1700000000 default_name c.in-Ok-gen_session.session c.in-Ok-gen_session.ensures in
+    let list = c.as_slice-2.ensures.value ∙ c.in-Ok-gen_steps.ensures in
+    let files = c.as_slice.ensures.value ∙ c.in-Ok.ensures in
+    c.do_whole.ensures.comes first (Some (gen c.args.lines c.args.name.now)) start
+    (ap (λ (l : List Step). planned (moves_of l) start) (sym list))
+    (record { tells = told; aside = sym files; stands = begun }) refl refl
+
+pub returns-clause-missing : goal.returns-clause-missing
+returns-clause-missing g c =
+    λ gone.
+    let list = c.as_slice-2.ensures.value ∙ c.in-Ok-gen_steps.ensures in
+    let files = c.as_slice.ensures.value ∙ c.in-Ok.ensures in
+    elim (c.do_whole.ensures.missing_apart gone) [
+      | inl rose ↦ rose
+      | inr lacks ↦ absurd (none_lacks c.args.lines lacks.0 c.args.name.now
+          (subst (λ (fs : List Apart). LacksAt fs (gen_steps c.args.name.now) lacks.0) files
+          (subst (λ (l : List Step). LacksAt c.as_slice.result.now l lacks.0) list lacks.1)))
+    ]
+
+pub returns-clause-unread : goal.returns-clause-unread
+returns-clause-unread g c =
+    let files = c.as_slice.ensures.value ∙ c.in-Ok.ensures in
+    (c.do_whole.ensures.apart_only (λ none. some_apart c.args.lines (sym files ∙ none))).0
+
+pub returns-clause-given : goal.returns-clause-given
+returns-clause-given g c =
+    let files = c.as_slice.ensures.value ∙ c.in-Ok.ensures in
+    (c.do_whole.ensures.apart_only (λ none. some_apart c.args.lines (sym files ∙ none))).1

@@ -1,9 +1,0 @@
-use Rattle.std.proofs.Common.{◌≡◌, ◌++◌, drop, string_bytes}
-use Rattle.std.specs.List.{flat_map}
-use Rattle.geo_terms.specs.NoteText.{note_line}
-use Rattle.geofeed_cmd.proofs.running.reporting.note_lines.Given as goal
-
--- the lines of the notes that are left follow those written
-abbrev pub invariant-loop-note : goal.invariant-loop-note
-invariant-loop-note l =
-    string_bytes l.lines ++ flat_map note_line (drop l.note-index l.notes) ≡ flat_map note_line l.notes

@@ -1,0 +1,6 @@
+//! The commands.
+pub(crate) mod build;
+pub(crate) mod explain;
+pub(crate) mod generate;
+pub(crate) mod lookup;
+pub(crate) mod publish;

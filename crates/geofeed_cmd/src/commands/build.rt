@@ -1,0 +1,105 @@
+//! `build JOB`: does a job.
+ghost use Rattle.std.specs.Prelude.{◌≡◌, ◌⊎◌, ◌≤◌, ◌≢◌, ◌+◌, Option, Some};
+ghost use Rattle.geo_outside.specs.Count.{Rose};
+ghost use Rattle.geo_outside.specs.Files.{Told};
+ghost use Rattle.job_run.specs.Seen.{seen};
+ghost use Rattle.job_lines.specs.Said.{IsWithinLimits};
+ghost use Rattle.job_run.specs.Moves.{moves_of, read_rooms};
+ghost use Rattle.command_words.specs.Commands.{Command, build};
+ghost use Rattle.geofeed_cmd.specs.Run.Answers.{Comes};
+ghost use Rattle.geofeed_cmd.specs.Run.Plans.{plan_of, planned, room_of, start_of};
+
+use crate::job_file::job_in;
+use crate::status::Status;
+use crate::stop::stop_at;
+use crate::whole::do_whole;
+use fan_work::Forks;
+use geo_addr::Memory;
+use geo_outside::{Folder, Gate, Sink, Steps};
+use job_lines::Job;
+use std::alloc::Global;
+use std::marker::Sync;
+use std::sync::ledger::Ledger;
+use std::thread::Threads;
+use update_session::Session;
+use update_session::laws::standing_stays;
+
+/// Does the job in the file of this name.
+#[tactic(auto, using(crate::proofs::StatusLemmas::status_causes))]
+pub(crate) fn build<R: Threads + Sync, F: Folder, O: Sink, G: Gate, L: Ledger>(
+    rt: &R,
+    alloc: Global,
+    name: &str,
+    folder: &mut F,
+    out: &mut O,
+    gate: &G,
+    steps: &mut Steps<L>,
+) -> Status
+    ensures comes { (first : Told) → F.told folder.old ≡ Some first
+        → Comes result (Some (build name.now)) first
+        (seen (F.told folder.old) (O.written out.old) (O.faults out.old) steps.old)
+        (seen (F.told folder.new) (O.written out.new) (O.faults out.new) steps.new)
+        (F.put_faults folder.old) (F.put_faults folder.new) }
+    ensures not_words { result ≢ Status.Words }
+    ensures read { result ≡ Status.ReadFault
+        → Rose (F.read_faults folder.old) (F.read_faults folder.new) }
+    ensures missing { result ≡ Status.Missing → Rose (F.misses folder.old) (F.misses folder.new) }
+    ensures write { result ≡ Status.WriteFault
+        → Rose (F.put_faults folder.old) (F.put_faults folder.new)
+        ⊎ Rose (O.faults out.old) (O.faults out.new) }
+    ensures given { (first : Told) → F.told folder.old ≡ Some first
+        → F.given folder.new ≤ F.given folder.old + room_of first (Some (build name.now)) }
+{
+    match job_in(alloc, name, folder) {
+        Ok(job) => do_job(rt, alloc, job, folder, out, gate, steps),
+        Err(why) => stop_at(alloc, why, 0, name, out),
+    }
+}
+
+/// Does a job that was read.
+#[tactic(auto, using(crate::proofs::StatusLemmas::status_causes))]
+fn do_job<R: Threads + Sync, F: Folder, O: Sink, G: Gate, L: Ledger>(
+    rt: &R,
+    alloc: Global,
+    job: Job,
+    folder: &mut F,
+    out: &mut O,
+    gate: &G,
+    steps: &mut Steps<L>,
+) -> Status
+    requires { IsWithinLimits job }
+    ensures comes { (first : Told) → F.told folder.old ≡ Some first
+        → (command : Option Command)
+        → plan_of first command ≡ planned (moves_of job.steps) (start_of first job)
+        → Comes result command first
+        (seen (F.told folder.old) (O.written out.old) (O.faults out.old) steps.old)
+        (seen (F.told folder.new) (O.written out.new) (O.faults out.new) steps.new)
+        (F.put_faults folder.old) (F.put_faults folder.new) }
+    ensures not_words { result ≢ Status.Words }
+    ensures read { result ≡ Status.ReadFault
+        → Rose (F.read_faults folder.old) (F.read_faults folder.new) }
+    ensures missing { result ≡ Status.Missing → Rose (F.misses folder.old) (F.misses folder.new) }
+    ensures write { result ≡ Status.WriteFault
+        → Rose (F.put_faults folder.old) (F.put_faults folder.new)
+        ⊎ Rose (O.faults out.old) (O.faults out.new) }
+    ensures given { F.given folder.new ≤ F.given folder.old + read_rooms job.steps }
+{
+    standing_stays();
+    let Job {
+        meta,
+        pieces,
+        steps: list,
+    } = job;
+    let list = list.as_slice();
+    let forks = Forks {
+        rt,
+        alloc,
+        gate,
+        pieces,
+    };
+    let mut session = match Session::new(alloc, meta) {
+        Ok(session) => session,
+        Err(Memory) => return Status::Memory,
+    };
+    do_whole(&forks, &[], list, &mut session, folder, out, steps)
+}
