@@ -128,7 +128,7 @@ printf 'x|AT|ipv4|198.51.100.0|512||allocated\nx|CH|ipv6|2001:db8::|32||allocate
 # Standard output that takes nothing more.
 if [ -c /dev/full ]; then
     "$program" build job > /dev/full 2> told
-    [ $? -eq 5 ] && told 'standard output: No space left' && is_whole out.mmdb
+    [ $? -eq 5 ] && told 'standard output could not be written: No space left' && is_whole out.mmdb
 fi
 
 # Runs that are killed at any moment, and two that write one name.

@@ -7,14 +7,15 @@ top=$PWD
 . checks/with_program.bash
 
 "$top/install" "$work/usr" > printed 2>&1 || fail "it ends with status $?: $(cat printed)"
-for file in bin/geofeed share/man/man1/geofeed.1 share/bash-completion/completions/geofeed \
-    share/doc/geofeed/README.md share/doc/geofeed/docs/stops.md share/doc/geofeed/examples/first/job; do
+for file in bin/geofeed bin/feeds-of-dump share/man/man1/geofeed.1 share/bash-completion/completions/geofeed \
+    share/doc/geofeed/README.md share/doc/geofeed/docs/stops.md share/doc/geofeed/examples/first/job \
+    share/doc/geofeed/examples/realistic/expected/printed; do
     [ -f "usr/$file" ] || fail "it does not put $file"
 done
 
 cp -r usr/share/doc/geofeed/examples/first first && cd first || exit 1
 printed=$(env -i PATH=/nowhere ../usr/bin/geofeed build job) || fail "the installed program ends with status $?: $printed"
-[ "${printed##*$'\n'}" = 'emit first.mmdb nodes 211 data 176 bits 24 bytes 1661' ] || fail "the first job prints '$printed'"
+[ "${printed##*$'\n'}" = 'emit first.mmdb nodes 226 data 85 bits 24 bytes 1660' ] || fail "the first job prints '$printed'"
 cd ..
 
 # completes WORDS WANTED: what bash offers for the last of the words.
@@ -31,13 +32,17 @@ completes() {
     [ "$offered" = "$2" ] || fail "'$1' is completed by '$offered', and not '$2'"
 }
 : > 'with blank' && mkdir jobs && : > jobs/daily && : > job
-completes 'geofeed ' '--help --version -V -h build lookup'
+completes 'geofeed ' '--help --version -V -h build census check explain gen lookup publish'
 completes 'geofeed bu' 'build'
 completes 'geofeed build jo' 'job jobs'
 completes 'geofeed build jobs/' 'jobs/daily'
 completes 'geofeed lookup w' ''
 completes 'geofeed build ../' ''
 completes 'geofeed build job ' ''
+completes 'geofeed census jo' 'job jobs'
+completes 'geofeed gen jo' ''
+completes 'geofeed gen 7 jobs/' 'jobs/daily'
+completes 'geofeed publish job 192.0.2.0/24 jo' 'job jobs'
 
 "$top/install" --remove "$work/usr" > printed 2>&1 || fail "--remove ends with status $?: $(cat printed)"
 left=$(find usr ! -type d)

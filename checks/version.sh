@@ -26,21 +26,22 @@ says() {
     [ "$status" -eq "$wanted" ] || fail "'$*' ends with status $status, and not $wanted"
 }
 
-wanted=$(sed -n 's/^const VERSION: &str = "\(.*\)\\n";$/\1/p' "$source")
+# A program that the script `geofeed` has built has its commit behind that.
+wanted=$(sed -n 's/^const VERSION: &str = "\(.*\)";$/\1/p' "$source")
 for word in --version -V; do
     says 0 "$word"
-    [ -n "$wanted" ] && [ "$(cat printed)" = "$wanted" ] && [ ! -s told ] || fail "$word prints '$(cat printed)'"
+    printed=$(sed -E '1s/ commit [0-9a-f]{7,40}(\+changes)?$//' printed)
+    [ -n "$wanted" ] && [ "$printed" = "$wanted" ] && [ ! -s told ] || fail "$word prints '$(cat printed)'"
 done
 for word in --help -h; do
     says 0 "$word"
     grep -q '^  geofeed build JOB ' printed && [ ! -s told ] || fail "$word prints '$(cat printed)'"
 done
-usage=$(sed -n 's/^const USAGE: &str = "\(.*\)";$/\1/p' "$source")
 for words in '' 'build' 'build job more' '-v' '--version more' 'lookup file 192.0.2.1.5'; do
     # shellcheck disable=SC2086
     says 2 $words
     [ "$(cat printed)" = 'stop words' ] || fail "'$words' prints '$(cat printed)'"
-    [ -n "$usage" ] && [ "$(cat told)" = "$usage" ] || fail "'$words' says '$(cat told)'"
+    [ "$(wc -l < told)" -eq 1 ] && grep -q '^geofeed: ' told || fail "'$words' says '$(cat told)'"
 done
 
 verdict

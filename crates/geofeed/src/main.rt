@@ -3,6 +3,7 @@
 
 ghost use Rattle.std.specs.Prelude.{◌≡◌, ◌<◌};
 
+mod commit;
 mod disk;
 mod folder;
 mod host;
@@ -11,45 +12,58 @@ mod output;
 mod sink;
 #[cfg(test)]
 mod tests;
+mod told;
 mod whole;
 
+use crate::commit::COMMIT;
 use crate::folder::DirFolder;
 use crate::output::Output;
 use crate::sink::StdSink;
+use crate::told::{OUT_OF_MEMORY, say, tell};
 use geo_outside::{OpenGate, Sink, Steps};
 use geofeed_cmd::{Status, run};
 use std::env::Env;
 use std::fs::{File, Files};
 use std::io::{Eprint, ErrorKind, Print};
-use std::marker::Brand;
+use std::marker::{Brand, Sync};
 use std::process::ExitCode;
 use std::sync::ledger::{Blank, Ledger};
 use std::thread::Threads;
 use std::{env, io};
 
-const USAGE: &str = "usage: geofeed build JOB | geofeed lookup FILE ADDR | geofeed -h | geofeed -V";
-
 /// What `--version` prints: the program, and the toolchain that it is proved and built with.
-const VERSION: &str = "geofeed 0.1.0 (rattle-kit-13f logic dac8208d650f15bf)\n";
+const VERSION: &str = "geofeed 0.1.0 (rattle-kit-13f logic dac8208d650f15bf)";
 
 const HELP: &str = "\
 geofeed compiles the location of IP addresses into MaxMind DB files.
 
 usage:
-  geofeed build JOB          does the job's lines in order
-  geofeed lookup FILE ADDR   prints the record of one address in a file
-  geofeed -h, --help         prints this
-  geofeed -V, --version      prints the version and the toolchain's line
+  geofeed build JOB               does the job's lines in order
+  geofeed lookup FILE ADDR        prints the record of one address in a file
+  geofeed explain JOB ADDR        prints by which lines of the sources an address has its record
+  geofeed publish JOB BLOCK FILE  writes the shortest geofeed of the records in a prefix
+  geofeed check JOB URL           prints what becomes of each line of a feed
+  geofeed census JOB              prints how many addresses each country has
+  geofeed gen N FILE              writes the file of a generated job of N lines, to measure with
+  geofeed -h, --help              prints this
+  geofeed -V, --version           prints the version, the toolchain's line, and the commit
 
 JOB and FILE are names at or below the current folder, without blanks, with no part `.` or `..`.
-The exit status is 0 where all was done; docs/stops.md and geofeed(1) say what each other one means.
+The exit status is 0 where all was done. Each other one has a line on standard error that says why and what to do;
+docs/stops.md and geofeed(1) have them all.
 ";
 
 fn main(rt: HostRuntime) -> ExitCode {
     let status = match words_of(&rt) {
         Ok(words) => answer::<HostRuntime, Brand>(&rt, words.as_slice(), Blank::new(1)),
-        Err(why) if why.kind() == ErrorKind::OutOfMemory => Status::Memory,
-        Err(_) => Status::Words,
+        Err(why) if why.kind() == ErrorKind::OutOfMemory => {
+            say(&rt, OUT_OF_MEMORY);
+            Status::Memory
+        }
+        Err(_) => {
+            say(&rt, "geofeed: a word is not UTF-8\n");
+            Status::Words
+        }
     };
     ExitCode::from(status as u8)
 }
@@ -65,7 +79,7 @@ fn words_of<R: Env + AllocGlobal>(rt: &R) -> io::Result<Vec<String>> {
     Ok(words)
 }
 
-fn answer<R: Threads + Files<File = File> + Print + Eprint + AllocGlobal, L: Ledger>(
+fn answer<R: Threads + Sync + Files<File = File> + Print + Eprint + AllocGlobal, L: Ledger>(
     rt: &R,
     words: &[String],
     blank: Blank,
@@ -75,40 +89,58 @@ fn answer<R: Threads + Files<File = File> + Print + Eprint + AllocGlobal, L: Led
     requires some { 0 < blank.parts }
 {
     let mut out = StdSink::new(Output::new(rt));
-    if let [word] = words {
-        match word.as_str() {
-            "-h" | "--help" => return printed(&mut out, HELP),
-            "-V" | "--version" => return printed(&mut out, VERSION),
-            _ => {}
-        }
-    }
     let mut folder = DirFolder::new(rt);
-    let mut steps: Steps<L> = Steps::new(blank);
-    let status = run(
-        rt,
-        rt.alloc(),
-        words,
-        &mut folder,
-        &mut out,
-        &OpenGate,
-        &mut steps,
-    );
-    let _told = match status {
-        Status::Words => rt.eprintln(USAGE),
-        Status::ReadFault => tell(rt, "", folder.why()),
-        Status::WriteFault if out.why().is_some() => tell(rt, "standard output: ", out.why()),
-        Status::WriteFault => tell(rt, "", folder.why()),
-        _ => Ok(()),
+    let status = match asked_in(words) {
+        Some(Asked::Help) => printed(&mut out, HELP),
+        Some(Asked::Version) => version(&mut out),
+        None => {
+            let mut steps: Steps<L> = Steps::new(blank);
+            run(
+                rt,
+                rt.alloc(),
+                words,
+                &mut folder,
+                &mut out,
+                &OpenGate,
+                &mut steps,
+            )
+        }
     };
+    let system = match status {
+        Status::ReadFault => folder.why(),
+        Status::WriteFault if out.why().is_some() => out.why(),
+        Status::WriteFault => folder.why(),
+        _ => None,
+    };
+    tell(rt, words, &mut folder, status, out.stop_line(), system);
     status
 }
 
-// What the system says of a call that failed, on standard error.
-fn tell(rt: &impl Eprint, what: &str, why: Option<io::Error>) -> io::Result<()> {
-    match why {
-        Some(why) => eprintln!(rt; "geofeed: {what}{why}"),
-        None => Ok(()),
+/// What the program says of itself.
+enum Asked {
+    Help,
+    Version,
+}
+
+fn asked_in(words: &[String]) -> Option<Asked> {
+    match words {
+        [word] => match word.as_str() {
+            "-h" | "--help" => Some(Asked::Help),
+            "-V" | "--version" => Some(Asked::Version),
+            _ => None,
+        },
+        _ => None,
     }
+}
+
+fn version(out: &mut impl Sink) -> Status {
+    let before = if COMMIT.is_empty() { "" } else { " commit " };
+    for text in [VERSION, before, COMMIT, "\n"] {
+        if out.write_all(text.as_bytes()).is_err() {
+            return Status::WriteFault;
+        }
+    }
+    Status::Done
 }
 
 fn printed(out: &mut impl Sink, text: &str) -> Status {

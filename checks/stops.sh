@@ -1,0 +1,118 @@
+#!/usr/bin/env bash
+# What the built program says of mistakes: each with its status, its stop line on standard output, and its one line of words
+# on standard error. And each line of words that docs/stops.md shows is one that is said here, and the jobs that the manual
+# and docs/job-file.md show are jobs.
+set -u
+cd "$(dirname "${BASH_SOURCE[0]}")/.." || exit 1
+page=$PWD/docs/stops.md
+manual=$PWD/geofeed.1
+jobs=$PWD/docs/job-file.md
+example=$PWD/examples/realistic
+. checks/with_program.bash
+: > all
+
+# stops STATUS LINE SAID WORDS..: the words end so.
+stops() {
+    local status=$1 line=$2 said=$3 ended
+    shift 3
+    timeout 120 "$program" "$@" > printed 2> told
+    ended=$?
+    [ "$ended" -eq "$status" ] && [ "$(tail -n 1 printed)" = "$line" ] && [ "$(cat told)" = "$said" ] \
+        || fail "'$*' ends with $ended, prints '$(cat printed)' and says '$(cat told)', and not with $status, '$line' and '$said'"
+    cat told >> all
+}
+
+# refuses LINES SAID: the last line of this job is refused, and this is said of it.
+refuses() {
+    local number
+    printf '%b\n' "$1" > job
+    number=$(wc -l < job)
+    stops 6 "stop job $number" "job:$number: $2" build job
+}
+
+printf 'epoch 1\nmark m\n' > job
+marks= lines='epoch, type, pieces, rpsl, stats, feed, overrides, drop, emit or report'
+if "$program" build job > printed 2>&1; then
+    marks=yes lines='epoch, type, pieces, rpsl, stats, feed, overrides, drop, emit, report, mark, back or compact'
+fi
+rm job
+
+stops 2 'stop words' 'geofeed: a command is missing; geofeed --help names them'
+stops 2 'stop words' 'geofeed: "bulid" is no command; commands are build, lookup, explain, gen, publish, check and census' bulid job
+stops 2 'stop words' 'geofeed: a wrong number of words; the command is: geofeed build JOB' build
+stops 2 'stop words' 'geofeed: the file name "/etc/job" is absolute; names are at or below the current folder' build /etc/job
+stops 2 'stop words' 'geofeed: the address "192.0.2" is not an address: not in the form of an address' lookup geo.mmdb 192.0.2
+stops 4 'stop missing job' 'geofeed: the job "job" is not there; names are looked up from the current folder' build job
+"$program" build $'\xff' > printed 2> told
+[ "$? $(cat printed told)" = '2 geofeed: a word is not UTF-8' ] || fail "a word that is not UTF-8: '$(cat printed told)'"
+
+refuses 'epoch 1\nstats x /etc/s.txt' 'the file name "/etc/s.txt" is absolute; names are at or below the current folder'
+refuses 'epoch 1\nstatistics x s.txt' "no line begins with \"statistics\"; lines begin with $lines, in lower case"
+refuses 'epoch 1\n# mine\nstats s.txt' 'a wrong number of words; the line is: stats SLOT FILE'
+refuses 'stats x s.txt' '"stats" stands before the epoch; the first line that says something is: epoch N'
+refuses 'epoch 1\nreport\ntype City' '"type" stands behind a line that does something; type and pieces stand before all of these'
+refuses 'epoch 1\nstats a/b s.txt' 'the name "a/b" has a character that is no ASCII letter, digit, "-", "_" or "."'
+refuses 'epoch yesterday' 'the epoch "yesterday" is not 1 to 20 decimal digits'
+printf '# nothing\n' > job
+stops 6 'stop job empty' 'geofeed: the job has no line but blank ones and comments; it begins with: epoch N' build job
+printf 'epoch 1\n# \xff\n' > job
+stops 6 'stop job utf8' 'job:2: the line is not UTF-8, as a job has to be' build job
+head -c 1048577 /dev/zero | tr '\0' '#' > job
+stops 6 'stop job long' 'geofeed: the job has more than 1,048,576 bytes' build job
+
+printf 'epoch 1\nstats x s.txt\nemit out.mmdb\n' > job
+stops 4 'stop missing s.txt' 'job:2: the file "s.txt" is not there; names are looked up from the current folder' build job
+mkdir s.txt
+stops 3 'stop read s.txt' 'job:2: the file "s.txt" could not be read: is a directory' build job
+rmdir s.txt && truncate -s 268435457 s.txt
+stops 7 'stop source 2 bytes' 'job:2: the file "s.txt" has more than 268,435,456 bytes' build job
+printf 'x|DE|ipv4|192.0.2.0|256||allocated\n' > s.txt
+mkdir out.mmdb
+stops 5 'stop write out.mmdb' 'job:3: the file "out.mmdb" could not be written; what stood there before stands there still: is a directory' build job
+rmdir out.mmdb
+stops 9 'stop file NoMarker' 'geofeed: the file "s.txt" is no MaxMind DB file, or its end is cut off: no metadata marker stands in it' lookup s.txt 192.0.2.1
+"$program" build job > printed 2> told
+[ $? -eq 0 ] && [ ! -s told ] || fail "where all is done it says '$(cat told)'"
+if [ -c /dev/full ]; then
+    "$program" build job > /dev/full 2> told
+    [ "$? $(cat told)" = '5 geofeed: standard output could not be written: No space left on device (os error 28)' ] \
+        || fail "of a full output it says '$(cat told)'"
+    cat told >> all
+fi
+
+# From here on with all kinds of sources and all commands.
+printf 'epoch 1\ndrop stats x\n' > job
+if [ "$("$program" build job 2> told)" != 'stop drop 2' ]; then
+    echo "$check: not tried: what takes all lines of a job and all commands, which the program does not yet"
+else
+    stops 10 'stop drop 2' 'job:2: no statistics are set in the slot "x" at this line' build job
+    if [ -n "$marks" ]; then
+        printf 'epoch 1\nback plain\n' > job
+        stops 11 'stop back 2' 'job:2: no mark "plain" stands before this line' build job
+    fi
+    refuses 'epoch 1\nfeed http://geo.example.net/a.csv a.csv' 'the URL "http://geo.example.net/a.csv" is not a URL that begins with https://'
+    refuses 'epoch 1\ndrop feeds https://geo.example.net/a.csv' '"feeds" is no kind of source; the line is one of: drop rpsl SLOT, drop stats SLOT, drop feed URL or drop overrides'
+    sed -n '/^\.SH EXAMPLES/,/^\.fi/p' "$manual" | grep -v '^\.' | sed 's/\\-/-/g' > shown
+    sed -n '/^```$/,/^```$/p' "$jobs" | grep -v '^```' > more
+    [ -n "$marks" ] || : > more
+    for job in shown more; do
+        [ -s "$job" ] || continue
+        sed -nE 's/^(rpsl|stats|feed) [^ ]* //p; s/^overrides //p' "$job" | while read -r file; do
+            mkdir -p "$(dirname "$file")" && : > "$file"
+        done
+        "$program" build "$job" > printed 2> told || fail "a job that a page shows ends otherwise: $(cat printed told)"
+    done
+    cp "$example"/* . 2> told
+    if [ "$("$program" check job https://no.example/f.csv 2> told)" = 'stop words' ]; then
+        echo "$check: not tried: the program has no 'check' yet"
+    else
+        stops 12 'stop absent https://no.example/f.csv' 'geofeed: no feed of the URL "https://no.example/f.csv" is in force at the job'"'"'s end; the URL is that of a feed line' check job https://no.example/f.csv
+    fi
+    stops 2 'stop words' 'geofeed: the prefix "::/0" reaches from the IPv4 addresses into the IPv6 addresses; it begins at ::1:0:0 or above' publish job ::/0 own.csv
+    stops 2 'stop words' 'geofeed: the number of lines "0" is not a number from 1 to 1,000,000 without leading zeros' gen 0 out.mmdb
+    while IFS= read -r line; do
+        grep -qxF -- "$line" all || fail "docs/stops.md shows '$line', which is not said"
+    done < <(sed -n '/^## In words/,/^## /p' "$page" | sed -n '/^```/,/^```/p' | grep -v '^```')
+fi
+
+verdict
