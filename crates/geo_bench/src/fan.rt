@@ -1,7 +1,7 @@
 //! The cases `serial` and `parallel`: the same work for each of 64 items, in one piece or in four.
 
 use crate::ranges::mixed;
-use fan_work::{Work, map_pieces};
+use fan_work::{Forks, Work, map_pieces};
 use geo_addr::Memory;
 use geo_outside::OpenGate;
 use std::alloc::Global;
@@ -25,7 +25,13 @@ pub fn run<R: Threads + Sync + Print>(
         items.push(item)?;
     }
     let pieces = if is_parallel { 4 } else { 1 };
-    let results = map_pieces(rt, alloc, &OpenGate, pieces, &items, &Rounds(rounds))?;
+    let forks = Forks {
+        rt,
+        alloc,
+        gate: &OpenGate,
+        pieces,
+    };
+    let results = map_pieces(&forks, &items, &Rounds(rounds))?;
     println!(rt; "results {}", results.len())?;
     println!(rt; "together {}", results.iter().fold(0u32, |all, x| all ^ *x))?;
     Ok(())

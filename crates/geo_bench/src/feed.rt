@@ -24,9 +24,9 @@ pub fn run(
     Ok(())
 }
 
-// The lines of a feed: prefixes of 16 IPv4 addresses that follow one another, or that stand anywhere in
-// an eighth of the space, so that some stand twice.
-fn lines(alloc: Global, size: u32, is_scattered: bool) -> anyhow::Result<String> {
+/// The lines of a feed: prefixes of 16 IPv4 addresses that follow one another, or that stand anywhere in
+/// an eighth of the space, so that some stand twice.
+pub fn lines(alloc: Global, size: u32, is_scattered: bool) -> anyhow::Result<String> {
     let mut text = String::new(alloc);
     for index in 0..size {
         let place = if is_scattered {

@@ -7,14 +7,17 @@ mod dump;
 mod emit;
 mod fan;
 mod feed;
+mod feeds;
 mod order;
 mod paint;
 mod publish;
 mod ranges;
 mod registries;
+mod speak;
 mod write;
 
 use anyhow::{Context, bail};
+use speak::Stage;
 use std::env;
 
 /// How many times the case `order` orders its small root.
@@ -27,8 +30,11 @@ fn main(rt: HostRuntime) -> anyhow::Result<()> {
     let second = words
         .next()
         .context("the second word is to be a size or a file")?;
-    if case.as_str() == "dump" {
-        return dump::run(&rt, second.as_str());
+    match case.as_str() {
+        "dump" => return dump::run(&rt, second.as_str()),
+        "feeds" => return feeds::run(&rt, second.as_str(), words, true),
+        "overrides" => return feeds::run(&rt, second.as_str(), words, false),
+        _ => {}
     }
     let size: u32 = second.parse().context("the size is to be a number")?;
     match case.as_str() {
@@ -46,6 +52,10 @@ fn main(rt: HostRuntime) -> anyhow::Result<()> {
         "publish" => publish::run(rt.alloc(), &rt, size, true),
         "serial" => fan::run(rt.alloc(), &rt, size, false),
         "parallel" => fan::run(rt.alloc(), &rt, size, true),
+        "gathered" => speak::run(rt.alloc(), &rt, size, Stage::Gathered),
+        "set" => speak::run(rt.alloc(), &rt, size, Stage::Set),
+        "asked" => speak::run(rt.alloc(), &rt, size, Stage::Asked),
+        "noted" => speak::run(rt.alloc(), &rt, size, Stage::Noted),
         _ => bail!("no case is called {case}"),
     }
 }
