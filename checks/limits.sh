@@ -21,6 +21,6 @@ ends() {
 }
 
 ends 268435457 7 'stop source 2 bytes'
-ends 268435456 0 'emit out.mmdb nodes 120 data 22 bits 24 bytes 961'
+ends 268435456 0 'emit out.mmdb nodes 147 data 22 bits 24 bytes 1123'
 
 verdict

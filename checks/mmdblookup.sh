@@ -40,11 +40,11 @@ finds() {
 emits 'emit out.mmdb nodes 1 data 0 bits 24 bytes 225' ''
 finds none :: 0.0.0.0 255.255.255.255 2001:db8::1
 
-emits 'emit out.mmdb nodes 97 data 22 bits 24 bytes 823' 'x|DE|ipv4|128.0.0.0|2147483648||allocated'
-finds DE 128.0.0.0 128.0.0.1 255.255.255.255
-finds none 127.255.255.255 0.0.0.0 ::1:0:0 2001:db8::1
+emits 'emit out.mmdb nodes 124 data 22 bits 24 bytes 985' 'x|DE|ipv4|128.0.0.0|2147483648||allocated'
+finds DE 128.0.0.0 128.0.0.1 255.255.255.255 ::ffff:128.0.0.1 2002:8000:1::1
+finds none 127.255.255.255 0.0.0.0 ::1:0:0 2001:db8::1 ::ffff:127.255.255.255 2002:7fff:ffff::1
 
-emits 'emit out.mmdb nodes 121 data 22 bits 24 bytes 967' 'x|DE|ipv4|192.0.2.0|768||allocated'
+emits 'emit out.mmdb nodes 148 data 22 bits 24 bytes 1129' 'x|DE|ipv4|192.0.2.0|768||allocated'
 finds DE 192.0.2.0 192.0.3.255 192.0.4.0 192.0.4.255
 finds none 192.0.1.255 192.0.5.0
 
@@ -53,12 +53,12 @@ printf 'x|DE|ipv4|255.255.255.255|1||allocated' > s.txt
 finds DE 255.255.255.255
 finds none 255.255.255.254 ::1:0:0
 
-emits 'emit out.mmdb nodes 121 data 22 bits 24 bytes 967' 'x|DE|ipv4|10.0.0.0|128||allocated
+emits 'emit out.mmdb nodes 148 data 22 bits 24 bytes 1129' 'x|DE|ipv4|10.0.0.0|128||allocated
 x|DE|ipv4|10.0.1.0|128||allocated'
 finds DE 10.0.0.0 10.0.0.127 10.0.1.0 10.0.1.127
 finds none 9.255.255.255 10.0.0.128 10.0.0.255 10.0.1.128
 
-emits 'emit out.mmdb nodes 120 data 22 bits 24 bytes 961' 'x|DE|ipv4|192.0.2.0|128||allocated
+emits 'emit out.mmdb nodes 147 data 22 bits 24 bytes 1123' 'x|DE|ipv4|192.0.2.0|128||allocated
 x|DE|ipv4|192.0.2.128|128||allocated'
 finds DE 192.0.2.0 192.0.2.127 192.0.2.128 192.0.2.255
 finds none 192.0.1.255 192.0.3.0

@@ -1,9 +1,11 @@
 #!/usr/bin/env bash
 # Sizes that tests do not have, within limits of time and memory: 300,000 made lines of statistics, 100,000 lines that
-# are noted, a comment of 5,000 bytes, and a list that claims 16.8 million values.
+# are noted, a comment of 5,000 bytes, sources of all kinds with a second emit, and a list that claims 16.8 million
+# values.
 set -u
 cd "$(dirname "${BASH_SOURCE[0]}")/.." || exit 1
 made=$PWD/bench/statistics.awk
+world=$PWD/bench/world.awk
 . checks/with_program.bash
 
 # runs SECONDS KILOBYTES WORDS..: what the program prints, in the file `printed`, and its status in `status`.
@@ -18,10 +20,20 @@ runs() {
 awk -v lines=300000 -f "$made" > s.txt
 printf 'epoch 1700000000\nstats made s.txt\nemit out.mmdb\n' > job
 runs 20 400000 build job
-wanted='emit out.mmdb nodes 178363 data 1166 bits 24 bytes 1071565'
+wanted='emit out.mmdb nodes 178378 data 490 bits 24 bytes 1070979'
 [ "$status $(cat printed)" = "0 $wanted" ] || fail "300,000 lines end with status $status and '$(cat printed)'"
 sum=$(md5sum < out.mmdb 2>&1)
-[ "$sum" = 'f913f41c2b3f734cfe1b26185a5a8194  -' ] || fail "300,000 lines make a file of another sum, $sum"
+[ "$sum" = '0ec6ccd75f050650c92400c553fcbb2b  -' ] || fail "300,000 lines make a file of another sum, $sum"
+
+# Sources of all kinds, and a second emit after one line of a feed changed; the other program's bytes again.
+awk -v lines=100000 -f "$made" > stats.txt
+awk -v lines=100000 -f "$world"
+runs 20 400000 build job
+wanted='emit out.mmdb nodes 226633 data 587011 bits 24 bytes 1947030
+emit second.mmdb nodes 226633 data 587120 bits 24 bytes 1947139'
+[ "$status $(cat printed)" = "0 $wanted" ] || fail "sources of all kinds end with status $status and '$(cat printed)'"
+sum=$(cat out.mmdb second.mmdb 2>&1 | md5sum)
+[ "$sum" = '248753193bd68d470ceecf363da36530  -' ] || fail "sources of all kinds make files of another sum, $sum"
 
 # As many delegations as before are not too many, and as many notes: one for each line.
 awk 'BEGIN { for (n = 0; n < 100000; n++) print "x|DE|ipv4|here|256||allocated" }' > s.txt
@@ -36,7 +48,7 @@ comment=$(printf '#%4999s' '' | tr ' ' x)
 printf '%s\nx|DE|ipv4|128.0.0.0|2147483648||allocated\n' "$comment" > s.txt
 printf '%s\nepoch 1700000000\nstats x s.txt\nemit out.mmdb\n' "$comment" > job
 runs 5 200000 build job
-[ "$status $(cat printed)" = '0 emit out.mmdb nodes 97 data 22 bits 24 bytes 823' ] || fail "long comments end with status $status"
+[ "$status $(cat printed)" = '0 emit out.mmdb nodes 124 data 22 bits 24 bytes 985' ] || fail "long comments end with status $status"
 
 # A tree of one node, whose two records lead to a list that claims 16,843,036 values and has none.
 {
