@@ -10,7 +10,7 @@ use Rattle.mmdb_data.specs.Reading.{◌>>=◌, Fault, Budget, left_of, Read, Sca
 
 -- ---- what a step that did not fail gave
 
-bind_ok : {A B : Type 0} (r : Result A Fault) (f : A → Result B Fault) (y : B) → (r >>= f) ≡ Ok y → (x : A) × (r ≡ Ok x) × (f x ≡ Ok y)
+pub bind_ok : {A B : Type 0} (r : Result A Fault) (f : A → Result B Fault) (y : B) → (r >>= f) ≡ Ok y → (x : A) × (r ≡ Ok x) × (f x ≡ Ok y)
 bind_ok (Ok x) f y e = (x, refl, e)
 bind_ok (Err d) f y e = absurd cc
 
@@ -18,7 +18,7 @@ pub chosen : {A : Type 0} (b : Bool) (x y z : A) → cond b x y ≡ z → ((b �
 chosen true x y z e = inl (refl, e)
 chosen false x y z e = inr (refl, e)
 
-passed : {A : Type 0} (b : Bool) (d : Fault) (r : Result A Fault) (y : A) → cond b (Err d) r ≡ Ok y → r ≡ Ok y
+pub passed : {A : Type 0} (b : Bool) (d : Fault) (r : Result A Fault) (y : A) → cond b (Err d) r ≡ Ok y → r ≡ Ok y
 passed true d r y e = absurd cc
 passed false d r y e = e
 
@@ -26,10 +26,14 @@ held : {A : Type 0} (b : Bool) (d : Fault) (r : Result A Fault) (y : A) → cond
 held true d r y e = e
 held false d r y e = absurd cc
 
-abbrev done : {A : Type 0} → A → Result A Fault
+pub kept_if : {A : Type 0} (b : Bool) (d : Fault) (r : Result A Fault) (y : A) → cond b r (Err d) ≡ Ok y → (b ≡ true) × (r ≡ Ok y)
+kept_if true d r y e = (refl, e)
+kept_if false d r y e = absurd cc
+
+abbrev pub done : {A : Type 0} → A → Result A Fault
 done x = Ok x
 
-ok_is : {A : Type 0} (x y : A) → done x ≡ done y → x ≡ y
+pub ok_is : {A : Type 0} (x y : A) → done x ≡ done y → x ≡ y
 ok_is x y e = cc
 
 -- ---- one value

@@ -9,7 +9,8 @@ pub mod Fine
 pub mod Written
 pub mod Loops
 pub mod Bounds
-mod Pointed
+pub mod Pointed
+pub mod Keys
 pub mod Packs
 pub mod Keeps
 pub mod PackedReads

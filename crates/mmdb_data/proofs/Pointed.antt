@@ -2,13 +2,14 @@
 use Rattle.std.proofs.Common.{◌≡◌, ℕ, zero, suc, ◌+◌, ◌-◌, ◌/◌, ◌%◌, ◌^◌, ◌<◌, true, List, [], ◌∷◌, ◌++◌, length, drop, Ok, refl, sym, ap, ◌∙◌, arith, inl, inr}
 use Rattle.std.specs.Int.{bytes_high_first}
 use Rattle.std.proofs.lemmas.Bool.{lt-ltb, le-ltb, eq-eqb, ne_eqb, cases_lt}
-use Rattle.std.proofs.lemmas.List.{append-nil}
+use Rattle.std.proofs.lemmas.List.{append-nil, drop_at}
 use Rattle.byteorder.specs.Endian.{big_number}
 use Rattle.byteorder.specs.Numbers.{big_from-bytes, length-bytes_high_first}
 use Rattle.mmdb_data.specs.declared.fault.DataCause.TheVariants.{Truncated, Many, OutOfSection}
 use Rattle.mmdb_data.specs.Tree.{Tree}
 use Rattle.mmdb_data.specs.Reading.{Fault, byte_from, number_from, pointer_from, is_pointer, target_from, value_from}
 use Rattle.mmdb_data.specs.Packing.{pointer}
+use Rattle.mmdb_data.specs.Laws.{PointsTo, PointersReadBack}
 use Rattle.mmdb_data.proofs.Places.{moved, byte_here, bytes_here}
 use Rattle.mmdb_data.proofs.Values.{StandsFull, Stands, one_less_is, some_levels, some_values}
 
@@ -18,12 +19,6 @@ unfolding number_from
 low_here section place size n y fault here =
     rw (bytes_here section place size (bytes_high_first size n) y fault here (length-bytes_high_first size n))
     (ap Ok (ap (big_number size) (sym (append-nil (bytes_high_first size n))) ∙ big_from-bytes size n []))
-
-record PointerIs (section : List ℕ) (at to : ℕ) : Type 0 where
-  pub control : ℕ
-  pub first : (fault : Fault) → byte_from section at fault ≡ Ok control
-  pub is_one : is_pointer control ≡ true
-  pub read : pointer_from section at control ≡ Ok (to, at + length (pointer to))
 
 -- the control byte, and the bytes after it
 record IsControl (section : List ℕ) (at control : ℕ) (behind : List ℕ) : Type 0 where
@@ -39,7 +34,7 @@ control_here section at control behind high here =
       is_one = eq-eqb (control / 32) 1 high;
     }
 
-pointer_here : (section : List ℕ) (at to : ℕ) (y : List ℕ) → to < 2 ^ 32 → drop at section ≡ pointer to ++ y → PointerIs section at to
+pointer_here : (section : List ℕ) (at to : ℕ) (y : List ℕ) → to < 2 ^ 32 → drop at section ≡ pointer to ++ y → PointsTo section at to
 unfolding pointer pointer_from
 pointer_here section at to y fits here =
     elim (cases_lt to 2048) [
@@ -72,6 +67,10 @@ pointer_here section at to y fits here =
                 ]
           ]
     ]
+
+pub pointers_back : PointersReadBack
+pointers_back to before after fits =
+    pointer_here (before ++ (pointer to ++ after)) (length before) to after fits (drop_at before (pointer to ++ after) (length before) refl)
 
 pub pointed : {section : List ℕ} {value : Tree} {to after : ℕ} (at : ℕ) (y : List ℕ) → StandsFull section value to after → to < 2 ^ 32 → drop at section ≡ pointer to ++ y
     → Stands section value at (at + length (pointer to))

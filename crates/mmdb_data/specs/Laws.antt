@@ -1,9 +1,10 @@
 -- The laws of a packed data section.
-use Rattle.std.specs.Prelude.{◌≡◌, ◌<◌, ℕ, List, [], ◌∷◌, ◌++◌, length, slice_index, slice_index_or, Some, None, Ok, All}
-use Rattle.mmdb_data.specs.Tree.{Tree, CanBePacked, CanBeReadBack, IsWithinLimits}
+use Rattle.std.specs.Prelude.{◌≡◌, ◌+◌, ◌^◌, ◌<◌, ℕ, true, List, [], ◌∷◌, ◌++◌, length, slice_index, slice_index_or, Some, None, Ok, All}
+use Rattle.std.specs.Str.{IsUtf8}
+use Rattle.mmdb_data.specs.Tree.{Tree, text, CanBePacked, CanBeReadBack, IsWithinLimits}
 use Rattle.mmdb_data.specs.Spelling.{spelling}
-use Rattle.mmdb_data.specs.Reading.{reads}
-use Rattle.mmdb_data.specs.Packing.{Packed, offset_of, in_full, packed, packed_offsets}
+use Rattle.mmdb_data.specs.Reading.{Fault, Budget, reads, value_from, byte_from, pointer_from, is_pointer}
+use Rattle.mmdb_data.specs.Packing.{Packed, pointer, offset_of, in_full, packed, packed_offsets}
 
 -- reading where a value was appended gives that value, whatever is appended later
 abbrev pub PackedReadsBack : Type 0
@@ -30,3 +31,20 @@ NotesStay =
 -- values are equal where their spellings are
 abbrev pub SpellingsTellApart : Type 0
 SpellingsTellApart = (a b : Tree) → CanBePacked a → CanBePacked b → spelling a ≡ spelling b → a ≡ b
+
+-- at a place of a section stands a pointer: its first byte says so, and it leads to an offset
+pub record PointsTo (section : List ℕ) (at to : ℕ) : Type 0 where
+  pub control : ℕ
+  pub first : (fault : Fault) → byte_from section at fault ≡ Ok control
+  pub is_one : is_pointer control ≡ true
+  pub read : pointer_from section at control ≡ Ok (to, at + length (pointer to))
+
+-- a pointer that is written, of 11, 19, 27 or 32 bits, is read as one to the same offset, whatever stands around it
+abbrev pub PointersReadBack : Type 0
+PointersReadBack = (to : ℕ) (before after : List ℕ) → to < 2 ^ 32 → PointsTo (before ++ (pointer to ++ after)) (length before) to
+
+-- what is read as a key is a text, also behind a pointer, whatever is left of the budget
+abbrev pub KeysAreTexts : Type 0
+KeysAreTexts =
+    (section : List ℕ) (levels at : ℕ) (left : Budget) (found : Tree × ℕ × Budget) → value_from section levels true at left ≡ Ok found
+    → (content : List ℕ) × (found.0 ≡ text content) × IsUtf8 content

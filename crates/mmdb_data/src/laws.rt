@@ -4,7 +4,7 @@ ghost use Rattle.std.specs.Prelude.{◌≡◌, ◌≤◌, ◌++◌, ℕ, List, l
 ghost use Rattle.mmdb_data.specs.Tree.{Tree, CanBeSpelled, IsTyped, IsWithinLimits};
 ghost use Rattle.mmdb_data.specs.Spelling.{spelling};
 ghost use Rattle.mmdb_data.specs.Reading.{reads};
-ghost use Rattle.mmdb_data.specs.Laws.{PackedReadsBack, PackedReadsEach, NewValueIsNoted, NotesStay, SpellingsTellApart};
+ghost use Rattle.mmdb_data.specs.Laws.{PackedReadsBack, PackedReadsEach, NewValueIsNoted, NotesStay, SpellingsTellApart, PointersReadBack, KeysAreTexts};
 
 /// What is written of a value is read again, whatever stands before and after it in the section.
 pub fn reads_back()
@@ -25,4 +25,15 @@ pub fn packed_at_the_least_offset()
     ensures noted { NewValueIsNoted }
     ensures stay { NotesStay }
     ensures apart { SpellingsTellApart }
+{}
+
+/// The law that each pointer that is written is read back: one of two bytes to an offset below 2,048, of
+/// three below 526,336, of four below 134,744,064, and of five below 2^32. Calling it does nothing.
+pub fn pointers_read_back()
+    ensures { PointersReadBack }
+{}
+
+/// The law that what is read as a key is a text. Calling it does nothing.
+pub fn keys_are_texts()
+    ensures { KeysAreTexts }
 {}
