@@ -13,6 +13,9 @@ const LONGEST: usize = 268_435_456;
 /// The most delegations of a file.
 const MOST: usize = 2_097_152;
 
+/// Few files have lines that are shorter on the average, in bytes.
+const USUAL: usize = 40;
+
 /// Reads a statistics file: the delegations and the notes of its lines.
 ///
 /// A file is too long over 268,435,456 bytes, and has too many delegations over 2,097,152.
@@ -50,7 +53,7 @@ fn read_lines(alloc: Global, slot: &Text, bytes: &[u8]) -> Result<Found, SourceF
     ensures too_long { result ≢ Err SourceFault.TooLong }
 {
     let mut found = Found {
-        rows: Vec::new(alloc),
+        rows: Vec::with_capacity(alloc, room_for(bytes)).map_err(Memory::from)?,
         notes: Vec::new(alloc),
         texts: Texts::new(alloc),
     };
@@ -58,6 +61,11 @@ fn read_lines(alloc: Global, slot: &Text, bytes: &[u8]) -> Result<Found, SourceF
         take_line(slot, line, &mut found)?;
     }
     Ok(found)
+}
+
+// Room for the rows, so that they are not moved as they grow; what is not written to costs nothing.
+fn room_for(bytes: &[u8]) -> usize {
+    (bytes.len() / USUAL).min(MOST)
 }
 
 // Adds what one more line says.
