@@ -1,3 +1,4 @@
+pub mod BareLemmas
 pub mod CleanLemmas
 pub mod CsvLemmas
 pub mod FateLemmas

@@ -15,8 +15,8 @@ use Rattle.csv.specs.declared.parser.State.{State}
 use Rattle.csv.specs.declared.parser.State.TheVariants as st
 use Rattle.csv.specs.declared.reader.Reader.{Reader}
 use Rattle.geo_terms.specs.PlaceForm.{is_empty}
-use Rattle.csv_lines.specs.Fields.{values_of}
-use Rattle.csv_lines.specs.Rests.{Stands, content_of, handed, handed_by, rest_of, row_of}
+use Rattle.csv_lines.specs.Fields.{is_unquoted, values_of}
+use Rattle.csv_lines.specs.Rests.{Stands, content_of, handed, handed_by, handed_text, rest_of, row_of}
 use Rattle.csv_lines.specs.declared.rest.Content.{Content}
 use Rattle.csv_lines.specs.declared.rest.Content.TheVariants.{Blank, NotText, NoFields, Fields}
 use Rattle.csv_lines.proofs.CsvLemmas.{record_of}
@@ -58,9 +58,16 @@ module _ (line : List ℕ) where
   unfolding handed
   handed_no_fields e = ap (λ (c : Content). handed_by c (rest_of line)) e
 
-  pub handed_fields : (left : List ℕ) → content_of (rest_of line) ≡ Fields → handed line ++ left ≡ rest_of line ++ (10 ∷ left)
+  pub handed_fields : (left : List ℕ) → content_of (rest_of line) ≡ Fields → handed line ++ left ≡ handed_text (rest_of line) ++ left
   unfolding handed
-  handed_fields left e = ap (λ (c : Content). handed_by c (rest_of line) ++ left) e ∙ append_assoc (rest_of line) (10 ∷ []) left
+  handed_fields left e = ap (λ (c : Content). handed_by c (rest_of line) ++ left) e
+
+-- a text with quotes is handed over as a line of its own, and one without is not
+pub text_handed : (text left : List ℕ) → is_unquoted text ≡ false → handed_text text ++ left ≡ text ++ (10 ∷ left)
+text_handed text left e = ap (λ (x : Bool). cond x [] (text ++ (10 ∷ [])) ++ left) e ∙ append_assoc text (10 ∷ []) left
+
+pub text_kept : (text left : List ℕ) → is_unquoted text ≡ true → handed_text text ++ left ≡ left
+text_kept text left e = ap (λ (x : Bool). cond x [] (text ++ (10 ∷ [])) ++ left) e
 
 -- what the next record of a reader's bytes shows
 next_go : (after : Option (List ℕ)) (found : Bool) (f : List (List ℕ)) (s2 : State) (bytes tail : List ℕ) (vs : List (List ℕ))

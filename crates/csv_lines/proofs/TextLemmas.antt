@@ -101,17 +101,17 @@ trimmed_utf8 xs u =
 
 -- ---- what holds of each byte
 
-all_drop : (q : ℕ → Bool) (n : ℕ) (xs : List ℕ) → list_all q xs ≡ true → list_all q (drop n xs) ≡ true
+pub all_drop : (q : ℕ → Bool) (n : ℕ) (xs : List ℕ) → list_all q xs ≡ true → list_all q (drop n xs) ≡ true
 all_drop q zero xs e = e
 all_drop q (suc n) [] e = e
 all_drop q (suc n) (x ∷ xs) e = all_drop q n xs (and_parts (q x) (list_all q xs) e).1
 
-all_take : (q : ℕ → Bool) (n : ℕ) (xs : List ℕ) → list_all q xs ≡ true → list_all q (take n xs) ≡ true
+pub all_take : (q : ℕ → Bool) (n : ℕ) (xs : List ℕ) → list_all q xs ≡ true → list_all q (take n xs) ≡ true
 all_take q zero xs e = refl
 all_take q (suc n) [] e = e
 all_take q (suc n) (x ∷ xs) e = let (one, more) = and_parts (q x) (list_all q xs) e in rw (one, all_take q n xs more) refl
 
-trimmed_all : (q : ℕ → Bool) (xs : List ℕ) → list_all q xs ≡ true → list_all q (trimmed xs) ≡ true
+pub trimmed_all : (q : ℕ → Bool) (xs : List ℕ) → list_all q xs ≡ true → list_all q (trimmed xs) ≡ true
 trimmed_all q xs e = all_take q _ (trimmed_start xs) (all_drop q (prefix_len is_blank xs) xs e)
 
 prefix_of_take : (p : ℕ → Bool) (n : ℕ) (xs : List ℕ) → prefix_len p xs ≡ 0 → prefix_len p (take n xs) ≡ 0

@@ -11,7 +11,7 @@ use Rattle.csv.specs.declared.reader.Trim.TheVariants as trim
 use Rattle.geo_terms.specs.SaidOf.{said_of}
 use Rattle.geo_terms.specs.declared.place.PlaceFault.{PlaceFault}
 use Rattle.geo_terms.specs.declared.place.Said.{Said}
-use Rattle.csv_lines.specs.Fields.{values_of}
+use Rattle.csv_lines.specs.Fields.{is_unquoted, values_of}
 use Rattle.csv_lines.specs.declared.rest.Content.{Content}
 use Rattle.csv_lines.specs.declared.rest.Content.TheVariants.{Blank, NotText, NoFields, Fields}
 
@@ -38,12 +38,16 @@ row_of rest = unwrap_or (values_of rest) []
 abbrev pub column : ℕ → List (List ℕ) → List ℕ
 column i row = trimmed (get_or row i [])
 
--- what of a rest is handed to `csv`: one that has fields, as a line of its own
+-- what of a text with fields is handed to `csv`: one with a quote, as a line of its own
+abbrev pub handed_text : List ℕ → List ℕ
+handed_text text = if is_unquoted text then [] else text ++ (10 ∷ [])
+
+-- what of a rest is handed to `csv`, by what it has
 abbrev pub handed_by : Content → List ℕ → List ℕ
 handed_by Blank rest = []
 handed_by NotText rest = []
 handed_by NoFields rest = []
-handed_by Fields rest = rest ++ (10 ∷ [])
+handed_by Fields rest = handed_text rest
 
 unfoldable pub handed : List ℕ → List ℕ
 handed line = handed_by (content_of (rest_of line)) (rest_of line)

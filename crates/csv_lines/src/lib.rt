@@ -1,6 +1,7 @@
 //! Lines of comma-separated fields with comments, as feeds and overrides have them.
 #![tactic(auto)]
 
+mod bare;
 mod fate;
 mod fault;
 pub mod laws;

@@ -1,12 +1,13 @@
-//! The fields of all lines that have any, read by one `csv` reader.
+//! The fields of all lines that have any; one `csv` reader reads those with quotes.
 ghost use Rattle.std.specs.Prelude.{◌≡◌, ◌≢◌, [], ◌∷◌, ◌++◌, ◌<◌, ℕ, List, Some, IfOk, OnOk};
 ghost use Rattle.geo_addr.specs.Lines.{numbered_lines};
 ghost use Rattle.csv.specs.Records.{fields_of};
 ghost use Rattle.csv_lines.specs.Clean.{AreTexts};
 ghost use Rattle.csv_lines.specs.Fields.{values_of};
-ghost use Rattle.csv_lines.specs.Rests.{CanRead, Stands, all_handed, column, content_of, handed, rest_of, row_of, said_in};
+ghost use Rattle.csv_lines.specs.Rests.{CanRead, Stands, all_handed, column, content_of, handed, handed_text, rest_of, row_of, said_in};
 ghost use Rattle.csv_lines.specs.declared.rest.Content.{Content};
 
+use crate::bare::{cut_bare, cut_row, is_unquoted};
 use crate::rest::{Content, content_of, rest_of};
 use csv::{ByteRecord, Reader, ReaderBuilder};
 use geo_addr::{Lines, Memory, trim_blanks};
@@ -14,27 +15,33 @@ use geo_terms::{PlaceFault, Said, Texts, place_in};
 use std::alloc::Global;
 use std::str;
 
-/// What is handed to `csv` of a file: a line feed, and the rest of each line that has fields, each as
-/// a line of its own.
+/// What is handed to `csv` of a file: a line feed, and the rest of each line that has fields and a
+/// quote, each as a line of its own.
 ///
 /// The line feed in front keeps `csv` from taking a byte order mark off the first rest.
 pub fn all_handed(alloc: Global, file: &[u8]) -> Result<Vec<u8>, Memory>
     ensures { IfOk result (λ handed. handed.items ≡ 10 ∷ all_handed (numbered_lines file.now)) }
 {
-    let mut handed = Vec::with_capacity(alloc, file.len())?;
+    let mut handed = Vec::new(alloc);
     handed.push(b'\n').map_err(Memory::from)?;
+    if is_unquoted(file) {
+        return Ok(handed);
+    }
     for line in Lines::of(file) {
         hand(line.text, &mut handed)?;
     }
     Ok(handed)
 }
 
-// Hands over the rest of a line where it has fields.
+// Hands over the rest of a line where it has fields and a quote.
 #[tactic(auto, unfolding(crate::specs::Rests::handed))]
 fn hand(line: &[u8], all: &mut Vec<u8>) -> Result<(), Memory>
     ensures { OnOk result (all.new.items ≡ all.old.items ++ handed line.now) }
 {
     let rest = rest_of(line);
+    if is_unquoted(rest) {
+        return Ok(());
+    }
     match content_of(rest) {
         Content::Blank => {}
         Content::NotText => {}
@@ -57,7 +64,7 @@ pub fn reader_of(alloc: Global, handed: &[u8]) -> Reader<&[u8]>
         .from_reader(alloc, handed)
 }
 
-/// What the rest of a line has; where it has fields, the reader's next row is read.
+/// What the rest of a line has; where it has fields, they are put into the row.
 ///
 /// The reader is that of the file of the line, and its lines are taken one after another.
 pub fn next_row(
@@ -71,14 +78,49 @@ pub fn next_row(
     ensures texts { IfOk result (λ content. content ≡ Content.Fields → AreTexts (fields_of row.new)) }
     ensures stands { (left : List ℕ) → Stands (λ s. Some s.now) reader.old (handed line.now ++ left) → OnOk result (Stands (λ s. Some s.now) reader.new left) }
 {
-    let content = content_of(rest_of(line));
+    let rest = rest_of(line);
+    if rest.is_empty() {
+        return Ok(Content::Blank);
+    }
+    if cut_bare(rest, row)? {
+        return Ok(Content::Fields);
+    }
+    other_row(reader, line, row)
+}
+
+// The same of any line.
+fn other_row(
+    reader: &mut Reader<&[u8]>,
+    line: &[u8],
+    row: &mut ByteRecord,
+) -> Result<Content, Memory>
+    requires { CanRead (λ s. Some s.now) reader.old line.now }
+    ensures content { IfOk result (λ content. content ≡ content_of (rest_of line.now)) }
+    ensures row { IfOk result (λ content. content ≡ Content.Fields → fields_of row.new ≡ row_of (rest_of line.now)) }
+    ensures texts { IfOk result (λ content. content ≡ Content.Fields → AreTexts (fields_of row.new)) }
+    ensures stands { (left : List ℕ) → Stands (λ s. Some s.now) reader.old (handed line.now ++ left) → OnOk result (Stands (λ s. Some s.now) reader.new left) }
+{
+    let rest = rest_of(line);
+    let content = content_of(rest);
     match content {
         Content::Blank => {}
         Content::NotText => {}
         Content::NoFields => {}
-        Content::Fields => read_row(reader, row)?,
+        Content::Fields => take_row(reader, rest, row)?,
     }
     Ok(content)
+}
+
+// Takes the fields of a text that has them: without quotes they are its pieces, else the next row.
+fn take_row(reader: &mut Reader<&[u8]>, text: &[u8], row: &mut ByteRecord) -> Result<(), Memory>
+    ensures { (left : List ℕ) → (values : List (List ℕ)) → text.now ≢ [] → values_of text.now ≡ Some values → Stands (λ s. Some s.now) reader.old (handed_text text.now ++ left)
+        → OnOk result ((fields_of row.new ≡ values) × Stands (λ s. Some s.now) reader.new left) }
+{
+    if is_unquoted(text) {
+        cut_row(text, row)
+    } else {
+        read_row(reader, row)
+    }
 }
 
 // Reads the next row.

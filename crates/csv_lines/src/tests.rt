@@ -25,10 +25,13 @@ fn rests_and_contents(rt: HostRuntime) -> Result<(), Fail> {
 }
 
 #[test]
-fn rests_with_fields_are_handed_over(rt: HostRuntime) -> Result<(), Fail> {
+fn rests_with_quotes_are_handed_over(rt: HostRuntime) -> Result<(), Fail> {
     let alloc = rt.alloc();
-    let file: &[u8] = b"\xEF\xBB\xBFa,b\r\n#\n\xEF\xBB\xBF\"c\"\"\", d \nx\"\n,\n";
+    let file: &[u8] =
+        b"\xEF\xBB\xBF\"a\",b\r\n#\n\xEF\xBB\xBF\"c\"\"\", d \n \"c\"\"\", d \nx\"\n,\n\"\xFF\"\n";
     let handed = all_handed(alloc, file)?;
-    assert!(rt; handed.as_slice() == b"\na,b\n,\n".as_slice());
+    assert!(rt; handed.as_slice() == b"\n\"a\",b\n\"c\"\"\", d\n".as_slice());
+    let handed = all_handed(alloc, b"a,b\nc\n")?;
+    assert!(rt; handed.as_slice() == b"\n".as_slice());
     Ok(())
 }

@@ -1,5 +1,5 @@
 //! A feed.
-ghost use Rattle.std.specs.Prelude.{◌≡◌, ◌≢◌, ◌<◌, ◌≤◌, ◌↔◌, ◌++◌, ℕ, List, Some, length, map, IfOk, IsSome, OnOk, option_to_list};
+ghost use Rattle.std.specs.Prelude.{◌≡◌, ◌≢◌, ◌<◌, ◌≤◌, ◌↔◌, ◌++◌, ℕ, [], List, Some, length, map, IfOk, IsSome, OnOk, option_to_list};
 ghost use Rattle.csv_lines.specs.Rests.{CanRead, Stands, handed};
 ghost use Rattle.feed_csv.specs.File.{AreClean, accepted, refused, entry_of, fault_of, feed, longest, most, note_of};
 
@@ -15,6 +15,9 @@ const LONGEST: usize = 67_108_864;
 
 /// The most lines that pass the line rules.
 const MOST: usize = 2_097_152;
+
+/// Few files have lines that are shorter on the average, in bytes.
+const USUAL: usize = 16;
 
 /// Reads a geofeed (RFC 8805): the entries and the notes of its lines.
 ///
@@ -64,8 +67,9 @@ fn read_lines(alloc: Global, bytes: &[u8]) -> Result<Found, SourceFault>
 {
     let handed = all_handed(alloc, bytes)?;
     let mut reader = reader_of(alloc, handed.as_slice());
+    let entries = with_room(alloc, bytes)?;
     let mut found = Found {
-        entries: Vec::new(alloc),
+        entries,
         faults: Vec::new(alloc),
         texts: Texts::new(alloc),
         row: ByteRecord::new(alloc),
@@ -74,6 +78,16 @@ fn read_lines(alloc: Global, bytes: &[u8]) -> Result<Found, SourceFault>
         take_line(line, &mut reader, &mut found)?;
     }
     Ok(found)
+}
+
+// No entries, with room for those of a file, so that they are not moved as they come. Room that is not
+// written to costs nothing.
+fn with_room(alloc: Global, bytes: &[u8]) -> Result<Vec<Entry>, Memory>
+    ensures { IfOk result (λ entries. entries.items ≡ []) }
+{
+    let room = (bytes.len() / USUAL).min(MOST);
+    let entries = Vec::with_capacity(alloc, room)?;
+    Ok(entries)
 }
 
 // Adds what one more line says.

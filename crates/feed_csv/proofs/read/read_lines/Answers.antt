@@ -11,9 +11,9 @@ loop-line-init c =
     record {
       can_next = tt;
       is_finite = tt;
-      entries = rw c.new.ensures.items (ap (filter_map entry_of) start);
-      faults = rw c.new-2.ensures.items (ap (filter_map fault_of) start);
-      few = rw c.new.ensures.items (omega arith);
+      entries = rw c.in_ok-entries.ensures (ap (filter_map entry_of) start);
+      faults = rw c.new.ensures.items (ap (filter_map fault_of) start);
+      few = rw c.in_ok-entries.ensures (omega arith);
       stands = c.reader_of-reader.ensures _ (c.as_slice.ensures.value ∙ c.in_ok-handed.ensures ∙ ap (λ lines. 10 ∷ all_handed lines) (sym start));
     }
 
