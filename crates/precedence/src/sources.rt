@@ -397,7 +397,8 @@ impl Sources {
         self.speaking.push_inside(&mut places, bounds)?;
         push_inside(&mut places, self.statistics.places(), bounds)?;
         push_inside(&mut places, self.overriding.places(), bounds)?;
-        places.sort_unstable();
+        // A merge: each list that was appended ascends.
+        places.sort()?;
         places.dedup();
         Ok(places)
     }

@@ -24,7 +24,7 @@ returns-clause-exact c =
     gathered ((refs ++ ents) ++ dels) rows c.args.bounds.now c.places-2.result.now c.push_inside-2.new.found.items c.push_inside-3.new.found.items first c.places-2.ensures c.in_ok-push_inside-3.ensures in
     subst (λ (s : InForce). AreCutsInside (statement_ranges s) c.args.bounds.now c.dedup.new.self.items) c.self.view_is
     (subst (λ (rs : List Ends). AreCutsInside rs c.args.bounds.now c.dedup.new.self.items) (append_assoc (refs ++ ents) dels rows ∙ append_assoc refs ents (dels ++ rows))
-    (gathered_sorted (((refs ++ ents) ++ dels) ++ rows) c.args.bounds.now c.push_inside-3.new.found.items c.sort_unstable.new.self.items c.dedup.new.self.items c.sort_unstable.ensures.permutation c.dedup.ensures.filtered both))
+    (gathered_sorted (((refs ++ ents) ++ dels) ++ rows) c.args.bounds.now c.push_inside-3.new.found.items c.sort.new.self.items c.dedup.new.self.items c.sort.ensures.permutation c.dedup.ensures.filtered both))
 
 pub returns-clause-ascending : goal.returns-clause-ascending
-returns-clause-ascending c = places_ascend c.sort_unstable.new.self.items c.dedup.new.self.items c.sort_unstable.ensures.sorted c.dedup.ensures.filtered
+returns-clause-ascending c = places_ascend c.sort.new.self.items c.dedup.new.self.items c.in_ok-sort.ensures.sorted c.dedup.ensures.filtered

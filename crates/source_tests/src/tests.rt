@@ -1,0 +1,7 @@
+//! Sources that are read from texts, set and dropped, and what they say of addresses.
+mod acts;
+mod given;
+mod orders;
+mod realistic;
+mod rows;
+mod told;
