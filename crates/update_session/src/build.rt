@@ -55,7 +55,9 @@ pub(crate) fn repaint<R: Threads + Sync, G: Gate, L: Ledger>(
     }
     let segments = cut(sources, touched)?;
     let choices = choose(forks, sources, segments.as_slice())?;
+    drop(segments);
     let parts = parts_of(forks.alloc, choices.as_slice(), places)?;
+    drop(choices);
     let painted = paint(store, root, parts.as_slice(), steps)?;
     with_aliases(store, painted, steps)
 }

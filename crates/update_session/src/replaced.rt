@@ -91,6 +91,10 @@ pub(crate) fn add(touched: &mut Vec<Range>, more: Vec<Range>)
     requires { vec_len touched.old + vec_len more ≤ vec_capacity touched.old }
     ensures { touched.new.items ≡ touched.old.items ++ more.items }
 {
+    if touched.is_empty() {
+        *touched = more;
+        return;
+    }
     let mut more = more;
     let _moved = touched.append(&mut more);
 }
