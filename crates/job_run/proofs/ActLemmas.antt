@@ -268,7 +268,7 @@ module _ (step : Step) (world : World) (session : Held) (is : step.act ≡ Repor
   fails_report why causes tail =
       subst (λ (a : Act). Fails why (does (at_line step a)) world [] old new) (sym is) (record {
         files = elim causes [
-          | inl failed ↦ subst (λ (w : Stop). Halts w (does (at_line step Report)) world new.told) (sym failed) (record { free = refl; files = same ∙ here.tells })
+          | inl failed ↦ subst (λ (w : Stop). Halts w (does (at_line step Report)) world new.told) (sym failed) (record { prints = tt; free = refl; files = same ∙ here.tells })
           | inr out ↦ subst (λ (w : Stop). Halts w (does (at_line step Report)) world new.told) (sym out) (inl (same ∙ here.tells))
         ];
         printed = subst (λ (s : State). Tail why [] (report_text (report s.sources)) old.written new.written) here.stands.state tail;

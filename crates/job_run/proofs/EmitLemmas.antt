@@ -93,7 +93,7 @@ module _ (stays : StandingStays) (step : Step) (world : World) (name : List ℕ)
     pub fails_print : (why : Stop) (line : List ℕ) → ((w : Told) → old.told ≡ Some w → new.told ≡ Some (after_put w name bytes)) → line ≡ emit_line name file
         → (why ≡ SinkFailed) ⊎ (why ≡ Memory) → Tail why [] line old.written new.written → Fails why (does step) world [] old new
     fails_print why line put said causes tail =
-        let left : IsUnprinted (does emits) world new.told = record { free = free_emit; files = put_is new.told put } in
+        let left : IsUnprinted (does emits) world new.told = record { prints = tt; free = free_emit; files = put_is new.told put } in
         subst (λ (a : Act). Fails why (does (at_line step a)) world [] old new) (sym is) (record {
           files = elim causes [
             | inl failed ↦ subst (λ (w : Stop). Halts w (does emits) world new.told) (sym failed) left

@@ -108,7 +108,7 @@ module _ (stays : StandingStays) (step : Step) (world : World) (session : Held) 
       (elim causes [
         | inl failed ↦ subst (λ (w : Stop). Fails w (does (at_line step Compact)) world [] old new) (sym failed)
             (let p = unprinted failed in record {
-              files = record { free = refl; files = same ∙ here.tells };
+              files = record { prints = tt; free = refl; files = same ∙ here.tells };
               printed = subst (λ (line : List ℕ). Tail SinkFailed [] line old.written new.written) (line_here session' p.0) p.1;
             })
         | inr out ↦ subst (λ (w : Stop). Fails w (does (at_line step Compact)) world [] old new) (sym out) (record {

@@ -151,6 +151,26 @@ step_of (counts step) = Some step
 step_of (does step) = Some step
 step_of (shows last) = None
 
+-- an act that prints
+abbrev pub IsPrintingAct : Act → Type 0
+IsPrintingAct (Rpsl slot file) = ⊥
+IsPrintingAct (Stats slot file) = ⊥
+IsPrintingAct (Feed url file) = ⊥
+IsPrintingAct (Overrides file) = ⊥
+IsPrintingAct (Drop source) = ⊥
+IsPrintingAct (Emit file) = Unit {0}
+IsPrintingAct Report = Unit {0}
+IsPrintingAct (Mark name) = ⊥
+IsPrintingAct (Back name) = ⊥
+IsPrintingAct Compact = Unit {0}
+
+-- a move that prints: that of a line that writes a file, reports or compacts, or the last one of a command
+abbrev pub IsPrinting : Move → Type 0
+IsPrinting (looks step) = ⊥
+IsPrinting (counts step) = ⊥
+IsPrinting (does step) = IsPrintingAct step.act
+IsPrinting (shows last) = Unit {0}
+
 -- the line of the job that a move belongs to, and 0 where it belongs to none
 abbrev pub line_of : Move → ℕ
 line_of (looks step) = step.line

@@ -9,7 +9,7 @@ use Rattle.job_run.specs.declared.stop.Cause.{Cause}
 use Rattle.job_run.specs.declared.stop.Cause.TheVariants.{TooLarge}
 use Rattle.job_run.specs.declared.stop.Stop.{Stop}
 use Rattle.job_run.specs.declared.stop.Stop.TheVariants.{Blocked, ReadFailed, PutFailed, SinkFailed, Memory}
-use Rattle.job_run.specs.Acts.{Move, effect, blocked, after, step_of}
+use Rattle.job_run.specs.Acts.{IsPrinting, Move, effect, blocked, after, step_of}
 use Rattle.job_run.specs.Course.{course, ended, IsAt}
 use Rattle.job_run.specs.Published.{Publishes}
 use Rattle.job_run.specs.Seen.{Seen, Prints, PrintsPart}
@@ -61,8 +61,9 @@ pub record IsSpoilt (move : Move) (world : World) (told : Option Told) : Type 0 
   pub tells : told ≡ Some spoilt
   pub spoils : Spoils world.told spoilt (effect move world).name
 
--- a move was made but for its print
+-- a move that prints was made but for its print
 pub record IsUnprinted (move : Move) (world : World) (told : Option Told) : Type 0 where
+  pub prints : IsPrinting move
   pub free : blocked move world ≡ None
   pub files : told ≡ Some (after move world).told
 

@@ -97,6 +97,7 @@ pub(crate) fn set_together<R: Threads + Sync, F: Folder, G: Gate>(
         Ok(feeds) => feeds,
         Err(stop) => return Err(stop),
     };
+    drop(held);
     match set_all(feeds, session) {
         Ok(()) => Ok(()),
         Err(Memory) => Err(OUT_OF_MEMORY),

@@ -103,6 +103,7 @@ pub(crate) fn set_stats<F: Folder>(
         Err(why) => return Err(why),
     };
     let stats = stats_of(alloc, slot, bytes.as_slice())?;
+    drop(bytes);
     session.set_stats(stats)?;
     Ok(())
 }
@@ -161,6 +162,7 @@ pub(crate) fn set_overrides<F: Folder>(
         Err(why) => return Err(why),
     };
     let overrides = overrides_of(alloc, bytes.as_slice())?;
+    drop(bytes);
     session.set_overrides(overrides)?;
     Ok(())
 }

@@ -80,7 +80,7 @@ module _ (stays : StandingStays) (world : World) (block : Prefix) (name : List �
     pub fails_print : (why : Stop) → ((w : Told) → old.told ≡ Some w → new.told ≡ Some (after_put w name bytes))
         → (why ≡ SinkFailed) ⊎ (why ≡ Memory) → Tail why [] line old.written new.written → Fails why move world [] old new
     fails_print why put causes tail =
-        let left : IsUnprinted move world new.told = record { free = refl; files = put_is new.told put } in
+        let left : IsUnprinted move world new.told = record { prints = tt; free = refl; files = put_is new.told put } in
         record {
           files = elim causes [
             | inl failed ↦ subst (λ (w : Stop). Halts w move world new.told) (sym failed) left

@@ -21,6 +21,6 @@ returns-in-Ok-set_all-clause-done g c now world same here =
     group_set c.args.apart.now c.args.group.now world c.args.session.now now here c.as_slice.result.now (search rules)
     c.in-Ok-parse_all.feeds.items c.in-Ok-parse_all.ensures.feeds c.set_all.new.session (search rules)
 
-pub returns-clause-stopped : goal.returns-clause-stopped
-returns-clause-stopped g c now world same here =
+pub returns-in-Err-set_all-clause-stopped : goal.returns-in-Err-set_all-clause-stopped
+returns-in-Err-set_all-clause-stopped g c now world same here =
     group_starved c.args.apart.now c.args.group.now world c.args.session.now now here c.requires.some
