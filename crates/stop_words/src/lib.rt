@@ -23,3 +23,6 @@ pub use names::name_fault;
 pub use place::{PlaceFault, Refusal, refusal_of};
 pub use shape::{Operands, Shape, word_fault};
 pub use stop::{Stopped, stop_text};
+
+#[cfg(test)]
+mod tests;
