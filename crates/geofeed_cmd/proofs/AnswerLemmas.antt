@@ -232,8 +232,8 @@ no-plan (Some (commands.lookup name address)) first none = absurd (cc)
 no-plan (Some (commands.explain name address)) first none = absurd (cc)
 no-plan (Some (commands.gen lines file)) first none = absurd (cc)
 no-plan (Some (commands.publish name block file)) first none = absurd (cc)
-no-plan (Some (commands.check name url)) first none = refl
-no-plan (Some (commands.census name)) first none = refl
+no-plan (Some (commands.check name url)) first none = absurd (cc)
+no-plan (Some (commands.census name)) first none = absurd (cc)
 
 pub comes_words : (command : Option Command) (first : Told) (old new : Seen) (puts puts_now : ℕ)
     → is_command command ≡ false → new.told ≡ Some first

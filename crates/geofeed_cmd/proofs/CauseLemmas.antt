@@ -171,8 +171,8 @@ ending_caused (Some (gen lines file)) first =
     (fit_moves Whole [] (gen_steps file)) refl
 ending_caused (Some (publish name block file)) first =
     on-caused (publish name block file) first name refl refl refl
-ending_caused (Some (check name url)) first = refl
-ending_caused (Some (census name)) first = refl
+ending_caused (Some (check name url)) first = on-caused (check name url) first name refl refl refl
+ending_caused (Some (census name)) first = on-caused (census name) first name refl refl refl
 
 -- an answer prevails, or it has its cause
 pub caused : (command : Option Command) (first : Told) (status : Status) → IsAnswer command first status → Prevails command first status ⊎ Causes status command first
@@ -223,8 +223,10 @@ absent-known (explain other address) name first named absent =
 absent-known (gen lines file) name first named absent = absurd (cc)
 absent-known (publish other block file) name first named absent =
     absent-job (publish other block file) name other first (cc) absent
-absent-known (check other url) name first named absent = absurd (cc)
-absent-known (census other) name first named absent = absurd (cc)
+absent-known (check other url) name first named absent =
+    absent-job (check other url) name other first (cc) absent
+absent-known (census other) name first named absent =
+    absent-job (census other) name other first (cc) absent
 
 absent-status : (command : Option Command) (first : Told) → IsAbsent command first
     → (ending first command).status ≡ statuses.Missing
@@ -250,8 +252,10 @@ refused-known (explain other address) name bytes fault first its held refusal =
 refused-known (gen lines file) name bytes fault first its held refusal = absurd (cc)
 refused-known (publish other block file) name bytes fault first its held refusal =
     refused-job (publish other block file) name other bytes fault first (cc) held refusal
-refused-known (check other url) name bytes fault first its held refusal = absurd (cc)
-refused-known (census other) name bytes fault first its held refusal = absurd (cc)
+refused-known (check other url) name bytes fault first its held refusal =
+    refused-job (check other url) name other bytes fault first (cc) held refusal
+refused-known (census other) name bytes fault first its held refusal =
+    refused-job (census other) name other bytes fault first (cc) held refusal
 
 refused-status : (command : Option Command) (first : Told) → IsNoJob command first
     → (ending first command).status ≡ statuses.Job
@@ -267,8 +271,8 @@ words-status (Some (lookup name address)) first none = absurd (cc)
 words-status (Some (explain name address)) first none = absurd (cc)
 words-status (Some (gen lines file)) first none = absurd (cc)
 words-status (Some (publish name block file)) first none = absurd (cc)
-words-status (Some (check name url)) first none = refl
-words-status (Some (census name)) first none = refl
+words-status (Some (check name url)) first none = absurd (cc)
+words-status (Some (census name)) first none = absurd (cc)
 
 over-status : (command : Option Command) (first : Told) → IsOverLimit command first → (ending first command).status ≡ statuses.Source
 over-status command first over =

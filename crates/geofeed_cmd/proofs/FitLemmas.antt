@@ -1,7 +1,8 @@
 -- The causes for which a move of a command is blocked.
 use Rattle.std.proofs.Common.{◌≡◌, ℕ, zero, suc, Bool, true, false, nat_lt, List, [], ◌∷◌, ◌++◌, length, map, subst}
 use Rattle.std.specs.Prelude.{is_some, Option, Some, None, Result, Ok, Err, slice_get, if◌then◌else◌}
-use Rattle.geo_terms.specs.SourceForm.{DumpParts}
+use Rattle.geo_terms.specs.SourceForm.{DumpParts, FeedParts}
+use Rattle.geo_terms.specs.Sources.{feed_of}
 use Rattle.geo_terms.specs.declared.source.SourceFault.{SourceFault}
 use Rattle.geo_terms.specs.declared.source.SourceFault.TheVariants as faults
 use Rattle.feed_csv.specs.File.{longest as longest_feed, most as most_entries}
@@ -25,6 +26,8 @@ use Rattle.job_run.specs.Moves.{alone, most_together, moves_from, sets_feed, tak
 use Rattle.job_run.specs.Sources.{crowded, entries_of, file_named, is_there, no_source, rows_of, settings_of, uncounted, unreadable, unusable}
 use Rattle.job_run.specs.World.{World, file_in, printing}
 use Rattle.publish_move.specs.Publishing.{publishing}
+use Rattle.geofeed_cmd.specs.Commands.Census.{counting as census_of}
+use Rattle.geofeed_cmd.specs.Commands.Check.{checking, no_feed}
 use Rattle.geofeed_cmd.specs.Commands.Explain.{explaining}
 use Rattle.geofeed_cmd.specs.Run.Plans.{moves_for}
 
@@ -163,6 +166,11 @@ fit_moves scope group (step ∷ steps) =
 pub fit_shown : (text : List ℕ) → AreFit (shows (printing text) ∷ [])
 fit_shown text = (λ world. tt, tt)
 
+-- the feed to be checked is there, or is not
+checked : (found : Option FeedParts) → AreOfMove (no_feed found)
+checked None = tt
+checked (Some f) = tt
+
 -- the moves of each command on a job
 pub fit_for : (known : Command) (steps : List Step) → AreFit (moves_for known steps)
 fit_for (commands.build name) steps = fit_moves Whole [] steps
@@ -174,5 +182,9 @@ fit_for (commands.gen lines file) steps = tt
 fit_for (commands.publish name block file) steps =
     fit_append (moves_from Sources [] steps) (shows (publishing block file) ∷ []) (fit_moves Sources [] steps)
     (λ world. tt, tt)
-fit_for (commands.check name url) steps = tt
-fit_for (commands.census name) steps = tt
+fit_for (commands.check name url) steps =
+    fit_append (moves_from Sources [] steps) (shows (checking url) ∷ []) (fit_moves Sources [] steps)
+    (λ world. checked (feed_of world.session.state.sources url), tt)
+fit_for (commands.census name) steps =
+    fit_append (moves_from Sources [] steps) (shows census_of ∷ []) (fit_moves Sources [] steps)
+    (λ world. tt, tt)

@@ -1,5 +1,5 @@
 -- The generated job's files are there.
-use Rattle.std.proofs.Common.{◌≡◌, ℕ, zero, suc, Bool, true, false, nat_lt, List, [], ◌∷◌, length, refl, sym, ap, subst, ◌∙◌}
+use Rattle.std.proofs.Common.{◌≡◌, ℕ, zero, suc, Bool, true, false, nat_lt, List, [], length, refl, sym, ap, subst, ◌∙◌}
 use Rattle.std.specs.Prelude.{Option, Some, None, Result, Ok, Err, slice_get, codes, if◌then◌else◌}
 use Rattle.geo_terms.specs.SourceForm.{DumpParts}
 use Rattle.geo_terms.specs.declared.source.SourceFault.{SourceFault}
@@ -15,7 +15,7 @@ use Rattle.job_run.specs.declared.stop.Cause.{Cause}
 use Rattle.job_run.specs.declared.stop.Cause.TheVariants.{Missing, TooLong, TooMany}
 use Rattle.job_run.specs.Dumps.{refusal}
 use Rattle.job_run.specs.Moves.{LacksAt}
-use Rattle.job_run.specs.Sources.{LacksApart, crowded, entries_of, file_named, no_source, rows_of, settings_of, uncounted, unreadable, unusable}
+use Rattle.job_run.specs.Sources.{LacksApart, crowded, entries_of, no_source, rows_of, settings_of, uncounted, unreadable, unusable}
 use Rattle.job_run.specs.World.{bytes_apart}
 use Rattle.geofeed_cmd.specs.Commands.Gen.{dump_file, dump_step, emit_step, first_file, first_step, gen_files, gen_steps, second_file, second_step, stats_file, stats_step}
 

@@ -10,6 +10,7 @@ use Rattle.geo_outside.specs.Files.{Told}
 use Rattle.trie_core.proofs.StoreLemmas.{slice_get-append, slice_get_last}
 use Rattle.update_session.specs.Kept.{Held}
 use Rattle.command_words.specs.Commands.{Command}
+use Rattle.job_run.specs.declared.stop.Cause.{Cause}
 use Rattle.job_run.specs.declared.stop.Stop.{Stop}
 use Rattle.job_run.specs.declared.stop.Stop.TheVariants as stops
 use Rattle.job_run.specs.Acts.{Move, shows, after, effect, line_of}
@@ -64,6 +65,14 @@ tail_more stops.SinkFailed old mid new text part first tail = λ before was.
     let p = tail (before ++ text) (first before was) in
     (p.0, p.1 ∙ ap Some (append_assoc before text (take p.0 part)))
 tail_more stops.Memory old mid new text part first tail = prints_still old mid new text first tail
+
+-- a move that puts nothing does not stop at a put
+pub puts_nothing : (cause : Cause) (why : Stop)
+    → (why ≡ stops.Blocked cause) ⊎ ((why ≡ stops.SinkFailed) ⊎ (why ≡ stops.Memory))
+    → why ≡ stops.PutFailed → ⊥
+puts_nothing cause why (inl blocks) put = cc
+puts_nothing cause why (inr (inl failed)) put = cc
+puts_nothing cause why (inr (inr out)) put = cc
 
 -- a place in a list with one member more: it is one of the list's, or the last
 pub data Place (moves : List Move) (last : Move) (count : ℕ) (move : Move) : Type 0 where
@@ -156,7 +165,7 @@ module _ (text : World → List ℕ) (command : Option Command) (first : Told) (
   fails why causes tail = record {
     files = elim causes [
       | inl failed ↦ subst (λ w. Halts w shown all.world new.told) (sym failed)
-          (record { free = refl; files = told ∙ all.stands.tells })
+          (record { prints = tt; free = refl; files = told ∙ all.stands.tells })
       | inr out ↦ subst (λ w. Halts w shown all.world new.told) (sym out) (inl (told ∙ all.stands.tells))
     ];
     printed = tail;

@@ -39,7 +39,7 @@ module _ (command : Option Command) (text : List ℕ) (first : Told) (old new : 
 
   unshown : (why : Stop) → (why ≡ SinkFailed) ⊎ (why ≡ Memory) → Halts why (shows (printing text)) (alone first) new.told
   unshown why causes = elim causes [
-    | inl failed ↦ subst (λ w. Halts w (shows (printing text)) (alone first) new.told) (sym failed) (record { free = refl; files = files })
+    | inl failed ↦ subst (λ w. Halts w (shows (printing text)) (alone first) new.told) (sym failed) (record { prints = tt; free = refl; files = files })
     | inr out ↦ subst (λ w. Halts w (shows (printing text)) (alone first) new.told) (sym out) (inl files)
   ]
 

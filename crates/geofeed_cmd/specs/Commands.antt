@@ -1,3 +1,5 @@
 -- What commands beside `build` do behind the sources of their job.
+pub mod Census
+pub mod Check
 pub mod Explain
 pub mod Gen

@@ -2,7 +2,7 @@
 ghost use Rattle.std.specs.Prelude.{◌≡◌, ◌⊎◌, ◌≢◌, ◌≤◌, ◌+◌, ℕ, [], List, None, Some, false, map, string_bytes};
 ghost use Rattle.geo_outside.specs.Count.{Rose};
 ghost use Rattle.geo_outside.specs.Files.{Told};
-ghost use Rattle.command_words.specs.Commands.{command_of};
+ghost use Rattle.command_words.specs.Commands.{command_of, gen};
 ghost use Rattle.command_words.specs.Words.{lines_said, named};
 ghost use Rattle.job_lines.specs.declared.act.Act.TheVariants.{Emit};
 ghost use Rattle.job_lines.specs.declared.job.Step as steps_of;
@@ -10,25 +10,22 @@ ghost use Rattle.job_run.specs.Acts.{does};
 ghost use Rattle.job_run.specs.Published.{IsLeastByValue, IsPublished};
 ghost use Rattle.job_run.specs.Seen.{seen};
 ghost use Rattle.job_run.specs.World.{World};
-ghost use Rattle.geofeed_cmd.specs.Run.Answers.{Comes, IsAnswer, IsDone, Prevails, SpendsAll};
+ghost use Rattle.geofeed_cmd.specs.Run.Answers.{Comes, EndsGenerated, IsAnswer, IsDone, Prevails, SpendsAll};
 ghost use Rattle.geofeed_cmd.specs.Run.Causes.{Causes, IsFree};
-ghost use Rattle.geofeed_cmd.specs.Run.Closes.{Closes};
-ghost use Rattle.geofeed_cmd.specs.Run.Lines.{stop_line};
-ghost use Rattle.job_run.specs.declared.stop.Stop.TheVariants as stops;
-ghost use Rattle.job_run.specs.declared.stop.Cause.TheVariants as causes;
 ghost use Rattle.geofeed_cmd.specs.Run.Plans.{Reaches, is_command, puts_files, reads_folder, room_of, takes_steps};
 ghost use Rattle.geofeed_cmd.specs.declared.status.Status as statuses;
 
 use crate::commands::build::build;
+use crate::commands::census::census;
+use crate::commands::check::check;
 use crate::commands::explain::explain;
 use crate::commands::generate::generate;
 use crate::commands::lookup::lookup;
 use crate::commands::publish::publish;
 use crate::status::Status;
-use crate::stop::stop_at;
+use crate::stop::no_command;
 use command_words::{Spoken, command_in};
 use geo_outside::{Folder, Gate, Sink, Steps};
-use job_run::{Cause, Stop};
 use publish_move::is_plain;
 use std::alloc::Global;
 use std::marker::Sync;
@@ -37,8 +34,10 @@ use std::thread::Threads;
 
 /// Does the command that the words are.
 ///
-/// `build JOB` does the job in the file JOB, `explain JOB ADDR` prints why the address ADDR has its record by the
-/// sources of that job, and `lookup FILE ADDR` prints what FILE says of ADDR.
+/// `build JOB` does the job in the file JOB. By its sources `explain JOB ADDR` prints why the address ADDR has its
+/// record, `publish JOB BLOCK FILE` writes the shortest feed of a block, `check JOB URL` prints what becomes of each
+/// line of a feed, and `census JOB` how many addresses each country has. `lookup FILE ADDR` prints what FILE says of
+/// ADDR, and `gen N FILE` does a generated job.
 ///
 /// Files are read and put by `folder`, and what is printed goes to `out`. A job is done line by line. The
 /// first line that cannot be done ends it, and one line on why is printed behind what was printed before.
@@ -90,6 +89,10 @@ pub fn run<R: Threads + Sync, F: Folder, O: Sink, G: Gate, L: Ledger>(
         → ¬ Rose (F.put_faults folder.old) (F.put_faults folder.new)
         → ¬ Rose (O.faults out.old) (O.faults out.new)
         → (result ≡ Status.Done) ⊎ (result ≡ Status.Memory) }
+
+    // `gen` reads no file of the folder, and its own are there and within their limits.
+    ensures generated { (first : Told) (lines : ℕ) (file : List ℕ) → F.told folder.old ≡ Some first
+        → command_of (map string_bytes words.now) ≡ Some (gen lines file) → EndsGenerated result }
 
     // These stand whatever the folder and the sink tell.
     ensures words { result ≡ Status.Words → is_command (command_of (map string_bytes words.now)) ≡ false }
@@ -198,17 +201,7 @@ fn do_spoken<R: Threads + Sync, F: Folder, O: Sink, G: Gate, L: Ledger>(
                 no_command(alloc, out)
             }
         }
-        Spoken::Check(_, _) => no_command(alloc, out),
-        Spoken::Census(_) => no_command(alloc, out),
+        Spoken::Check(name, word) => check(rt, alloc, name, word, folder, out, gate, steps),
+        Spoken::Census(name) => census(rt, alloc, name, folder, out, gate, steps),
     }
-}
-
-/// Words that are no command.
-fn no_command<O: Sink>(alloc: Global, out: &mut O) -> Status
-    ensures status { result ≡ Status.Words }
-    ensures closed { Closes (O.written out.old) (O.written out.new) (O.faults out.old)
-        (O.faults out.new) [] (stop_line (stops.Blocked causes.Words) 0 []) }
-    ensures faults { O.faults out.old ≤ O.faults out.new }
-{
-    stop_at(alloc, Stop::Blocked(Cause::Words), 0, "", out)
 }

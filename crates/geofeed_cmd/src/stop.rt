@@ -2,6 +2,8 @@
 ghost use Rattle.std.specs.Prelude.{◌≡◌, ◌≤◌, ◌++◌, ℕ, List, [], IfOk, codes, decimal};
 ghost use Rattle.geofeed_cmd.specs.Run.Lines.{job_line, status_of, stop_line};
 ghost use Rattle.geofeed_cmd.specs.Run.Closes.{Closes};
+ghost use Rattle.job_run.specs.declared.stop.Cause.TheVariants as causes;
+ghost use Rattle.job_run.specs.declared.stop.Stop.TheVariants as stops;
 
 use crate::status::Status;
 use file_lookup::file_line;
@@ -101,6 +103,16 @@ pub(crate) fn stop_at<O: Sink>(
 {
     print_line(out, stop_line(alloc, why, line, name));
     status_of(why)
+}
+
+/// What is done at words that are no command.
+pub(crate) fn no_command<O: Sink>(alloc: Global, out: &mut O) -> Status
+    ensures status { result ≡ Status.Words }
+    ensures closed { Closes (O.written out.old) (O.written out.new) (O.faults out.old)
+        (O.faults out.new) [] (stop_line (stops.Blocked causes.Words) 0 []) }
+    ensures faults { O.faults out.old ≤ O.faults out.new }
+{
+    stop_at(alloc, Stop::Blocked(Cause::Words), 0, "", out)
 }
 
 // An empty line is not written, so nothing follows a sink that failed.

@@ -119,3 +119,20 @@ pub data Prevails (command : Option Command) (first : Told) : Status → Type 0 
 -- the answer is that of the ending, or the ending yields to it
 abbrev pub IsAnswer : (command : Option Command) → (first : Told) → (answer : Status) → Type 0
 IsAnswer command first answer = ((ending first command).status ≡ answer) ⊎ Prevails command first answer
+
+-- how the command `gen` may end: its files are there and within their limits, what it writes is never too large, and
+-- nothing is dropped or gone back to
+abbrev pub EndsGenerated : Status → Type 0
+EndsGenerated statuses.Done = Unit {0}
+EndsGenerated statuses.Memory = Unit {0}
+EndsGenerated statuses.Words = ⊥
+EndsGenerated statuses.ReadFault = ⊥
+EndsGenerated statuses.Missing = ⊥
+EndsGenerated statuses.WriteFault = Unit {0}
+EndsGenerated statuses.Job = ⊥
+EndsGenerated statuses.Source = ⊥
+EndsGenerated statuses.TooLarge = ⊥
+EndsGenerated statuses.File = ⊥
+EndsGenerated statuses.Drop = ⊥
+EndsGenerated statuses.Mark = ⊥
+EndsGenerated statuses.Absent = ⊥

@@ -18,6 +18,8 @@ use Rattle.job_run.specs.Sources.{unreadable}
 use Rattle.job_run.specs.World.{World, printing}
 use Rattle.command_words.specs.Commands.{Command, build, lookup, explain, gen, publish, check, census}
 use Rattle.publish_move.specs.Publishing.{publishing}
+use Rattle.geofeed_cmd.specs.Commands.Census.{counting}
+use Rattle.geofeed_cmd.specs.Commands.Check.{checking}
 use Rattle.geofeed_cmd.specs.Commands.Explain.{explaining}
 use Rattle.geofeed_cmd.specs.Commands.Gen.{gen_start, gen_steps}
 
@@ -54,8 +56,8 @@ moves_for (explain name address) steps = source_moves steps ++ shows (explaining
 moves_for (gen lines file) steps = []
 moves_for (publish name block file) steps =
     source_moves steps ++ shows (publishing block file) ∷ []
-moves_for (check name url) steps = []
-moves_for (census name) steps = []
+moves_for (check name url) steps = source_moves steps ++ shows (checking url) ∷ []
+moves_for (census name) steps = source_moves steps ++ shows counting ∷ []
 
 abbrev pub job_plan : Command → Told → (name : List ℕ) → Result Job Cause → Plan
 job_plan known first name (Err cause) = refused cause name
@@ -91,7 +93,7 @@ abbrev pub lookup_plan : Told → (name : List ℕ) → (address : ℕ) → Opti
 lookup_plan first name address held =
     unless_unreadable (unreadable longest_file held) name (answered_in address first name held)
 
--- words that are no command are refused, and so are, until they can be done, some that are one
+-- words that are no command are refused
 abbrev pub no_plan : Plan
 no_plan = refused causes.Words []
 
@@ -103,10 +105,10 @@ plan_of first (Some (lookup name address)) =
 plan_of first (Some (explain name address)) = plan_on (explain name address) first name
 plan_of first (Some (gen lines file)) = planned (moves_of (gen_steps file)) (gen_start lines first)
 plan_of first (Some (publish name block file)) = plan_on (publish name block file) first name
-plan_of first (Some (check name url)) = no_plan
-plan_of first (Some (census name)) = no_plan
+plan_of first (Some (check name url)) = plan_on (check name url) first name
+plan_of first (Some (census name)) = plan_on (census name) first name
 
--- whether there is something to do
+-- whether words are a command
 abbrev pub is_command : Option Command → Bool
 is_command None = false
 is_command (Some (build name)) = true
@@ -114,8 +116,8 @@ is_command (Some (lookup name address)) = true
 is_command (Some (explain name address)) = true
 is_command (Some (gen lines file)) = true
 is_command (Some (publish name block file)) = true
-is_command (Some (check name url)) = false
-is_command (Some (census name)) = false
+is_command (Some (check name url)) = true
+is_command (Some (census name)) = true
 
 -- the job that a command does, if it does one
 abbrev pub job_of : Command → Option (List ℕ)
@@ -124,8 +126,8 @@ job_of (lookup name address) = None
 job_of (explain name address) = Some name
 job_of (gen lines file) = None
 job_of (publish name block file) = Some name
-job_of (check name url) = None
-job_of (census name) = None
+job_of (check name url) = Some name
+job_of (census name) = Some name
 
 -- the file that a command reads first, if it reads one
 abbrev pub file_first : Command → Option (List ℕ)
@@ -134,8 +136,8 @@ file_first (lookup name address) = Some name
 file_first (explain name address) = Some name
 file_first (gen lines file) = None
 file_first (publish name block file) = Some name
-file_first (check name url) = None
-file_first (census name) = None
+file_first (check name url) = Some name
+file_first (census name) = Some name
 
 -- whether a command reads files of the folder
 abbrev pub reads_folder : Option Command → Bool
@@ -181,8 +183,8 @@ room_of first (Some (lookup name address)) = longest_file + 65536
 room_of first (Some (explain name address)) = job_room (held_job (map.get first.held name))
 room_of first (Some (gen lines file)) = 0
 room_of first (Some (publish name block file)) = job_room (held_job (map.get first.held name))
-room_of first (Some (check name url)) = 0
-room_of first (Some (census name)) = 0
+room_of first (Some (check name url)) = job_room (held_job (map.get first.held name))
+room_of first (Some (census name)) = job_room (held_job (map.get first.held name))
 
 -- a command reaches this move in this world: all moves before it can be made
 pub record Reaches (command : Option Command) (first : Told) (move : Move) (world : World) : Type 0 where

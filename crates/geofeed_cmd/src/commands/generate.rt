@@ -7,7 +7,7 @@ ghost use Rattle.job_run.specs.Seen.{seen};
 ghost use Rattle.command_words.specs.Commands.{gen};
 ghost use Rattle.update_session.specs.Calls.{IsNew};
 ghost use Rattle.geofeed_cmd.specs.Commands.Gen.{dump_file, dump_step, emit_step, first_file, first_step, gen_files, gen_steps, second_file, second_step, stats_file, stats_step};
-ghost use Rattle.geofeed_cmd.specs.Run.Answers.{Comes};
+ghost use Rattle.geofeed_cmd.specs.Run.Answers.{Comes, EndsGenerated};
 
 use crate::status::Status;
 use crate::whole::do_whole;
@@ -64,6 +64,7 @@ pub(crate) fn generate<R: Threads + Sync, F: Folder, O: Sink, G: Gate, L: Ledger
         (seen (F.told folder.old) (O.written out.old) (O.faults out.old) steps.old)
         (seen (F.told folder.new) (O.written out.new) (O.faults out.new) steps.new)
         (F.put_faults folder.old) (F.put_faults folder.new) }
+    ensures ends { (first : Told) → F.told folder.old ≡ Some first → EndsGenerated result }
     ensures not_words { result ≢ Status.Words }
     ensures unread { result ≢ Status.ReadFault }
     ensures missing { result ≡ Status.Missing → Rose (F.misses folder.old) (F.misses folder.new) }

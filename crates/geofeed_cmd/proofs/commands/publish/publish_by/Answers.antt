@@ -1,5 +1,5 @@
 -- The answer of `publish` from that of its last move.
-use Rattle.std.proofs.Common.{◌≡◌, [], refl, arith, ℕ}
+use Rattle.std.proofs.Common.{refl, arith}
 use Rattle.geo_outside.specs.Count.{Rose}
 use Rattle.job_run.specs.Acts.{shows}
 use Rattle.job_run.specs.Moves.{source_moves}

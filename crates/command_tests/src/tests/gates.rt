@@ -1,0 +1,82 @@
+//! The parallel map is used for what a job asks: two pieces are in it at once.
+use super::{Files, Left, NONE, ended, start, words_of};
+use geo_outside::Gate;
+use geofeed_cmd::Status;
+use std::alloc::Global;
+use std::marker::Sync;
+use std::sync::atomic::{AtomicU64, Ordering};
+use std::test::Fail;
+use std::thread;
+use std::thread::Threads;
+
+/// A gate at which two pieces wait for one another, though not without end.
+#[derive(Drop)]
+struct Meeting {
+    first: AtomicU64,
+    second: AtomicU64,
+    met: AtomicU64,
+}
+
+impl Meeting {
+    fn new() -> Meeting {
+        Meeting {
+            first: AtomicU64::new(0),
+            second: AtomicU64::new(0),
+            met: AtomicU64::new(0),
+        }
+    }
+}
+
+impl Gate for Meeting {
+    fn enter(&self, piece: u32) {
+        let (mine, other) = if piece == 0 {
+            (&self.first, &self.second)
+        } else {
+            (&self.second, &self.first)
+        };
+        mine.store(1, Ordering::SeqCst);
+        for _ in 0..1_000_000u32 {
+            if other.load(Ordering::SeqCst) == 1 {
+                self.met.fetch_add(1, Ordering::SeqCst);
+                return;
+            }
+            thread::yield_now();
+        }
+    }
+}
+
+/// Two feeds to be parsed, and two segments to be looked up, in two pieces each.
+const JOBS: Files = &[
+    (
+        "f",
+        "epoch 1\npieces 2\nfeed https://a.example/ a\nfeed https://b.example/ b\n",
+    ),
+    ("o", "epoch 1\npieces 2\noverrides p\nemit e\n"),
+    ("a", "10.0.0.0/8,FR,,,\n"),
+    ("b", "11.0.0.0/8,DE,,,\n"),
+    ("p", "10.0.0.0/8,set,FR\n12.0.0.0/8,set,DE\n"),
+];
+
+/// How many pieces met while the command was done.
+fn meetings<R: Threads + Sync>(
+    rt: &R,
+    alloc: Global,
+    command: &str,
+    left: &mut Left,
+) -> Result<u64, Fail> {
+    let gate = Meeting::new();
+    let words = words_of(alloc, command)?;
+    left.status = ended(rt, alloc, words.as_slice(), left, &gate);
+    Ok(gate.met.load(Ordering::SeqCst))
+}
+
+#[test]
+fn two_pieces_meet(rt: HostRuntime) -> Result<(), Fail> {
+    for command in ["build f", "build o"] {
+        let mut left = start(rt.alloc(), JOBS, NONE)?;
+        let met = meetings(&rt, rt.alloc(), command, &mut left)?;
+        assert_eq!(rt; left.status, Status::Done, "{command}");
+        assert_eq!(rt; met, 2, "{command}");
+    }
+    Ok(())
+}

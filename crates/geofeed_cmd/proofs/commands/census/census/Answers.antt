@@ -1,0 +1,28 @@
+-- The answer of `census` from that of its parts.
+use Rattle.std.proofs.Common.{◌≤◌, ◌∙◌, ap, arith, refl}
+use Rattle.std.specs.FinMap as map
+use Rattle.std.specs.Prelude.{Some}
+use Rattle.command_words.specs.Commands.{census}
+use Rattle.geofeed_cmd.specs.Run.Plans.{job_plan}
+use Rattle.geofeed_cmd.proofs.AnswerLemmas.{comes_earlier, comes_hindered, hindered_job}
+use Rattle.geofeed_cmd.proofs.commands.census.census.Goals as goal
+
+pub returns-in-Ok-clause-comes : goal.returns-in-Ok-clause-comes
+returns-in-Ok-clause-comes g c =
+    λ first told.
+    let known = census c.args.name.now in
+    let plan = ap (job_plan known first c.args.name.now) (c.in-Ok.ensures.job first told) in
+    let comes = c.census_by.ensures.comes first (c.job_in.ensures.same ∙ told) (Some known) plan in
+    comes_earlier c.census_by.result (Some known) first _ _ _ _ _ c.job_in.ensures.put_faults
+    (rw c.job_in.ensures.same at comes)
+
+pub returns-in-Err-clause-comes : goal.returns-in-Err-clause-comes
+returns-in-Err-clause-comes g c =
+    λ first told.
+    let known = census c.args.name.now in
+    let steps : c.args.steps.now ≤ c.args.steps.now = omega arith in
+    rw c.stop_at.ensures.status
+    (comes_hindered known c.args.name.now first _ _ _ _ refl c.in-Err.why
+    (hindered_job known first c.args.name.now c.in-Err.why (map.get first.held c.args.name.now)
+    (c.in-Err.ensures.none first told))
+    (c.job_in.ensures.same ∙ told) c.stop_at.ensures.closed steps)
