@@ -1,5 +1,6 @@
 //! The current folder as the program's folder.
-ghost use Rattle.std.specs.Prelude.{◌≡◌, ◌≤◌, None, IfOk, length};
+ghost use Rattle.std.specs.Prelude.{◌≡◌, ◌≢◌, ◌≤◌, None, Err, IfOk, length};
+ghost use Rattle.geo_outside.specs.Count.{Rose};
 
 use crate::disk::replace;
 use crate::host::HostDisk;
@@ -71,7 +72,14 @@ impl<R: Files<File = File> + AllocGlobal> Folder for DirFolder<'_, R> {
         }
     }
 
-    fn put(&mut self, name: &str, bytes: &[u8]) -> Result<(), OutErr> {
+    /// It never answers `Memory`: a put that the system has no memory for has failed, and `why` says so.
+    fn put(&mut self, name: &str, bytes: &[u8]) -> Result<(), OutErr>
+        ensures never_memory { result ≢ Err OutErr.Memory }
+        ensures failed { result ≡ Err OutErr.Failed → Rose self.old.put_faults self.new.put_faults }
+        ensures read_faults { self.old.read_faults ≤ self.new.read_faults }
+        ensures put_faults { self.old.put_faults ≤ self.new.put_faults }
+        ensures misses { self.old.misses ≤ self.new.misses }
+    {
         self.open = None;
         match replace(&mut HostDisk::new(self.rt), self.rt.alloc(), name, bytes) {
             Ok(()) => Ok(()),

@@ -1,5 +1,6 @@
 //! Standard output as a sink.
-ghost use Rattle.std.specs.Prelude.{◌≡◌, None};
+ghost use Rattle.std.specs.Prelude.{◌≡◌, ◌≢◌, ◌≤◌, None, Err};
+ghost use Rattle.geo_outside.specs.Count.{Rose};
 
 use crate::whole::write_whole;
 use geo_outside::{OutErr, Sink};
@@ -58,7 +59,12 @@ impl<W: Write> Sink for StdSink<W> {
 
     ghost faults = { λ sink. sink.faults };
 
-    fn write_all(&mut self, piece: &[u8]) -> Result<(), OutErr> {
+    /// It never answers `Memory`: a write that the system has no memory for has failed, and `why` says so.
+    fn write_all(&mut self, piece: &[u8]) -> Result<(), OutErr>
+        ensures never_memory { result ≢ Err OutErr.Memory }
+        ensures failed { result ≡ Err OutErr.Failed → Rose self.old.faults self.new.faults }
+        ensures faults { self.old.faults ≤ self.new.faults }
+    {
         self.keep(piece);
         match write_whole(&mut self.out, piece) {
             Ok(()) => Ok(()),
