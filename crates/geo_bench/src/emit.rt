@@ -1,6 +1,7 @@
 //! The cases `read` and `emit`: made statistics are read, and become a file.
 ghost use Rattle.std.specs.Prelude.{◌≡◌, ◌<◌};
 
+use crate::fault::Fault;
 use crate::registries::statistics;
 use fan_work::Forks;
 use geo_addr::Text;
@@ -17,12 +18,12 @@ use update_session::Session;
 
 /// Makes statistics of so many delegations, reads them, writes their file where that is wanted, and
 /// prints the counts.
-pub fn run<R: Threads + Sync + Print>(
+pub(crate) fn run<R: Threads + Sync + Print>(
     alloc: Global,
     rt: &R,
     size: u32,
     is_emitted: bool,
-) -> anyhow::Result<()> {
+) -> Result<(), Fault> {
     let text = statistics(alloc, size)?;
     let stats = read_stats(alloc, "made", text.as_bytes())?;
     println!(rt; "bytes {}", text.len())?;
@@ -45,7 +46,7 @@ fn emitted<R: Threads + Sync, L: Ledger>(
     alloc: Global,
     stats: Stats,
     blank: Blank,
-) -> anyhow::Result<Emitted>
+) -> Result<Emitted, Fault>
     requires name { blank.name ≡ L.name }
     requires parts { blank.parts ≡ L.parts }
     requires some { 0 < blank.parts }

@@ -1,5 +1,6 @@
 //! The cases `serial` and `parallel`: the same work for each of 64 items, in one piece or in four.
 
+use crate::fault::Fault;
 use crate::ranges::mixed;
 use fan_work::{Forks, Work, map_pieces};
 use geo_addr::Memory;
@@ -14,16 +15,13 @@ const ITEMS: u32 = 64;
 
 /// Does the work of so many rounds for each item in one piece, or side by side in four, and prints how many
 /// results there are and what they come to together.
-pub fn run<R: Threads + Sync + Print>(
+pub(crate) fn run<R: Threads + Sync + Print>(
     alloc: Global,
     rt: &R,
     rounds: u32,
     is_parallel: bool,
-) -> anyhow::Result<()> {
-    let mut items = Vec::new(alloc);
-    for item in 0..ITEMS {
-        items.push(item)?;
-    }
+) -> Result<(), Fault> {
+    let items = all_items(alloc)?;
     let pieces = if is_parallel { 4 } else { 1 };
     let forks = Forks {
         rt,
@@ -31,10 +29,18 @@ pub fn run<R: Threads + Sync + Print>(
         gate: &OpenGate,
         pieces,
     };
-    let results = map_pieces(&forks, &items, &Rounds(rounds))?;
+    let results = map_pieces(&forks, items.as_slice(), &Rounds(rounds))?;
     println!(rt; "results {}", results.len())?;
     println!(rt; "together {}", results.iter().fold(0u32, |all, x| all ^ *x))?;
     Ok(())
+}
+
+fn all_items(alloc: Global) -> Result<Vec<u32>, Memory> {
+    let mut items = Vec::new(alloc);
+    for item in 0..ITEMS {
+        items.push(item)?;
+    }
+    Ok(items)
 }
 
 /// Work that mixes a number so many times.

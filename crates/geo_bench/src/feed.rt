@@ -1,19 +1,20 @@
 //! The cases `lines`, `feed` and `scattered`: a feed is made, and read.
 
+use crate::fault::Fault;
 use crate::ranges::mixed;
 use feed_csv::read_feed;
-use geo_addr::{Addr, addr_text};
+use geo_addr::{Addr, Memory, addr_text};
 use std::alloc::Global;
 use std::io::Print;
 
 /// Makes a feed of so many lines, reads it where that is wanted, and prints the counts.
-pub fn run(
+pub(crate) fn run(
     alloc: Global,
     rt: &impl Print,
     size: u32,
     is_scattered: bool,
     is_read: bool,
-) -> anyhow::Result<()> {
+) -> Result<(), Fault> {
     let text = lines(alloc, size, is_scattered)?;
     println!(rt; "bytes {}", text.len())?;
     if is_read {
@@ -26,7 +27,7 @@ pub fn run(
 
 /// The lines of a feed: prefixes of 16 IPv4 addresses that follow one another, or that stand anywhere in
 /// an eighth of the space, so that some stand twice.
-pub fn lines(alloc: Global, size: u32, is_scattered: bool) -> anyhow::Result<String> {
+pub(crate) fn lines(alloc: Global, size: u32, is_scattered: bool) -> Result<String, Memory> {
     let mut text = String::new(alloc);
     for index in 0..size {
         let place = if is_scattered {

@@ -1,8 +1,9 @@
 //! The cases `feeds` and `overrides`: geofeeds, or files of overrides, are read from files.
+
+use crate::fault::Fault;
 use feed_csv::read_feed;
 use override_rows::read_overrides;
 use std::alloc::Global;
-use std::env::Args;
 use std::fs;
 use std::io::Print;
 use std::rt::Files;
@@ -16,18 +17,19 @@ struct Counts {
 }
 
 /// Reads feeds, or else files of overrides, and prints the counts.
-pub fn run<R: Files + Print + AllocGlobal>(
+pub(crate) fn run<R: Files + Print + AllocGlobal>(
     rt: &R,
-    first: &str,
-    more: Args,
+    names: &[String],
     are_feeds: bool,
-) -> anyhow::Result<()> {
-    let mut all = read(rt, first, are_feeds)?;
-    for name in more {
+) -> Result<(), Fault> {
+    let mut all = Counts {
+        bytes: 0,
+        statements: 0,
+        notes: 0,
+    };
+    for name in names {
         let one = read(rt, name.as_str(), are_feeds)?;
-        all.bytes = all.bytes.saturating_add(one.bytes);
-        all.statements = all.statements.saturating_add(one.statements);
-        all.notes = all.notes.saturating_add(one.notes);
+        add(&mut all, one);
     }
     println!(rt; "bytes {}", all.bytes)?;
     println!(rt; "statements {}", all.statements)?;
@@ -35,7 +37,13 @@ pub fn run<R: Files + Print + AllocGlobal>(
     Ok(())
 }
 
-fn read<R: Files + AllocGlobal>(rt: &R, name: &str, is_feed: bool) -> anyhow::Result<Counts> {
+fn add(all: &mut Counts, one: Counts) {
+    all.bytes = all.bytes.saturating_add(one.bytes);
+    all.statements = all.statements.saturating_add(one.statements);
+    all.notes = all.notes.saturating_add(one.notes);
+}
+
+fn read<R: Files + AllocGlobal>(rt: &R, name: &str, is_feed: bool) -> Result<Counts, Fault> {
     let text = fs::read(rt, name)?;
     if is_feed {
         read_one_feed(rt.alloc(), name, text.as_slice())
@@ -44,7 +52,7 @@ fn read<R: Files + AllocGlobal>(rt: &R, name: &str, is_feed: bool) -> anyhow::Re
     }
 }
 
-fn read_one_feed(alloc: Global, name: &str, text: &[u8]) -> anyhow::Result<Counts> {
+fn read_one_feed(alloc: Global, name: &str, text: &[u8]) -> Result<Counts, Fault> {
     let feed = read_feed(alloc, name, text)?;
     Ok(Counts {
         bytes: text.len(),
@@ -53,7 +61,7 @@ fn read_one_feed(alloc: Global, name: &str, text: &[u8]) -> anyhow::Result<Count
     })
 }
 
-fn read_one_list(alloc: Global, text: &[u8]) -> anyhow::Result<Counts> {
+fn read_one_list(alloc: Global, text: &[u8]) -> Result<Counts, Fault> {
     let overrides = read_overrides(alloc, text)?;
     Ok(Counts {
         bytes: text.len(),

@@ -3,59 +3,111 @@
 //! What a case prints is counts and no times, so that its output is the same wherever it runs.
 #![tactic(auto)]
 
+mod case;
 mod dump;
 mod emit;
 mod fan;
+mod fault;
 mod feed;
 mod feeds;
 mod order;
+mod pack;
 mod paint;
 mod publish;
 mod ranges;
 mod registries;
 mod speak;
+mod wide;
 mod write;
 
-use anyhow::{Context, bail};
-use speak::Stage;
-use std::env;
+use crate::case::{Case, FileCase, SizedCase, case_of};
+use crate::fault::Fault;
+use std::env::Env;
+use std::io::Print;
+use std::marker::Sync;
+use std::rt::Files;
+use std::thread::Threads;
+use std::{env, io};
 
-/// How many times the case `order` orders its small root.
-const ORDERED: u32 = 1000;
+fn main(rt: HostRuntime) -> Result<(), Fault> {
+    let words = words_of(&rt)?;
+    run(&rt, words.as_slice())
+}
 
-fn main(rt: HostRuntime) -> anyhow::Result<()> {
-    let mut words = env::args(&rt)?;
-    let _program = words.next();
-    let case = words.next().context("the first word is to be a case")?;
-    let second = words
-        .next()
-        .context("the second word is to be a size or a file")?;
-    match case.as_str() {
-        "dump" => return dump::run(&rt, second.as_str()),
-        "feeds" => return feeds::run(&rt, second.as_str(), words, true),
-        "overrides" => return feeds::run(&rt, second.as_str(), words, false),
-        _ => {}
+// The words after the program's name.
+fn words_of<R: Env + AllocGlobal>(rt: &R) -> io::Result<Vec<String>> {
+    let mut words = Vec::new(rt.alloc());
+    let mut given = env::args(rt)?;
+    let _program = given.next();
+    for word in given {
+        words.push(word)?;
     }
-    let size: u32 = second.parse().context("the size is to be a number")?;
-    match case.as_str() {
-        "paint" => paint::run(rt.alloc(), &rt, size),
-        "fill" => order::run(rt.alloc(), &rt, size, 0),
-        "order" => order::run(rt.alloc(), &rt, size, ORDERED),
-        "read" => emit::run(rt.alloc(), &rt, size, false),
-        "emit" => emit::run(rt.alloc(), &rt, size, true),
-        "lines" => feed::run(rt.alloc(), &rt, size, false, false),
-        "feed" => feed::run(rt.alloc(), &rt, size, false, true),
-        "scattered" => feed::run(rt.alloc(), &rt, size, true, true),
-        "prepare" => write::run(rt.alloc(), &rt, size, false),
-        "write" => write::run(rt.alloc(), &rt, size, true),
-        "leaves" => publish::run(rt.alloc(), &rt, size, false),
-        "publish" => publish::run(rt.alloc(), &rt, size, true),
-        "serial" => fan::run(rt.alloc(), &rt, size, false),
-        "parallel" => fan::run(rt.alloc(), &rt, size, true),
-        "gathered" => speak::run(rt.alloc(), &rt, size, Stage::Gathered),
-        "set" => speak::run(rt.alloc(), &rt, size, Stage::Set),
-        "asked" => speak::run(rt.alloc(), &rt, size, Stage::Asked),
-        "noted" => speak::run(rt.alloc(), &rt, size, Stage::Noted),
-        _ => bail!("no case is called {case}"),
+    Ok(words)
+}
+
+fn run<R: Threads + Sync + Files + Print + AllocGlobal>(
+    rt: &R,
+    words: &[String],
+) -> Result<(), Fault> {
+    let [case, rest @ ..] = words else {
+        return Err(Fault::Words);
+    };
+    match case_of(case.as_str()) {
+        Some(Case::File(case)) => run_on_files(rt, case, rest),
+        Some(Case::Sized(case)) => run_sized(rt, case, size_in(rest)?),
+        Some(Case::Wide) => run_wide(rt, rest),
+        None => Err(Fault::Words),
+    }
+}
+
+fn size_in(words: &[String]) -> Result<u32, Fault> {
+    let [word, ..] = words else {
+        return Err(Fault::Words);
+    };
+    match word.as_str().parse::<u32>() {
+        Ok(size) => Ok(size),
+        Err(_) => Err(Fault::Words),
+    }
+}
+
+fn run_on_files<R: Files + Print + AllocGlobal>(
+    rt: &R,
+    case: FileCase,
+    names: &[String],
+) -> Result<(), Fault> {
+    match case {
+        FileCase::Dump => dump::run(rt, names),
+        FileCase::Feeds => feeds::run(rt, names, true),
+        FileCase::Overrides => feeds::run(rt, names, false),
+    }
+}
+
+fn run_wide<R: Files + Print + AllocGlobal>(rt: &R, words: &[String]) -> Result<(), Fault> {
+    let size = size_in(words)?;
+    match words {
+        [_, name] => wide::run(rt, size, name.as_str()),
+        _ => Err(Fault::Words),
+    }
+}
+
+fn run_sized<R: Threads + Sync + Print + AllocGlobal>(
+    rt: &R,
+    case: SizedCase,
+    size: u32,
+) -> Result<(), Fault> {
+    let alloc = rt.alloc();
+    match case {
+        SizedCase::Paint => paint::run(alloc, rt, size),
+        SizedCase::Order { times } => order::run(alloc, rt, size, times),
+        SizedCase::Stats { is_emitted } => emit::run(alloc, rt, size, is_emitted),
+        SizedCase::Feed {
+            is_scattered,
+            is_read,
+        } => feed::run(alloc, rt, size, is_scattered, is_read),
+        SizedCase::Places { is_packed } => pack::run(alloc, rt, size, is_packed),
+        SizedCase::Write { is_written } => write::run(alloc, rt, size, is_written),
+        SizedCase::Publish { is_published } => publish::run(alloc, rt, size, is_published),
+        SizedCase::Fan { is_parallel } => fan::run(alloc, rt, size, is_parallel),
+        SizedCase::Speak(stage) => speak::run(alloc, rt, size, stage),
     }
 }

@@ -2,8 +2,8 @@
 ghost use Rattle.std.specs.Prelude.{◌≡◌, ◌<◌};
 ghost use Rattle.trie_core.specs.Paint.{IsAscending};
 
+use crate::fault::Fault;
 use crate::ranges::{MOST, scattered};
-use anyhow::ensure;
 use geo_outside::Steps;
 use std::alloc::Global;
 use std::io::Print;
@@ -13,8 +13,10 @@ use trie_core::{Part, Store};
 
 /// Fills a store from so many ranges with leaves of their own, orders a root of one range in it so many
 /// times, and prints how many nodes the store has, and how many of them that root has.
-pub fn run(alloc: Global, rt: &impl Print, size: u32, times: u32) -> anyhow::Result<()> {
-    ensure!(size <= MOST, "the case takes at most {MOST} ranges");
+pub(crate) fn run(alloc: Global, rt: &impl Print, size: u32, times: u32) -> Result<(), Fault> {
+    if size > MOST {
+        return Err(Fault::Size);
+    }
     let many = scattered(alloc, size, u32::MAX)?;
     let one = scattered(alloc, 1, 3)?;
     let (stored, few) = ordered::<Brand>(alloc, &many, &one, times, Blank::new(1))?;
@@ -31,7 +33,7 @@ fn ordered<L: Ledger>(
     few: &[Part],
     times: u32,
     blank: Blank,
-) -> anyhow::Result<(u32, usize)>
+) -> Result<(u32, usize), Fault>
     requires many { IsAscending many.now }
     requires few { IsAscending few.now }
     requires name { blank.name ≡ L.name }

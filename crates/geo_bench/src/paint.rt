@@ -2,8 +2,8 @@
 ghost use Rattle.std.specs.Prelude.{◌≡◌, ◌≤◌, ◌<◌, ◌^◌, IfOk};
 ghost use Rattle.trie_core.specs.Paint.{IsAscending};
 
+use crate::fault::Fault;
 use crate::ranges::{MOST, scattered};
-use anyhow::ensure;
 use geo_outside::Steps;
 use std::alloc::Global;
 use std::io::Print;
@@ -13,8 +13,10 @@ use trie_core::{Part, Store};
 
 /// Paints so many ranges, and prints how many nodes the store has then, and how many of them stand
 /// under the root.
-pub fn run(alloc: Global, rt: &impl Print, size: u32) -> anyhow::Result<()> {
-    ensure!(size <= MOST, "the case takes at most {MOST} ranges");
+pub(crate) fn run(alloc: Global, rt: &impl Print, size: u32) -> Result<(), Fault> {
+    if size > MOST {
+        return Err(Fault::Size);
+    }
     let parts = scattered(alloc, size, 3)?;
     let (stored, under) = painted::<Brand>(alloc, &parts, Blank::new(1))?;
     println!(rt; "ranges {size}")?;
@@ -24,7 +26,7 @@ pub fn run(alloc: Global, rt: &impl Print, size: u32) -> anyhow::Result<()> {
 }
 
 // The number of nodes in the store after all parts were painted, and the number of those under the root.
-fn painted<L: Ledger>(alloc: Global, parts: &[Part], blank: Blank) -> anyhow::Result<(u32, usize)>
+fn painted<L: Ledger>(alloc: Global, parts: &[Part], blank: Blank) -> Result<(u32, usize), Fault>
     requires ascending { IsAscending parts.now }
     requires name { blank.name ≡ L.name }
     requires parts { blank.parts ≡ L.parts }

@@ -2,8 +2,8 @@
 ghost use Rattle.std.specs.Prelude.{◌≡◌, ◌<◌};
 ghost use Rattle.trie_core.specs.Paint.{IsAscending};
 
+use crate::fault::Fault;
 use crate::ranges::{MOST, scattered};
-use anyhow::ensure;
 use geo_addr::Block;
 use geo_outside::Steps;
 use publish_least::least_lines;
@@ -18,8 +18,15 @@ const LEAVES: u32 = 100_000;
 
 /// Paints so many ranges, finds the least lines of all IPv4 addresses where that is wanted, and prints how many nodes
 /// the store has and how many lines there are.
-pub fn run(alloc: Global, rt: &impl Print, size: u32, is_published: bool) -> anyhow::Result<()> {
-    ensure!(size <= MOST, "the case takes at most {MOST} ranges");
+pub(crate) fn run(
+    alloc: Global,
+    rt: &impl Print,
+    size: u32,
+    is_published: bool,
+) -> Result<(), Fault> {
+    if size > MOST {
+        return Err(Fault::Size);
+    }
     let parts = scattered(alloc, size, LEAVES)?;
     let (nodes, lines) = published::<Brand>(alloc, &parts, is_published, Blank::new(1))?;
     println!(rt; "nodes stored {nodes}")?;
@@ -33,7 +40,7 @@ fn published<L: Ledger>(
     parts: &[Part],
     is_published: bool,
     blank: Blank,
-) -> anyhow::Result<(u32, usize)>
+) -> Result<(u32, usize), Fault>
     requires ascending { IsAscending parts.now }
     requires name { blank.name ≡ L.name }
     requires parts { blank.parts ≡ L.parts }

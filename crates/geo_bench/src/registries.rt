@@ -1,7 +1,7 @@
 //! Made statistics that are like those of the five registries.
 
 use crate::ranges::mixed;
-use geo_addr::{Addr, addr_text};
+use geo_addr::{Addr, Memory, addr_text};
 use std::alloc::Global;
 
 /// How many addresses the IPv4 delegations have, usual counts more often.
@@ -30,7 +30,7 @@ struct Registry {
 
 /// The lines of so many delegations: three in ten are IPv6, and one in 16 begins where the next one does,
 /// so that one of the two lies in the other.
-pub(crate) fn statistics(alloc: Global, size: u32) -> anyhow::Result<String> {
+pub(crate) fn statistics(alloc: Global, size: u32) -> Result<String, Memory> {
     let mut text = String::new(alloc);
     let mut registries = registries();
     for index in 0..size {
@@ -74,7 +74,7 @@ fn registries() -> [Registry; 5] {
 
 impl Registry {
     // The line of the next delegation, from a mixed number.
-    fn line(&mut self, alloc: Global, mixed: u32) -> anyhow::Result<String> {
+    fn line(&mut self, alloc: Global, mixed: u32) -> Result<String, Memory> {
         let country = COUNTRIES[mixed as usize % 64];
         if (mixed >> 6) % 10 < 7 {
             self.v4_line(alloc, country, mixed >> 10)
@@ -83,7 +83,7 @@ impl Registry {
         }
     }
 
-    fn v4_line(&mut self, alloc: Global, country: &str, mixed: u32) -> anyhow::Result<String> {
+    fn v4_line(&mut self, alloc: Global, country: &str, mixed: u32) -> Result<String, Memory> {
         let name = self.name;
         let count = COUNTS[mixed as usize % 16];
         let low = (count & count.wrapping_neg()).wrapping_sub(1);
@@ -98,7 +98,7 @@ impl Registry {
         Ok(format!(in alloc; "{name}|{country}|ipv4|{address}|{count}|20200101|allocated\n")?)
     }
 
-    fn v6_line(&mut self, alloc: Global, country: &str, mixed: u32) -> anyhow::Result<String> {
+    fn v6_line(&mut self, alloc: Global, country: &str, mixed: u32) -> Result<String, Memory> {
         let name = self.name;
         let length = LENGTHS[mixed as usize % 8];
         let count = 1u128.wrapping_shl(128u32.wrapping_sub(length));

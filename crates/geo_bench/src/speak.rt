@@ -1,11 +1,13 @@
 //! The cases `gathered`, `set`, `asked` and `noted`: a dump and a feed are made and read, set, asked for
 //! a million addresses, and asked for their notes.
+
+use crate::fault::Fault;
 use crate::feed::lines;
 use authority::Authority;
 use feed_csv::read_feed;
 use feed_refs::DumpReader;
-use geo_addr::{Addr, addr_text};
-use geo_terms::Dump;
+use geo_addr::{Addr, Memory, addr_text};
+use geo_terms::{Dump, Feed};
 use std::alloc::Global;
 use std::io::Print;
 
@@ -17,7 +19,7 @@ const ASKED: u32 = 1_000_000;
 
 /// How far a case goes.
 #[derive(Clone, Copy)]
-pub enum Stage {
+pub(crate) enum Stage {
     Gathered,
     Set,
     Asked,
@@ -26,27 +28,46 @@ pub enum Stage {
 
 /// Makes a dump of so many references to one feed and a feed of so many lines, goes as far as is wanted,
 /// and prints the counts.
-pub fn run(alloc: Global, rt: &impl Print, size: u32, stage: Stage) -> anyhow::Result<()> {
+pub(crate) fn run(alloc: Global, rt: &impl Print, size: u32, stage: Stage) -> Result<(), Fault> {
     let dump = made_dump(alloc, size)?;
-    let text = lines(alloc, size, false)?;
-    let feed = read_feed(alloc, URL, text.as_bytes())?;
-    println!(rt; "references {}", dump.refs.as_slice().len())?;
-    println!(rt; "entries {}", feed.entries.as_slice().len())?;
+    let feed = made_feed(alloc, size)?;
+    tell_gathered(rt, &dump, &feed)?;
     if matches!(stage, Stage::Gathered) {
         return Ok(());
     }
+    let sources = both(alloc, dump, feed)?;
+    tell(rt, &sources, stage)
+}
+
+fn tell_gathered(rt: &impl Print, dump: &Dump, feed: &Feed) -> Result<(), Fault> {
+    println!(rt; "references {}", dump.refs.as_slice().len())?;
+    println!(rt; "entries {}", feed.entries.as_slice().len())?;
+    Ok(())
+}
+
+fn both(alloc: Global, dump: Dump, feed: Feed) -> Result<Authority, Memory> {
     let mut sources = Authority::new(alloc);
     sources.set_dump(dump)?;
     sources.set_feed(feed)?;
+    Ok(sources)
+}
+
+// Asks the sources as far as is wanted.
+fn tell(rt: &impl Print, sources: &Authority, stage: Stage) -> Result<(), Fault> {
     match stage {
-        Stage::Asked => {
-            let (speakers, entries) = asked(&sources);
-            println!(rt; "speakers {speakers}")?;
-            println!(rt; "entries {entries}")?;
+        Stage::Asked => tell_asked(rt, sources),
+        Stage::Noted => {
+            println!(rt; "notes {}", sources.notes()?.len())?;
+            Ok(())
         }
-        Stage::Noted => println!(rt; "notes {}", sources.notes()?.len())?,
-        Stage::Gathered | Stage::Set => {}
+        Stage::Gathered | Stage::Set => Ok(()),
     }
+}
+
+fn tell_asked(rt: &impl Print, sources: &Authority) -> Result<(), Fault> {
+    let (speakers, entries) = asked(sources);
+    println!(rt; "speakers {speakers}")?;
+    println!(rt; "entries {entries}")?;
     Ok(())
 }
 
@@ -62,20 +83,28 @@ fn asked(sources: &Authority) -> (u32, u32) {
     (speakers, entries)
 }
 
+fn made_feed(alloc: Global, size: u32) -> Result<Feed, Fault> {
+    let text = lines(alloc, size, false)?;
+    let feed = read_feed(alloc, URL, text.as_bytes())?;
+    Ok(feed)
+}
+
 // A dump of objects of 16 IPv4 addresses that follow one another, each with one of 8 inside it.
-fn made_dump(alloc: Global, size: u32) -> anyhow::Result<Dump> {
+fn made_dump(alloc: Global, size: u32) -> Result<Dump, Fault> {
     let mut reader = DumpReader::new(alloc, "made")?;
     for index in 0..size {
-        let first = 0x0A00_0000 + u128::from(index / 2) * 16;
-        let last = first + if index % 2 == 0 { 15 } else { 7 };
-        let first = addr_text(alloc, Addr(first))?;
-        let last = addr_text(alloc, Addr(last))?;
-        let object = format!(in alloc;
-            "inetnum: {} - {}\ngeofeed: {URL}\n\n",
-            first.as_str(),
-            last.as_str()
-        )?;
+        let object = object_at(alloc, index)?;
         reader.feed(object.as_bytes())?;
     }
     Ok(reader.finish()?)
+}
+
+fn object_at(alloc: Global, index: u32) -> Result<String, Memory> {
+    let first = 0x0A00_0000 + u128::from(index / 2) * 16;
+    let last = first + if index % 2 == 0 { 15 } else { 7 };
+    let first = addr_text(alloc, Addr(first))?;
+    let last = addr_text(alloc, Addr(last))?;
+    let (first, last) = (first.as_str(), last.as_str());
+    let object = format!(in alloc; "inetnum: {first} - {last}\ngeofeed: {URL}\n\n")?;
+    Ok(object)
 }

@@ -2,8 +2,8 @@
 ghost use Rattle.std.specs.Prelude.{◌≡◌, ◌<◌, ◌≤◌, All, length};
 ghost use Rattle.trie_core.specs.Paint.{IsAscending};
 
+use crate::fault::Fault;
 use crate::ranges::{MOST, scattered};
-use anyhow::ensure;
 use geo_addr::Text;
 use geo_outside::Steps;
 use geo_terms::{Places, Texts, country_place};
@@ -16,27 +16,34 @@ use trie_core::{Part, Store};
 
 /// Paints so many ranges with the places of 260 countries, writes the file of the store where that is
 /// wanted, and prints its sizes.
-pub fn run(alloc: Global, rt: &impl Print, size: u32, is_written: bool) -> anyhow::Result<()> {
-    ensure!(size <= MOST, "the case takes at most {MOST} ranges");
+pub(crate) fn run(
+    alloc: Global,
+    rt: &impl Print,
+    size: u32,
+    is_written: bool,
+) -> Result<(), Fault> {
     let places = countries(alloc)?;
-    let leaves = places.len();
-    ensure!(leaves > 0, "there are no countries");
-    let parts = scattered(alloc, size, leaves)?;
-    match written::<Brand>(alloc, &parts, &places, is_written, Blank::new(1))? {
-        Some(file) => {
-            println!(rt;
-                "nodes {} data {} bits {}",
-                file.nodes, file.section, file.bits
-            )?;
-            println!(rt; "bytes {}", file.bytes.len())?;
+    match made(alloc, size, &places, is_written)? {
+        Some(file) => tell(rt, &file),
+        None => {
+            println!(rt; "nothing written")?;
+            Ok(())
         }
-        None => println!(rt; "nothing written")?,
     }
+}
+
+/// Prints the sizes of a file.
+pub(crate) fn tell(rt: &impl Print, file: &Emitted) -> Result<(), Fault> {
+    println!(rt;
+        "nodes {} data {} bits {}",
+        file.nodes, file.section, file.bits
+    )?;
+    println!(rt; "bytes {}", file.bytes.len())?;
     Ok(())
 }
 
 // The places of the countries AA to JZ.
-fn countries(alloc: Global) -> anyhow::Result<Places> {
+fn countries(alloc: Global) -> Result<Places, Fault> {
     let mut texts = Texts::new(alloc);
     let mut places = Places::new(alloc);
     for first in b'A'..=b'J' {
@@ -46,7 +53,7 @@ fn countries(alloc: Global) -> anyhow::Result<Places> {
 }
 
 // Adds the places of the countries that begin with a letter.
-fn add_countries(texts: &mut Texts, places: &mut Places, first: u8) -> anyhow::Result<()> {
+fn add_countries(texts: &mut Texts, places: &mut Places, first: u8) -> Result<(), Fault> {
     for second in b'A'..=b'Z' {
         if let Some(place) = country_place(texts, &[first, second])? {
             places.intern(&place)?;
@@ -55,14 +62,29 @@ fn add_countries(texts: &mut Texts, places: &mut Places, first: u8) -> anyhow::R
     Ok(())
 }
 
+/// The file of so many ranges with these places, if it is wanted.
+pub(crate) fn made(
+    alloc: Global,
+    size: u32,
+    places: &Places,
+    is_wanted: bool,
+) -> Result<Option<Emitted>, Fault> {
+    let leaves = places.len();
+    if size > MOST || leaves == 0 {
+        return Err(Fault::Size);
+    }
+    let parts = scattered(alloc, size, leaves)?;
+    written::<Brand>(alloc, &parts, places, is_wanted, Blank::new(1))
+}
+
 // The file of a store that has these parts, if it is wanted.
-pub(crate) fn written<L: Ledger>(
+fn written<L: Ledger>(
     alloc: Global,
     parts: &[Part],
     places: &Places,
     is_wanted: bool,
     blank: Blank,
-) -> anyhow::Result<Option<Emitted>>
+) -> Result<Option<Emitted>, Fault>
     requires ascending { IsAscending parts.now }
     requires numbers { All (λ p. p.leaf ≤ length places.now) parts.now }
     requires name { blank.name ≡ L.name }

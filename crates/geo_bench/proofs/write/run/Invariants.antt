@@ -1,4 +1,0 @@
-use Rattle.geo_bench.proofs.write.run.Given as goal
-
-abbrev pub ghosts-written : goal.ghosts-written
-ghosts-written g a = record { name = a.blank.name; parts = a.blank.parts }
