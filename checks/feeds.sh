@@ -15,10 +15,10 @@ reads() {
     printed=$("$bench" "$1" file 2>&1) && [ "$(tr '\n' ' ' <<< "$printed")" = "$2 " ] || fail "$1: '$printed', and not '$2'"
 }
 
-# refuses CASE WHY: the file is refused with these words.
+# refuses CASE WHY: the file is refused, and the fault has this name.
 refuses() {
     local printed
-    printed=$("$bench" "$1" file 2>&1) && fail "$1: a file that has $2 is read"
+    printed=$("$bench" "$1" file 2>&1) && fail "$1: a file is read that is $2"
     [[ "$printed" == *"$2"* ]] || fail "$1: '$printed', and not '$2'"
 }
 
@@ -29,12 +29,12 @@ for case in 'feeds DE' 'overrides void'; do
     truncate -s 67108864 file || exit 1
     reads "$name" 'bytes 67108864 statements 1 notes 0'
     truncate -s 67108865 file || exit 1
-    refuses "$name" 'too many bytes'
+    refuses "$name" TooLong
     awk -v word="$word" 'BEGIN {
         for (n = 0; n < 2097152; n++) printf "10.%d.%d.%d,%s\n", n / 65536, n / 256 % 256, n % 256, word }' > file
     reads "$name" "bytes $(stat -c %s file) statements 2097152 notes 0"
     printf '192.0.2.0/24,%s\n' "$word" >> file
-    refuses "$name" 'too many statements'
+    refuses "$name" TooMany
 done
 
 verdict

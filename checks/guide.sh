@@ -62,6 +62,10 @@ bash -eu commands > printed 2> told || fail "the guide's commands end with statu
 grep -qx 'notes 1' printed && grep -q '^emit country.mmdb nodes ' printed \
     && grep -qxF '{"country":{"iso_code":"CH"}}' printed && grep -qxF '{"country":{"iso_code":"AT"}}' printed \
     || fail "the guide's commands print '$(cat printed)'"
+if grep -q '^geofeed check ' commands; then
+    grep -qx '1 speaks ripe4 2' printed && grep -qx 'lines 1' printed && grep -qE '^CH [0-9]+ [0-9]+$' printed \
+        && grep -qE '^countries [0-9]+$' printed || fail "the guide's check and census print '$(cat printed)'"
+fi
 
 cd geo || exit 1
 
@@ -96,7 +100,8 @@ feeds-of-dump: 1 of 3 feeds did not come' ] || fail "the guide's commands say '$
     sed 's/|allocated|/|alocated|/' "$was" > "$now" && daily "statistics of another form"
     head -c 60 ../whole/ripe.db.inetnum.gz > ../net/ripe.db.inetnum.gz && daily "half a dump"
     rm ../net/ripe.db.inet6num.gz && daily "no dump"
-    sed 's/|CH|/|DE|/' "$was" > "$now" && rm ../net/a.csv && ./daily 2> told || fail "the daily script refuses good files: $(cat told)"
+    sed 's/|CH|/|DE|/' "$was" > "$now" && daily "statistics in which a country is gone"
+    sed 's/|CH|ipv4|192.0.2.0|/|DE|ipv4|192.0.2.0|/' "$was" > "$now" && rm ../net/a.csv && ./daily 2> told || fail "the daily script refuses good files: $(cat told)"
     [ ! -s told ] || fail "the daily script says '$(cat told)' of good files"
     [ "$(geofeed lookup city.mmdb 192.0.2.200)" = '{"country":{"iso_code":"DE"}}' ] || fail "the daily file is not replaced"
     geofeed lookup city.mmdb 192.0.2.1 | grep -q Zurich || fail "a feed that did not come is not yesterday's"

@@ -1,11 +1,12 @@
 #!/usr/bin/env bash
 # Sizes that tests do not have, within limits of time and memory: 300,000 made lines of statistics, 100,000 lines that
-# are noted, a comment of 5,000 bytes, sources of all kinds with a second emit, and a list that claims 16.8 million
-# values.
+# are noted, a comment of 5,000 bytes, sources of all kinds with a second emit, a list that claims 16.8 million values,
+# and a file with records of 28 bits.
 set -u
 cd "$(dirname "${BASH_SOURCE[0]}")/.." || exit 1
 made=$PWD/bench/statistics.awk
 world=$PWD/bench/world.awk
+bench=$PWD/crates/geo_bench/out/geo_bench
 . checks/with_program.bash
 
 # runs SECONDS KILOBYTES WORDS..: what the program prints, in the file `printed`, and its status in `status`.
@@ -60,5 +61,33 @@ runs 5 200000 build job
 } > claims
 runs 5 200000 lookup claims 192.0.2.1
 [[ "$status $(cat printed)" == '9 stop file '* ]] || fail "a list that claims 16.8 million values ends with status $status and '$(cat printed)'"
+
+# Records of 28 bits, in a file that geo_bench writes: each of its ranges, with the city that its leaf has by the case's own
+# rule, which stands in crates/geo_bench/src/ranges.rt and is done anew here.
+if [ ! -x "$bench" ]; then
+    echo "$check: not tried: records of 28 bits: $bench is not built"
+elif ! command -v perl > /dev/null; then
+    echo "$check: not tried: records of 28 bits: there is no perl"
+else
+    "$bench" wide 100000 wide.mmdb > printed || fail "the case wide ends with status $?"
+    grep -q ' bits 28$' printed || fail "the case wide prints '$(cat printed)', and no records of 28 bits"
+    perl -Minteger -e 'for (my $n = 7; $n < 100000; $n += 4999) {
+        my $once = (($n ^ $n >> 16) * 0x7feb352d) & 0xffffffff;
+        my $twice = (($once ^ $once >> 15) * 0x846ca68b) & 0xffffffff;
+        my $mixed = $twice ^ $twice >> 16;
+        my $first = 0x10000000 + $n * 32 + ($mixed & 1) * 16;
+        my $city = sprintf "%d", ($mixed >> 1) % 20000;
+        for ([$first, $city], [$first + 15, $city], [$first + ($mixed & 1 ? -1 : 16), ""]) {
+            my ($at, $name) = @$_;
+            printf "%s %s\n", join(".", map { $at >> $_ & 255 } 24, 16, 8, 0), $name } }' > places
+    while read -r at city; do
+        wanted=none
+        [ -z "$city" ] || wanted="{\"city\":{\"names\":{\"en\":\"$(printf '%1000s' "$city" | tr ' ' x)\"}},\"country\":{\"iso_code\":\"DE\"}}"
+        [ "$("$program" lookup wide.mmdb "$at")" = "$wanted" ] || fail "records of 28 bits: $at has not city $city"
+        command -v mmdblookup > /dev/null || continue
+        other=$(mmdblookup --file wide.mmdb --ip "$at" city names en 2>&1 | sed -n 's/^ *"x*\([0-9]*\)" <utf8_string>.*/\1/p')
+        [ "$other" = "$city" ] || fail "records of 28 bits: mmdblookup of $at finds '$other', and not $city"
+    done < places
+fi
 
 verdict
