@@ -138,7 +138,8 @@ fn again<R: Threads + Sync, L: Ledger>(rt: &R, alloc: Global, blank: Blank) -> R
     Ok(bytes)
 }
 
-// Where an allocation of the first emit fails (`rt try --test --fail-alloc N`) the second gives the file.
+// Where an allocation of the first emit fails (`rt try --test --fail-alloc N`) the second gives
+// the file.
 #[test]
 fn emit_after_a_refusal(rt: HostRuntime) -> Result<(), Fail> {
     let bytes = again::<_, Brand>(&rt, rt.alloc(), Blank::new(1))?;

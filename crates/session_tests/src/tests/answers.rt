@@ -78,8 +78,8 @@ static ADDRESSES: [u128; 19] = [
     0x2003 << 112,
 ];
 
-// The number of the first address that has not the value of its record in the session's file, and how many
-// addresses there are where there is none.
+// The number of the first address that has not the value of its record in the session's file, and
+// how many addresses there are where there is none.
 fn wrong_in(alloc: Global, session: &Session, file: &Emitted) -> Result<usize, Fail> {
     let opened = adopted(alloc, file)?;
     for (at, address) in addresses().iter().enumerate() {
@@ -129,7 +129,8 @@ fn set_overrides(alloc: Global, session: &mut Session, ground: &str) -> Result<(
     Ok(())
 }
 
-// The second file, where the one override was on `10.0.0.0/8` at the first emit and is on `11.0.0.0/8` then.
+// The second file, where the one override was on `10.0.0.0/8` at the first emit and is on
+// `11.0.0.0/8` then.
 fn moved<R: Threads + Sync, L: Ledger>(
     rt: &R,
     alloc: Global,

@@ -70,7 +70,7 @@ fn emitted<R: Threads + Sync, G: Gate, L: Ledger>(
     Ok(session.emit(forks, steps)?)
 }
 
-// The flags of an emit of 64 networks by 64 pieces, and those of a second one after one of them changed.
+// The flags of an emit of the networks, which are cleared then.
 fn flags_of<R: Threads + Sync, L: Ledger>(
     forks: &Forks<R, Flags>,
     session: &mut Session,
@@ -82,6 +82,7 @@ fn flags_of<R: Threads + Sync, L: Ledger>(
     Ok(forks.gate.came.swap(0, Ordering::SeqCst))
 }
 
+// The flags of two emits by 64 pieces, of which the second is of one network alone that changed.
 fn flags_of_both<R: Threads + Sync, L: Ledger>(
     rt: &R,
     alloc: Global,

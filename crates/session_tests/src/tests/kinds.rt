@@ -24,8 +24,8 @@ enum Kind {
     Overrides,
 }
 
-/// A call: the kind, the slot or URL, the prefix of the one statement, what it says (of a dump the URL), its
-/// line, and how many grounds the call touches. Without a prefix the source is dropped.
+/// A call: the kind, the slot or URL, the prefix of the one statement, what it says (of a dump the
+/// URL), its line, and how many grounds the call touches. Without a prefix the source is dropped.
 type Call = (Kind, &'static str, &'static str, &'static str, u64, usize);
 
 static CALLS: [Call; 32] = [
@@ -115,8 +115,8 @@ fn after(alloc: Global, count: usize) -> Result<Session, Fail> {
     Ok(session)
 }
 
-// Whether a call touches what it should and its file is that of a new session after so many calls; where it
-// touches nothing, the store stays.
+// Whether a call touches what it should and its file is that of a new session after so many calls;
+// where it touches nothing, the store stays.
 fn agrees<R: Threads + Sync, L: Ledger>(
     rt: &R,
     alloc: Global,

@@ -36,7 +36,8 @@ fn small_entry(alloc: Global, n: u32, at: u32, code: &str) -> Result<Entry, Fail
     })
 }
 
-/// A feed of a thousand small blocks, all of one country but the first. Its lines go round by so many.
+/// A feed of a thousand small blocks, all of one country but the first. Its lines go round by so
+/// many.
 pub fn small_blocks(alloc: Global, url: &str, first: &str, round: u32) -> Result<Feed, Fail>
     requires { round < 1000 }
 {
@@ -80,8 +81,8 @@ fn network_row(alloc: Global, n: u32, at: u32, code: &str) -> Result<Override, F
     })
 }
 
-/// Overrides of the networks `N.0.0.0/8` for N from 1 to 64, all of one country but the first. Their lines
-/// go round by so many.
+/// Overrides of the networks `N.0.0.0/8` for N from 1 to 64, all of one country but the first.
+/// Their lines go round by so many.
 pub fn networks(alloc: Global, first: &str, round: u32) -> Result<Overrides, Fail>
     requires { round < 64 }
 {

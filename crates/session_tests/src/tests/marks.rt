@@ -117,7 +117,8 @@ fn back(session: &mut Session, name: &str) -> Result<(), Fail> {
     session.back(name).map_err(|_| Fail::from("no mark"))
 }
 
-// The first act of a job that does not come out as it should, and the number of acts where there is none.
+// The first act of a job that does not come out as it should, and the number of acts where there
+// is none.
 fn first_wrong<R: Threads + Sync, L: Ledger>(
     rt: &R,
     alloc: Global,

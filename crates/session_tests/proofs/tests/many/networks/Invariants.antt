@@ -6,4 +6,5 @@ use Rattle.session_tests.proofs.tests.many.networks.Given as goal
 abbrev pub invariant-loop-n : goal.invariant-loop-n
 invariant-loop-n l =
     (length l.rows.items ≡ l.n) × ((k : ℕ) (d : Override) → k < l.n
-    → ((get_or l.rows.items k d).line ≡ k + 1) × ((get_or l.rows.items k d).range.first ≡ 16777216 * ((k + l.round) % 64 + 1)))
+    → ((get_or l.rows.items k d).line ≡ k + 1)
+    × ((get_or l.rows.items k d).range.first ≡ 16777216 * ((k + l.round) % 64 + 1)))

@@ -6,4 +6,5 @@ use Rattle.session_tests.proofs.tests.many.small_blocks.Given as goal
 abbrev pub invariant-loop-n : goal.invariant-loop-n
 invariant-loop-n l =
     (length l.entries.items ≡ l.n) × ((k : ℕ) (d : Entry) → k < l.n
-    → ((get_or l.entries.items k d).line ≡ k + 1) × ((get_or l.entries.items k d).block.first ≡ 167772160 + 16 * ((k + l.round) % 1000)))
+    → ((get_or l.entries.items k d).line ≡ k + 1)
+    × ((get_or l.entries.items k d).block.first ≡ 167772160 + 16 * ((k + l.round) % 1000)))
