@@ -1,8 +1,12 @@
 -- Lemmas on cutting a text at a byte.
-use Rattle.std.proofs.Common.{◌≡◌, ◌≢◌, ℕ, ◌+◌, ◌<◌, Bool, true, false, List, [], ◌∷◌, ◌++◌, length, take, drop, get_or, arith, refl, subst, sym, eqb}
-use Rattle.std.specs.List.{position_or_len, slice_split}
-use Rattle.std.proofs.lemmas.List.Sums.{position_or_len_is, fails_before_first, passes_at_first, split_at_first}
+use Rattle.std.proofs.Common.{◌≡◌, ◌≢◌, ℕ, ◌+◌, ◌<◌, Bool, true, false, inl, inr, None}
+use Rattle.std.proofs.Common.{List, [], ◌∷◌, ◌++◌, length, take, drop, get_or, arith, refl, subst, sym, eqb, not}
+use Rattle.std.specs.List.{position, position_or_len, slice_split}
+use Rattle.std.proofs.lemmas.List.Sums.{position_or_len_is, prefix_len-le-length, split_at_first}
+use Rattle.std.proofs.lemmas.List.Sums.{fails_before_first, passes_at_first}
 use Rattle.std.proofs.lemmas.List.Splits.{slice_split_first, slice_split_none}
+use Rattle.std.proofs.lemmas.Bool.{cases_lt, lt-ltb}
+use Rattle.std.proofs.lemmas.Option.{none-some}
 use Rattle.std.proofs.lemmas.Bool.Decides.{nat_tests}
 use Rattle.memchr.specs.Find.{Nowhere, NoneBefore, Passes, is_byte}
 
@@ -37,6 +41,17 @@ joined_at_place byte xs i at within =
     let cut : xs ≡ take (place_of byte xs) xs ++ (byte ∷ drop (place_of byte xs + 1) xs) =
     subst (λ (b : ℕ). xs ≡ take (place_of byte xs) xs ++ (b ∷ drop (place_of byte xs + 1) xs)) is (split_at_first (λ b. eqb b byte) xs 0 there) in
     subst (λ (n : ℕ). xs ≡ take n xs ++ (byte ∷ drop (n + 1) xs)) (sym at) cut
+
+-- a byte that was not found stands past the end
+pub not_found : (byte : ℕ) (xs : List ℕ) → None ≡ position (λ b. eqb b byte) xs →
+    length xs ≡ place_of byte xs
+not_found byte xs none =
+    elim (cases_lt (place_of byte xs) (length xs)) [
+      | inl inside ↦
+          let at_none = lt-ltb (place_of byte xs) (length xs) inside in
+          absurd (none-some (place_of byte xs) (rw at_none at none))
+      | inr past ↦ omega (arith, past, prefix_len-le-length (λ b. not (eqb b byte)) xs)
+    ]
 
 false_from_not : (b : Bool) → (b ≡ true → ⊥) → b ≡ false
 false_from_not true not_true = absurd (not_true refl)

@@ -5,6 +5,7 @@ pub mod Decimals
 pub mod LineLemmas
 pub mod PrefixLemmas
 mod DottedTexts
+mod FamilyLemmas
 mod GroupLemmas
 mod GroupTexts
 mod PartLemmas

@@ -106,6 +106,12 @@ tells_dotted : (parts : List (List ℕ)) (read : Result ℕ AddrFault) → read 
 unfolding ipv4_of
 tells_dotted parts read is = subst (TellsDotted parts) (sym is) (told parts (are_four is_part parts) (are_four is_octet parts) refl refl)
 
+-- what spells an IPv4 address has four parts
+pub are_parts : (parts : List (List ℕ)) (number : ℕ) → Ok number ≡ ipv4_of parts →
+    are_four is_part parts ≡ true
+unfolding TellsDotted
+are_parts parts number reads = (tells_dotted parts (Ok number) reads).0
+
 -- the last member, a dotted part
 pub reads_last_dotted : (dots : Bool) (old mid new : Side) (part : List ℕ) (octets : ℕ) → dots ≡ true → is_group part ≡ false → Ok octets ≡ ipv4_of (pieces 46 part) → Adds old ((octets / 65536) ∷ []) mid → Adds mid ((octets % 65536) ∷ []) new → ReadsMembers dots old (part ∷ []) (Ok new)
 unfolding is_dotted has_bad_octet TellsDotted

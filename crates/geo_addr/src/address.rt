@@ -7,17 +7,28 @@ use crate::v4::read_v4;
 use crate::v6::read_v6;
 
 /// Whether a text is read as IPv6: it has a colon in it.
-pub(crate) fn is_six(text: &[u8]) -> bool
+fn is_six(text: &[u8]) -> bool
     ensures { result ≡ is_six text.now }
 {
     text.iter().any(|b| *b == b':')
 }
 
-/// The number of the address that a text spells, which is IPv6 where `six`.
-pub(crate) fn read_number(six: bool, text: &[u8]) -> Result<u128, AddrFault>
-    ensures { result ≡ number_in six text.now }
+/// Whether a text is read as IPv6, and the number of the address that it spells.
+///
+/// IPv4 is tried first, since what spells such an address has no colon to look for.
+pub(crate) fn read_number(text: &[u8]) -> (bool, Result<u128, AddrFault>)
+    ensures family { result.0 ≡ is_six text.now }
+    ensures number { result.1 ≡ number_in (is_six text.now) text.now }
 {
-    if six { read_v6(text) } else { read_v4(text) }
+    let fault = match read_v4(text) {
+        Ok(number) => return (false, Ok(number)),
+        Err(fault) => fault,
+    };
+    if is_six(text) {
+        (true, read_v6(text))
+    } else {
+        (false, Err(fault))
+    }
 }
 
 /// The address that a text spells (RFC 4291, section 2.2).
@@ -27,7 +38,7 @@ pub(crate) fn read_number(six: bool, text: &[u8]) -> Result<u128, AddrFault>
 pub fn parse_addr(text: &[u8]) -> Result<Addr, AddrFault>
     ensures { result ≡ address_in text.now }
 {
-    match read_number(is_six(text), text) {
+    match read_number(text).1 {
         Ok(number) => Ok(Addr(number)),
         Err(fault) => Err(fault),
     }

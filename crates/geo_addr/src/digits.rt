@@ -1,5 +1,6 @@
-ghost use Rattle.std.specs.Prelude.{◌≡◌, ◌≤◌, IsTrue, length};
-ghost use Rattle.std.specs.Char.{is_ascii_digit};
+ghost use Rattle.std.specs.Prelude.{◌≡◌, ◌<◌, ◌≤◌, IsTrue, false, true, length};
+ghost use Rattle.std.specs.Prelude.{IfSome, MatchOption};
+ghost use Rattle.std.specs.Char.{digit_value, is_ascii_digit};
 ghost use Rattle.std.specs.List.{list_all};
 ghost use Rattle.std.specs.Str.Parse.{digits_value};
 ghost use Rattle.geo_addr.specs.Decimals.{decimal};
@@ -15,6 +16,34 @@ pub fn decimal(text: &[u8], least: usize, most: usize) -> Option<u128>
         return None;
     }
     Some(digits_value(text))
+}
+
+/// The number that a text of one to three decimal digits writes, which is below 1000.
+pub(crate) fn short_decimal(text: &[u8]) -> Option<u32>
+    ensures value { result ≡ decimal 1 3 text.now }
+    ensures small { IfSome result (λ value. value < 1000) }
+{
+    match text {
+        [ones] => digit(*ones),
+        [tens, ones] => Some(digit(*tens)? * 10 + digit(*ones)?),
+        [hundreds, tens, ones] => {
+            Some((digit(*hundreds)? * 10 + digit(*tens)?) * 10 + digit(*ones)?)
+        }
+        _ => None,
+    }
+}
+
+// The number that a digit writes.
+fn digit(byte: u8) -> Option<u32>
+    ensures { MatchOption result
+        (is_ascii_digit byte ≡ false)
+        (λ value. (is_ascii_digit byte ≡ true) × (value ≡ digit_value byte) × (value ≤ 9)) }
+{
+    if byte.is_ascii_digit() {
+        Some(u32::from(byte - b'0'))
+    } else {
+        None
+    }
 }
 
 fn are_digits(text: &[u8]) -> bool

@@ -1,6 +1,6 @@
 ghost use Rattle.std.specs.Prelude.{◌≡◌, ◌+◌, ◌-◌, ◌<◌, ◌≤◌, ◌^◌, ◌∷◌, ◌++◌, ◌==◌, length, MatchOption, All, ◌≢◌};
 ghost use Rattle.std.specs.Iterator.{YieldsFirstBy, item_count};
-ghost use Rattle.std.specs.List.{position_or_len};
+ghost use Rattle.std.specs.List.{position, position_or_len};
 ghost use Rattle.std.specs.Option.{option_copied};
 ghost use Rattle.geo_addr.specs.Lines.{is_blank, lines_of, numbered_lines, pieces, pieces_after, trimmed, trimmed_start, trimmed_end, without_mark};
 ghost use Rattle.std.specs.Str.Lines.{strip_carriage_return};
@@ -11,11 +11,39 @@ use std::marker::Model;
 /// The text before the first `separator`, and the text after it, which is `None` where there is no separator.
 
 pub fn cut_at(text: &[u8], separator: u8) -> (&[u8], Option<&[u8]>)
-    ensures pieces { pieces separator text.now ≡ result.0.now ∷ pieces_after separator (option_copied result.1) }
+    ensures pieces { pieces separator text.now
+        ≡ result.0.now ∷ pieces_after separator (option_copied result.1) }
     ensures free { All (λ b. b ≢ separator) result.0.now }
-    ensures joined { MatchOption result.1 (text.now ≡ result.0.now) (λ after. text.now ≡ result.0.now ++ separator ∷ after.now) }
+    ensures joined { MatchOption result.1
+        (text.now ≡ result.0.now)
+        (λ after. text.now ≡ result.0.now ++ separator ∷ after.now) }
 {
-    let place = first_place(text, separator);
+    cut_there(text, separator, first_place(text, separator))
+}
+
+/// The same of a text that is short as far as the separator: its bytes are looked at one by one.
+pub(crate) fn cut_near(text: &[u8], separator: u8) -> (&[u8], Option<&[u8]>)
+    ensures pieces { pieces separator text.now
+        ≡ result.0.now ∷ pieces_after separator (option_copied result.1) }
+    ensures free { All (λ b. b ≢ separator) result.0.now }
+    ensures joined { MatchOption result.1
+        (text.now ≡ result.0.now)
+        (λ after. text.now ≡ result.0.now ++ separator ∷ after.now) }
+{
+    cut_there(text, separator, near_place(text, separator))
+}
+
+// The text cut at its first separator, which stands at `place`.
+fn cut_there(text: &[u8], separator: u8, place: usize) -> (&[u8], Option<&[u8]>)
+    requires place { place ≡ position_or_len (λ b. b == separator) text.now }
+    requires within { place ≤ length text.now }
+    ensures pieces { pieces separator text.now
+        ≡ result.0.now ∷ pieces_after separator (option_copied result.1) }
+    ensures free { All (λ b. b ≢ separator) result.0.now }
+    ensures joined { MatchOption result.1
+        (text.now ≡ result.0.now)
+        (λ after. text.now ≡ result.0.now ++ separator ∷ after.now) }
+{
     if place == text.len() {
         return (text, None);
     }
@@ -32,6 +60,23 @@ fn first_place(text: &[u8], byte: u8) -> usize
         Some(place) => place,
         None => text.len(),
     }
+}
+
+// The same, where a call of `memchr` would cost more than a look at a few bytes.
+fn near_place(text: &[u8], byte: u8) -> usize
+    ensures place { result ≡ position_or_len (λ b. b == byte) text.now }
+    ensures within { result ≤ length text.now }
+{
+    match found_near(text, byte) {
+        Some(place) => place,
+        None => text.len(),
+    }
+}
+
+fn found_near(text: &[u8], byte: u8) -> Option<usize>
+    ensures { result ≡ position (λ b. b == byte) text.now }
+{
+    text.iter().position(|b| *b == byte)
 }
 
 /// Whether the byte is a blank: a space or a tab.

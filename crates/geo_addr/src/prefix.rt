@@ -1,13 +1,12 @@
 ghost use Rattle.std.specs.Prelude.{◌≡◌, ◌-◌, ◌%◌, ◌^◌, ◌≤◌, ◌<◌, ◌==◌};
 ghost use Rattle.std.specs.Option.{ForSome};
-ghost use Rattle.geo_addr.specs.AddressTexts.{number_in};
 ghost use Rattle.geo_addr.specs.Prefixes.{address_length, aligned_block, block_in, block_of, length_in};
 
-use crate::address::{is_six, read_number};
+use crate::address::read_number;
 use crate::block::Block;
-use crate::digits::decimal;
-use crate::fault::BlockFault;
-use crate::line::cut_at;
+use crate::digits::short_decimal;
+use crate::fault::{AddrFault, BlockFault};
+use crate::line::cut_near;
 
 /// The block that a prefix text spells: an address, a slash and a length, or an address alone.
 ///
@@ -17,20 +16,24 @@ use crate::line::cut_at;
 pub fn parse_block(text: &[u8]) -> Result<Block, BlockFault>
     ensures { result ≡ block_in text.now }
 {
-    let (left, after) = cut_at(text, b'/');
-    let six = is_six(left);
+    let (left, after) = cut_near(text, b'/');
+    let (six, first) = read_number(left);
     match after {
-        None => block_of(six, left, Some(address_length(six))),
-        Some(right) => block_of(six, left, length_of(six, right)),
+        None => block_of(six, first, Some(address_length(six))),
+        Some(right) => block_of(six, first, length_of(six, right)),
     }
 }
 
-/// The block of an address text and a length in bits of its family.
-fn block_of(six: bool, left: &[u8], length: Option<u8>) -> Result<Block, BlockFault>
+/// The block of what was read of an address and of a length in bits of its family.
+fn block_of(
+    six: bool,
+    first: Result<u128, AddrFault>,
+    length: Option<u8>,
+) -> Result<Block, BlockFault>
     requires { ForSome length (λ bits. bits ≤ address_length six) }
-    ensures { result ≡ block_of six (number_in six left.now) length }
+    ensures { result ≡ block_of six first length }
 {
-    let Ok(first) = read_number(six, left) else {
+    let Ok(first) = first else {
         return Err(BlockFault::Address);
     };
     let Some(length) = length else {
@@ -56,10 +59,10 @@ fn length_of(six: bool, text: &[u8]) -> Option<u8>
     ensures value { result ≡ length_in six text.now }
     ensures fits { ForSome result (λ bits. bits ≤ address_length six) }
 {
-    match decimal(text, 1, 3) {
+    match short_decimal(text) {
         None => None,
         Some(length) => {
-            if length <= u128::from(address_length(six)) {
+            if length <= u32::from(address_length(six)) {
                 Some(length as u8)
             } else {
                 None

@@ -1,7 +1,7 @@
 ghost use Rattle.std.specs.Prelude.{◌≡◌};
 ghost use Rattle.geo_addr.specs.Spans.{ordered_range, range_between, span_in};
 
-use crate::address::{is_six, read_number};
+use crate::address::read_number;
 use crate::fault::BlockFault;
 use crate::line::{cut_at, trim_end, trim_start};
 use crate::prefix::parse_block;
@@ -29,12 +29,10 @@ pub fn parse_span(text: &[u8]) -> Result<Range, BlockFault>
 fn range_between(left: &[u8], right: &[u8]) -> Result<Range, BlockFault>
     ensures { result ≡ range_between left.now right.now }
 {
-    let six = is_six(left);
-    let Ok(first) = read_number(six, left) else {
+    let (six, Ok(first)) = read_number(left) else {
         return Err(BlockFault::Address);
     };
-    let other = is_six(right);
-    let Ok(last) = read_number(other, right) else {
+    let (other, Ok(last)) = read_number(right) else {
         return Err(BlockFault::Address);
     };
     if six != other {
