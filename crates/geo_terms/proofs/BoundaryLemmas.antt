@@ -245,7 +245,7 @@ some_from d b n (suc k) (r ∷ rs) below ends =
     ∙ or_right (some_edge (edges_of n r) (n + 1 + k) b) (some_edge (edges_from (n + 1) rs) (n + 1 + k) b) (some_from d b (n + 1) k rs (omega arith) ends))
 
 -- the ground of a range is not empty
-ground_before : (x : Ends) → IsRange x → ground_first x < x.last + 1
+pub ground_before : (x : Ends) → IsRange x → ground_first x < x.last + 1
 unfolding ground_first
 ground_before x h =
     let order : x.first ≤ x.last = h.ordered in
@@ -254,7 +254,7 @@ ground_before x h =
       | false ↦ λ e. let high : 2 ^ 32 ≤ x.last = grind (arith, nat_tests) in omega arith
     ] refl
 
-held : (x : Ends) (a : ℕ) → holds x a ≡ (leb (ground_first x) a && ltb a (x.last + 1))
+pub held : (x : Ends) (a : ℕ) → holds x a ≡ (leb (ground_first x) a && ltb a (x.last + 1))
 unfolding holds
 held x a = let s : leb a x.last ≡ ltb a (x.last + 1) = grind (arith, nat_tests) in rw s refl
 

@@ -64,6 +64,11 @@ then_greater Ordering.Less y e is = absurd (let f : true ≡ false = e in cc)
 then_greater Ordering.Equal y e is = absurd (let f : is_lt Ordering.Less ≡ false = subst (λ o. is_lt o ≡ false) is e in let g : true ≡ false = f in cc)
 then_greater Ordering.Greater y e is = refl
 
+-- the first of statements with their places that holds an address
+abbrev pub found : {X : Type 0} → (X → Ends) → List (ℕ × X) → ℕ → Option (ℕ × X)
+found range_of [] a = None
+found range_of (c ∷ cs) a = cond (holds (range_of c.1) a) (Some c) (found range_of cs a)
+
 module _ {X : Type 0} (order : X → X → Ordering) (total : IsTotalOrder order) (range_of : X → Ends) where
   abbrev before : X → X → Bool
   before x y = is_lt (order x y)
@@ -74,17 +79,12 @@ module _ {X : Type 0} (order : X → X → Ordering) (total : IsTotalOrder order
   pub placed_total : IsTotalOrder (placed_cmp order)
   placed_total = then_total (on_total (λ (x : ℕ × X). x.1) total) (on_total (λ (x : ℕ × X). x.0) nat_cmp_total)
 
-  -- the first of ranked statements that holds an address
-  abbrev found : List (ℕ × X) → ℕ → Option (ℕ × X)
-  found [] a = None
-  found (c ∷ cs) a = cond (holds (range_of c.1) a) (Some c) (found cs a)
-
   -- its place is that of the rank of the first range that holds
-  by_rank : (a : ℕ) (cs : List (ℕ × X)) → option_and_then (slice_get (map (λ (c : ℕ × X). c.0) cs)) (position (λ r. holds r a) (map (λ (c : ℕ × X). range_of c.1) cs)) ≡ option_map (λ (c : ℕ × X). c.0) (found cs a)
+  by_rank : (a : ℕ) (cs : List (ℕ × X)) → option_and_then (slice_get (map (λ (c : ℕ × X). c.0) cs)) (position (λ r. holds r a) (map (λ (c : ℕ × X). range_of c.1) cs)) ≡ option_map (λ (c : ℕ × X). c.0) (found range_of cs a)
   by_rank a [] = refl
   by_rank a (c ∷ cs) =
       elim (holds (range_of c.1) a) as (λ b. holds (range_of c.1) a ≡ b
-      → option_and_then (slice_get (map (λ (c : ℕ × X). c.0) (c ∷ cs))) (position (λ r. holds r a) (map (λ (c : ℕ × X). range_of c.1) (c ∷ cs))) ≡ option_map (λ (c : ℕ × X). c.0) (cond b (Some c) (found cs a))) [
+      → option_and_then (slice_get (map (λ (c : ℕ × X). c.0) (c ∷ cs))) (position (λ r. holds r a) (map (λ (c : ℕ × X). range_of c.1) (c ∷ cs))) ≡ option_map (λ (c : ℕ × X). c.0) (cond b (Some c) (found range_of cs a))) [
         | true ↦ λ e. rw (position_here (λ (x : Ends). holds x a) (range_of c.1) (map (λ (c : ℕ × X). range_of c.1) cs) e) refl
         | false ↦ λ e. rw (position_later (λ (x : Ends). holds x a) (range_of c.1) (map (λ (c : ℕ × X). range_of c.1) cs) e) (later (position (λ r. holds r a) (map (λ (c : ℕ × X). range_of c.1) cs)) ∙ by_rank a cs)
       ] refl
@@ -107,6 +107,11 @@ module _ {X : Type 0} (order : X → X → Ordering) (total : IsTotalOrder order
   in_order (c ∷ cs) far =
       (none_ahead c cs (λ j d below. far 0 (suc j) d (omega arith) (omega arith)), in_order cs (λ i j d le below. far (suc i) (suc j) d (omega arith) (omega arith)))
 
+  -- of those that hold an address, no later one goes before an earlier one
+  abbrev pub Ranked : ℕ → List (ℕ × X) → Type 0
+  Ranked a [] = Unit {0}
+  Ranked a (c ∷ cs) = (holds (range_of c.1) a ≡ true → AllByRecursion (λ d. holds (range_of d.1) a ≡ true → ranked_before d c ≡ false) cs) × Ranked a cs
+
   -- what was found: no other one that holds goes before it
   record IsFound (a : ℕ) (cs : List (ℕ × X)) (c : ℕ × X) : Type 0 where
     among : Among c cs
@@ -120,20 +125,24 @@ module _ {X : Type 0} (order : X → X → Ordering) (total : IsTotalOrder order
   under_holds a c [] h = tt
   under_holds a c (x ∷ xs) h = ((λ _. h.0), under_holds a c xs h.1)
 
-  is_found : (a : ℕ) (cs : List (ℕ × X)) (d : ℕ × X) → InOrder cs → found cs a ≡ Some d → IsFound a cs d
+  ranked : (a : ℕ) (cs : List (ℕ × X)) → InOrder cs → Ranked a cs
+  ranked a [] up = tt
+  ranked a (c ∷ cs) up = ((λ _. under_holds a c cs up.0), ranked a cs up.1)
+
+  is_found : (a : ℕ) (cs : List (ℕ × X)) (d : ℕ × X) → Ranked a cs → found range_of cs a ≡ Some d → IsFound a cs d
   is_found a [] d up is = absurd cc
   is_found a (c ∷ cs) d up is =
-      elim (holds (range_of c.1) a) as (λ b. holds (range_of c.1) a ≡ b → cond b (Some c) (found cs a) ≡ Some d → IsFound a (c ∷ cs) d) [
+      elim (holds (range_of c.1) a) as (λ b. holds (range_of c.1) a ≡ b → cond b (Some c) (found range_of cs a) ≡ Some d → IsFound a (c ∷ cs) d) [
         | true ↦ λ e here. let same : c ≡ d = cc in
-            subst (λ (x : ℕ × X). IsFound a (c ∷ cs) x) same (record { among = inl refl; held = e; least = ((λ _. not_itself c), under_holds a c cs up.0) })
+            subst (λ (x : ℕ × X). IsFound a (c ∷ cs) x) same (record { among = inl refl; held = e; least = ((λ _. not_itself c), up.0 e) })
         | false ↦ λ e later. let h = is_found a cs d up.1 later in
             record { among = inr h.among; held = h.held; least = ((λ is. absurd (let f : false ≡ true = sym e ∙ is in cc)), h.least) }
       ] refl is
 
-  none_found : (a : ℕ) (cs : List (ℕ × X)) → found cs a ≡ None → AllByRecursion (λ c. holds (range_of c.1) a ≡ false) cs
+  none_found : (a : ℕ) (cs : List (ℕ × X)) → found range_of cs a ≡ None → AllByRecursion (λ c. holds (range_of c.1) a ≡ false) cs
   none_found a [] is = tt
   none_found a (c ∷ cs) is =
-      elim (holds (range_of c.1) a) as (λ b. holds (range_of c.1) a ≡ b → cond b (Some c) (found cs a) ≡ None → AllByRecursion (λ c. holds (range_of c.1) a ≡ false) (c ∷ cs)) [
+      elim (holds (range_of c.1) a) as (λ b. holds (range_of c.1) a ≡ b → cond b (Some c) (found range_of cs a) ≡ None → AllByRecursion (λ c. holds (range_of c.1) a ≡ false) (c ∷ cs)) [
         | true ↦ λ e here. absurd cc
         | false ↦ λ e later. (e, none_found a cs later)
       ] refl is
@@ -205,9 +214,9 @@ module _ {X : Type 0} (order : X → X → Ordering) (total : IsTotalOrder order
     pub back : (P : ℕ × X → Type 0) → AllByRecursion P cs → AllByRecursion P (enumerate_from 0 xs)
     back P h = recursion_from_All P (enumerate_from 0 xs) (All-permutation P cs (enumerate_from 0 xs) (IsPermutation-sym (enumerate_from 0 xs) cs same) (All-from_recursion P cs h))
 
-    found_first : (a : ℕ) → InOrder cs → option_and_then (slice_get xs) (option_map (λ (c : ℕ × X). c.0) (found cs a)) ≡ first_at before range_of xs a
+    pub found_first : (a : ℕ) → Ranked a cs → option_and_then (slice_get xs) (option_map (λ (c : ℕ × X). c.0) (found range_of cs a)) ≡ first_at before range_of xs a
     found_first a up =
-        elim (found cs a) as (λ o. found cs a ≡ o → option_and_then (slice_get xs) (option_map (λ (c : ℕ × X). c.0) o) ≡ first_at before range_of xs a) [
+        elim (found range_of cs a) as (λ o. found range_of cs a ≡ o → option_and_then (slice_get xs) (option_map (λ (c : ℕ × X). c.0) o) ≡ first_at before range_of xs a) [
           | None ↦ λ is. sym (ap (first_of before) (nothing_passes (λ x. holds (range_of x) a) 0 xs (back (λ c. holds (range_of c.1) a ≡ false) (none_found a cs is))))
           | Some z ↦ λ is. let h = is_found a cs z up is in
               let member : Among z (enumerate_from 0 xs) = among_from_contains z (enumerate_from 0 xs) (Contains-permutation cs (enumerate_from 0 xs) z (IsPermutation-sym (enumerate_from 0 xs) cs same) (contains_from_among z cs h.among)) in
@@ -219,7 +228,7 @@ module _ {X : Type 0} (order : X → X → Ordering) (total : IsTotalOrder order
     pub tells_first : (bs : List Boundary) → IsSortedBy ranked_before cs → AreBoundaries (map (λ (c : ℕ × X). range_of c.1) cs) bs → TellsFirst order range_of xs (map (with_place (map (λ (c : ℕ × X). c.0) cs)) bs)
     tells_first bs sorted h a within =
         ap (option_and_then (slice_get xs)) (told_places (map (λ (c : ℕ × X). c.0) cs) None bs a ∙ ap (option_and_then (slice_get (map (λ (c : ℕ × X). c.0) cs))) (h.tell a within) ∙ by_rank a cs)
-        ∙ found_first a (in_order cs (sorted_far ranked_before (ranks_by placed_total (λ (x : ℕ × X). x)) cs sorted))
+        ∙ found_first a (ranked a cs (in_order cs (sorted_far ranked_before (ranks_by placed_total (λ (x : ℕ × X). x)) cs sorted)))
 
     each_of : (P : X → Type 0) (n : ℕ) (ys : List X) → AllByRecursion (λ c. P c.1) (enumerate_from n ys) → AllByRecursion P ys
     each_of P n [] h = tt

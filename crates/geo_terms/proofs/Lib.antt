@@ -1,8 +1,10 @@
+pub mod ApartLemmas
 pub mod BoundaryLemmas
 pub mod Constancy
 pub mod FirstLemmas
 pub mod IndexLemmas
 pub mod LineOrder
+pub mod MarkLemmas
 pub mod Members
 pub mod NumberLemmas
 pub mod PlaceLemmas

@@ -1,7 +1,7 @@
 -- Texts of a place in upper case are in form where they were in form before.
-use Rattle.std.proofs.Common.{◌≡◌, ℕ, ◌<◌, ◌≤◌, Bool, true, false, cond, ◌&&◌, List, [], ◌∷◌, length, get_or, IsTrue, refl, sym, ap, ◌∙◌, subst, arith}
-use Rattle.std.specs.Char.{is_ascii_alphabetic, is_ascii_alphanumeric, to_ascii_uppercase}
-use Rattle.std.specs.List.{list_all}
+use Rattle.std.proofs.Common.{◌≡◌, ℕ, ◌<◌, ◌≤◌, Bool, true, false, cond, ◌&&◌, ◌||◌, List, [], ◌∷◌, length, get_or, IsTrue, refl, sym, ap, ◌∙◌, subst, arith}
+use Rattle.std.specs.Char.{is_ascii_alphabetic, is_ascii_alphanumeric, is_ascii_lowercase, to_ascii_uppercase}
+use Rattle.std.specs.List.{list_all, list_any}
 use Rattle.std.specs.Prelude.{nat_eq}
 use Rattle.std.proofs.lemmas.Bool.Decides.{nat_tests}
 use Rattle.std.proofs.lemmas.List.{length-map}
@@ -77,14 +77,77 @@ and_right true y h = h
 and_right false y h = absurd (let e : false ≡ true = h in cc)
 
 -- the first two bytes of a region that is in form are ASCII
-pub letters_of_region : (region : List ℕ) → IsTrue (region_fits region) → 2 ≤ length region → (get_or region 0 0 < 128) × (get_or region 1 0 < 128)
+letters_of_region : (region : List ℕ) → IsTrue (region_fits region) → 2 ≤ length region
+    → (get_or region 0 0 < 128) × (get_or region 1 0 < 128)
 unfolding region_fits
 letters_of_region [] h n = absurd (omega arith)
 letters_of_region (a ∷ []) h n = absurd (let e : false ≡ true = h in cc)
 letters_of_region (a ∷ b ∷ []) h n = absurd (let e : false ≡ true = h in cc)
 letters_of_region (a ∷ b ∷ c ∷ bs) h n =
     let both = region_letters a b c bs h in
-    (alphabetic_small a (and_left (is_ascii_alphabetic a) (is_ascii_alphabetic b) both), alphabetic_small b (and_right (is_ascii_alphabetic a) (is_ascii_alphabetic b) both))
+    let first = and_left (is_ascii_alphabetic a) (is_ascii_alphabetic b) both in
+    let second = and_right (is_ascii_alphabetic a) (is_ascii_alphabetic b) both in
+    (alphabetic_small a first, alphabetic_small b second)
+
+-- the field that begins with the letters of the country, as the code takes it
+abbrev letters : List ℕ → List ℕ → List ℕ
+letters country region = cond (is_empty country) region country
+
+-- its first two bytes are ASCII too
+pub first_letters : (country region : List ℕ) → IsTrue (country_fits country)
+    → IsTrue (region_fits region) → 2 ≤ length (letters country region)
+    → (get_or (letters country region) 0 0 < 128) × (get_or (letters country region) 1 0 < 128)
+unfolding country_fits
+first_letters [] region c r n = letters_of_region region r n
+first_letters (a ∷ []) region c r n = absurd (let e : false ≡ true = c in cc)
+first_letters (a ∷ b ∷ []) region c r n =
+    let first = and_left (is_ascii_alphabetic a) (is_ascii_alphabetic b) c in
+    let second = and_right (is_ascii_alphabetic a) (is_ascii_alphabetic b) c in
+    (alphabetic_small a first, alphabetic_small b second)
+first_letters (a ∷ b ∷ d ∷ bs) region c r n = absurd (let e : false ≡ true = c in cc)
+
+-- these two letters in upper case are the country
+pub country_of_letters : (country region : List ℕ) → IsTrue (country_fits country)
+    → 2 ≤ length (letters country region)
+    → (parts_of country region [] []).country
+    ≡ upper (get_or (letters country region) 0 0 ∷ get_or (letters country region) 1 0 ∷ [])
+unfolding country_fits
+country_of_letters [] [] c n = absurd (omega arith)
+country_of_letters [] (a ∷ []) c n = absurd (omega arith)
+country_of_letters [] (a ∷ b ∷ bs) c n = refl
+country_of_letters (a ∷ []) region c n = absurd (let e : false ≡ true = c in cc)
+country_of_letters (a ∷ b ∷ []) region c n = refl
+country_of_letters (a ∷ b ∷ d ∷ bs) region c n = absurd (let e : false ≡ true = c in cc)
+
+-- with fewer letters there is no country
+pub country_of_few : (country region : List ℕ) → IsTrue (country_fits country)
+    → length (letters country region) < 2
+    → (parts_of country region [] []).country ≡ []
+unfolding country_fits
+country_of_few [] [] c n = refl
+country_of_few [] (a ∷ []) c n = refl
+country_of_few [] (a ∷ b ∷ bs) c n = absurd (omega arith)
+country_of_few (a ∷ []) region c n = absurd (let e : false ≡ true = c in cc)
+country_of_few (a ∷ b ∷ bs) region c n = absurd (omega arith)
+
+upper-not_lowercase : (b : ℕ) → is_ascii_lowercase b ≡ false → to_ascii_uppercase b ≡ b
+upper-not_lowercase b h = grind (arith, nat_tests)
+
+or_left : (x y : Bool) → (x || y) ≡ false → x ≡ false
+or_left false y h = refl
+or_left true y h = h
+
+or_right : (x y : Bool) → (x || y) ≡ false → y ≡ false
+or_right false y h = h
+or_right true y h = absurd (let e : true ≡ false = h in cc)
+
+-- a text with no lower-case letter is in upper case
+pub upper_without_lowercase : (bs : List ℕ) → list_any is_ascii_lowercase bs ≡ false → upper bs ≡ bs
+upper_without_lowercase [] h = refl
+upper_without_lowercase (b ∷ bs) h =
+    let first = or_left _ (list_any is_ascii_lowercase bs) h in
+    let others = or_right (is_ascii_lowercase b) _ h in
+    rw (upper-not_lowercase b first, upper_without_lowercase bs others) refl
 
 chosen_country : (country region : List ℕ) → IsTrue (country_fits country) → IsTrue (region_fits region) → IsTrue (country_fits (cond (is_empty country) (country_of_region region) country))
 chosen_country [] region c r = region_has_country region r

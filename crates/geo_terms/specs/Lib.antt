@@ -1,5 +1,6 @@
 pub mod Alias
 pub mod AllSources
+pub mod Apart
 pub mod Boundaries
 pub mod Covering
 pub mod Cuts
@@ -7,6 +8,7 @@ pub mod DelegationForm
 pub mod Edges
 pub mod First
 pub mod FirstIndex
+pub mod MarkHash
 pub mod NoteText
 pub mod Numbers
 pub mod Orders

@@ -30,7 +30,7 @@ pub fn boundaries_of(alloc: Global, ranges: &[Range]) -> Result<Vec<Boundary>, M
     ensures { IfOk result (λ boundaries. AreBoundaries ranges.now boundaries.items) }
 {
     let mut edges = edges_of(alloc, ranges)?;
-    edges.sort_by_key(|edge| edge.at)?;
+    edges.sort_unstable_by_key(|edge| edge.at);
     let boundaries = sweep(alloc, edges.as_slice())?;
     Ok(boundaries)
 }
@@ -49,7 +49,7 @@ fn edges_of(alloc: Global, ranges: &[Range]) -> Result<Vec<Edge>, Memory>
     ensures edges { IfOk result (λ edges. edges.items ≡ edges_from 0 ranges.now) }
     ensures ranges { OnOk result (All IsRange ranges.now) }
 {
-    let mut edges = Vec::with_capacity(alloc, ranges.len())?;
+    let mut edges = Vec::with_capacity(alloc, ranges.len().saturating_mul(2))?;
     for (rank, range) in ranges.iter().enumerate() {
         push_edges(&mut edges, rank, *range)?;
     }

@@ -1,7 +1,7 @@
 //! What four fields of a line say.
-ghost use Rattle.std.specs.Prelude.{◌≡◌, ◌<◌, ◌≤◌, ◌↔◌, length, IfOk, IfErr, OnOk, IsOkUnless, IsTrue, [], ◌∷◌};
-ghost use Rattle.std.specs.List.{list_all};
-ghost use Rattle.std.specs.Char.{is_ascii_alphanumeric};
+ghost use Rattle.std.specs.Prelude.{◌≡◌, ◌<◌, ◌≤◌, ◌↔◌, length, IfOk, IfErr, OnOk, IsOkUnless, IsTrue, [], ◌∷◌, if◌then◌else◌};
+ghost use Rattle.std.specs.List.{list_all, list_any};
+ghost use Rattle.std.specs.Char.{is_ascii_alphanumeric, is_ascii_lowercase};
 ghost use Rattle.geo_terms.specs.PlaceForm.{country_fits, country_of_region, is_country, is_empty, is_region, is_subdivision, lengths_fit, longest, nowhere, parts_of, place_of_country, region_fits, same_text, says_nothing, upper};
 ghost use Rattle.geo_terms.specs.SaidOf.{said_of, said_by};
 
@@ -75,9 +75,9 @@ pub fn country_place(texts: &mut Texts, country: &[u8]) -> Result<Option<Place>,
     if is_nowhere(&country) {
         return Ok(None);
     }
-    let region = texts.shared("")?;
-    let city = texts.shared("")?;
-    let postal = texts.shared("")?;
+    let region = texts.blank()?;
+    let city = texts.blank()?;
+    let postal = texts.blank()?;
     Ok(Some(Place {
         country,
         region,
@@ -136,17 +136,26 @@ fn is_nowhere(country: &Text) -> bool
 }
 
 // The country in upper case: the field's own, or that of the region.
-#[tactic(auto, using(crate::proofs::PlaceLemmas::letters_of_region))]
+#[tactic(auto, using(crate::proofs::PlaceLemmas::first_letters, crate::proofs::PlaceLemmas::country_of_letters))]
 fn country_text(texts: &mut Texts, country: &str, region: &str) -> Result<Text, Memory>
-    requires { IsTrue (region_fits region.now) }
+    requires country { IsTrue (country_fits country.now) }
+    requires region { IsTrue (region_fits region.now) }
     ensures { IfOk result (λ text. text ≡ (parts_of country.now region.now [] []).country) }
 {
-    if !country.is_empty() {
-        return upper_text(texts, country);
-    }
-    match region.as_bytes() {
+    match lettered(country, region) {
         [first, second, ..] => pair_text(texts, *first, *second),
-        _ => texts.shared(""),
+        _ => texts.blank(),
+    }
+}
+
+// The field that begins with the country's letters: its own, or where it is empty the region.
+fn lettered<'a>(country: &'a str, region: &'a str) -> &'a [u8]
+    ensures { result.now ≡ (if is_empty country.now then region.now else country.now) }
+{
+    if country.is_empty() {
+        region.as_bytes()
+    } else {
+        country.as_bytes()
     }
 }
 
@@ -168,12 +177,23 @@ fn pair_text(texts: &mut Texts, first: u8, second: u8) -> Result<Text, Memory>
     texts.kept(text)
 }
 
+// The text in upper case; only a text with lower-case letters is written anew.
+#[tactic(auto, using(crate::proofs::PlaceLemmas::upper_without_lowercase))]
 fn upper_text(texts: &mut Texts, text: &str) -> Result<Text, Memory>
     ensures { IfOk result (λ copy. copy ≡ upper text.now) }
 {
+    if !has_lowercase(text.as_bytes()) {
+        return texts.shared(text);
+    }
     let mut copy = String::from_str(texts.alloc(), text)?;
     copy.make_ascii_uppercase();
     texts.shared(copy.as_str())
+}
+
+fn has_lowercase(text: &[u8]) -> bool
+    ensures { result ≡ list_any is_ascii_lowercase text.now }
+{
+    text.iter().any(|byte| byte.is_ascii_lowercase())
 }
 
 #[tactic(auto, unfolding(crate::specs::PlaceForm::country_fits))]

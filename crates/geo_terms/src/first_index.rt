@@ -1,6 +1,10 @@
 //! The first of several statements that holds an address, by halving.
-ghost use Rattle.std.specs.Prelude.{◌≡◌, [], ◌∷◌, All, IfOk, OnOk, None, map, option_and_then, slice_get};
+ghost use Rattle.std.specs.Prelude.{◌≡◌, ◌++◌, [], ◌∷◌, All, IfOk, IfSome, OnOk, None, Some, map};
+ghost use Rattle.std.specs.Prelude.{option_and_then, option_map, slice_get};
 ghost use Rattle.std.specs.List.{enumerate_from};
+ghost use Rattle.std.specs.List.Sorted.{IsPermutation};
+ghost use Rattle.geo_addr.specs.Ranges.{IsRange};
+ghost use Rattle.geo_terms.specs.Apart.{boundaries_apart, gap};
 ghost use Rattle.geo_terms.specs.Boundaries.{told};
 ghost use Rattle.geo_terms.specs.FirstIndex.{TellsFirst, placed_cmp, with_place};
 
@@ -43,17 +47,24 @@ impl FirstIndex {
         }
     }
 
-    /// The index of these statements: a sort by their order, and one pass over the ends of their grounds.
+    /// The index of these statements.
+    ///
+    /// Where no address lies in the grounds of two of them, that is one pass over them, behind a
+    /// sort by where grounds begin if they do not ascend. Else it is a sort by their order, and one
+    /// pass over the ends of their grounds.
     pub fn of<S: Statement>(alloc: Global, statements: &[&S]) -> Result<FirstIndex, Memory>
         ensures told { IfOk result (λ index. TellsFirst S.order S.range (map (λ s. s.now) statements.entry.now) index) }
         ensures kept { OnOk result (All S.kept (map (λ s. s.now) statements.entry.now)) }
     {
         let mut ranked = placed(alloc, statements)?;
+        if let Some(boundaries) = apart_in_some_order(alloc, &mut ranked)? {
+            return Ok(FirstIndex { boundaries });
+        }
         ranked.sort_unstable_by(|x, y| order(x, y));
         let ranges = ranges_of(alloc, ranked.as_slice())?;
-        let ranks = boundaries_of(alloc, ranges.as_slice())?;
+        let mut boundaries = boundaries_of(alloc, ranges.as_slice())?;
         let places = places_of(alloc, ranked.as_slice())?;
-        let boundaries = with_places(alloc, ranks.as_slice(), places.as_slice())?;
+        put_places(&mut boundaries, places.as_slice());
         Ok(FirstIndex { boundaries })
     }
 
@@ -77,6 +88,89 @@ fn placed<'a, S: Statement>(
         ranked.push((place, *statement))?;
     }
     Ok(ranked)
+}
+
+// The boundaries of grounds that lie apart, in the order that they are put in; `None` where two
+// overlap.
+fn apart_in_some_order<S: Statement>(
+    alloc: Global,
+    placed: &mut Vec<(usize, &S)>,
+) -> Result<Option<Vec<Boundary>>, Memory>
+    ensures moved { IsPermutation placed.old.items placed.new.items }
+    ensures found { IfOk result (λ found. option_map (λ v. v.items) found
+        ≡ boundaries_apart (map (λ x. (x.0, S.range x.1.now)) placed.new.items)) }
+    ensures ranges { IfOk result (λ found. IfSome found
+        (λ _. All (λ x. IsRange (S.range x.1.now)) placed.new.items)) }
+    ensures kept { IfOk result (λ found. IfSome found
+        (λ _. All (λ x. S.kept x.1.now) placed.new.items)) }
+{
+    let found = apart_of(alloc, placed.as_slice())?;
+    if found.is_some() {
+        return Ok(found);
+    }
+    placed.sort_unstable_by_key(|(_, statement)| statement.range().ground_first());
+    apart_of(alloc, placed.as_slice())
+}
+
+// The boundaries of grounds that lie apart in this order, by one pass; `None` where they do not.
+fn apart_of<S: Statement>(
+    alloc: Global,
+    placed: &[(usize, &S)],
+) -> Result<Option<Vec<Boundary>>, Memory>
+    ensures found { IfOk result (λ found. option_map (λ v. v.items) found
+        ≡ boundaries_apart (map (λ x. (x.0, S.range x.1.now)) placed.entry.now)) }
+    ensures ranges { IfOk result (λ found. IfSome found
+        (λ _. All (λ x. IsRange (S.range x.1.now)) placed.entry.now)) }
+    ensures kept { IfOk result (λ found. IfSome found
+        (λ _. All (λ x. S.kept x.1.now) placed.entry.now)) }
+{
+    let mut boundaries = Vec::with_capacity(alloc, placed.len().saturating_add(2))?;
+    // the first address behind all grounds so far, where there is one
+    let mut behind = Some(0);
+    for (place, statement) in placed {
+        let range = statement.range();
+        let first = range.ground_first();
+        let Some(from) = behind.filter(|from| *from <= first) else {
+            return Ok(None);
+        };
+        push_ground(&mut boundaries, from, first, *place)?;
+        behind = range.last.checked_add(1);
+    }
+    if let Some(from) = behind {
+        push_gap(&mut boundaries, from)?;
+    }
+    Ok(Some(boundaries))
+}
+
+// The boundary of a ground, and before it that of the gap behind the ground before.
+fn push_ground(
+    boundaries: &mut Vec<Boundary>,
+    from: u128,
+    first: u128,
+    place: usize,
+) -> Result<(), Memory>
+    ensures { OnOk result (boundaries.new.items ≡
+        boundaries.old.items ++ gap from first ++ record { at = first; first = Some place } ∷ []) }
+{
+    if from < first {
+        push_gap(boundaries, from)?;
+    }
+    boundaries.push(Boundary {
+        at: first,
+        first: Some(place),
+    })?;
+    Ok(())
+}
+
+fn push_gap(boundaries: &mut Vec<Boundary>, from: u128) -> Result<(), Memory>
+    ensures { OnOk result (boundaries.new.items
+        ≡ boundaries.old.items ++ record { at = from; first = None } ∷ []) }
+{
+    boundaries.push(Boundary {
+        at: from,
+        first: None,
+    })?;
+    Ok(())
 }
 
 // How two statements stand: those that tie go by their places.
@@ -104,23 +198,12 @@ fn places_of<S: Statement>(alloc: Global, ranked: &[(usize, &S)]) -> Result<Vec<
     Ok(places)
 }
 
-// The boundaries with places in place of ranks.
-fn with_places(alloc: Global, ranks: &[Boundary], places: &[usize]) -> Result<Vec<Boundary>, Memory>
-    ensures { IfOk result (λ boundaries. boundaries.items ≡ map (with_place places.now) ranks.now) }
+// Places in place of ranks.
+fn put_places(boundaries: &mut Vec<Boundary>, places: &[usize])
+    ensures { boundaries.new.items ≡ map (with_place places.now) boundaries.old.items }
 {
-    let mut boundaries = Vec::with_capacity(alloc, ranks.len())?;
-    for boundary in ranks {
-        boundaries.push(with_place(*boundary, places))?;
-    }
-    Ok(boundaries)
-}
-
-fn with_place(boundary: Boundary, places: &[usize]) -> Boundary
-    ensures { result ≡ with_place places.now boundary }
-{
-    Boundary {
-        at: boundary.at,
-        first: place_of(boundary.first, places),
+    for boundary in boundaries.iter_mut() {
+        boundary.first = place_of(boundary.first, places);
     }
 }
 

@@ -1,6 +1,6 @@
 use crate::{
-    Note, Origin, PlaceFault, Places, Rule, Said, Texts, country_place, home, is_alias,
-    lies_in_alias, note_text, place_of,
+    FirstIndex, Note, Origin, Override, PlaceFault, Places, Rule, Said, Texts, country_place, home,
+    is_alias, lies_in_alias, note_text, place_of,
 };
 use geo_addr::{Memory, Text, parse_addr, parse_span};
 use std::alloc::Global;
@@ -150,6 +150,57 @@ fn statements_that_speak_nowhere(rt: HostRuntime) -> Result<(), Fail> {
     ];
     for (range, nowhere) in rows {
         assert!(rt; lies_in_alias(parse_span(range.as_bytes())?) == nowhere);
+    }
+    Ok(())
+}
+
+// Statements about these ranges.
+fn rows(alloc: Global, ranges: &[&str; 3]) -> Result<Vec<Override>, Fail> {
+    let mut rows = Vec::new(alloc);
+    for range in ranges {
+        rows.push(Override {
+            line: 1,
+            range: parse_span(range.as_bytes())?,
+            said: Said::Nothing,
+        })?;
+    }
+    Ok(rows)
+}
+
+#[test]
+fn first_statements_at_addresses(rt: HostRuntime) -> Result<(), Fail> {
+    let alloc = rt.alloc();
+    let ascending = ["1.0.0.0/24", "1.0.2.0/24", "2001:db8::/32"];
+    let shuffled = ["1.0.2.0/24", "2001:db8::/32", "1.0.0.0/24"];
+    let adjacent = ["1.0.0.0/24", "1.0.1.0/24", "1.0.2.0/23"];
+    let to_the_last = ["2000::/3", "4000::/2", "8000::/1"];
+    let nested = ["1.0.0.0/16", "1.0.1.0/24", "1.0.2.0/24"];
+    let last = "ffff:ffff:ffff:ffff:ffff:ffff:ffff:ffff";
+    let table = [
+        (ascending, "0.255.255.255", None),
+        (ascending, "1.0.0.255", Some(0)),
+        (ascending, "1.0.1.0", None),
+        (ascending, "1.0.2.0", Some(1)),
+        (ascending, "2001:db9::", None),
+        (shuffled, "1.0.0.255", Some(2)),
+        (shuffled, "1.0.1.255", None),
+        (shuffled, "2001:db8::", Some(1)),
+        (adjacent, "1.0.0.255", Some(0)),
+        (adjacent, "1.0.1.0", Some(1)),
+        (adjacent, "1.0.3.255", Some(2)),
+        (adjacent, "1.0.4.0", None),
+        (to_the_last, "7fff::", Some(1)),
+        (to_the_last, last, Some(2)),
+        (nested, "1.0.0.255", Some(0)),
+        (nested, "1.0.1.255", Some(1)),
+        (nested, "1.0.3.0", Some(0)),
+        (nested, "1.1.0.0", None),
+    ];
+    for (ranges, at, wanted) in table {
+        let rows = rows(alloc, &ranges)?;
+        let borrowed: Vec<&Override> = rows.iter().collect(alloc)?;
+        let index = FirstIndex::of(alloc, borrowed.as_slice())?;
+        assert!(rt; index.place_at(parse_addr(at.as_bytes())?) == wanted);
     }
     Ok(())
 }

@@ -1,9 +1,11 @@
 //! Texts that stand in a source many times.
-ghost use Rattle.std.specs.Prelude.{◌≡◌, IfOk, IfSome};
+ghost use Rattle.std.specs.Prelude.{◌≡◌, [], IfOk, IfSome};
+ghost use Rattle.geo_terms.specs.MarkHash as marks;
 
 use geo_addr::{Memory, Text};
 use indexmap::IndexMap;
 use std::alloc::Global;
+use std::hash::{BuildHasherDefault, Hasher};
 
 /// The texts of one source so far: one that came before is given again, and takes no bytes.
 ///
@@ -13,7 +15,27 @@ use std::alloc::Global;
 pub struct Texts {
     alloc: Global,
     empty: Option<Text>,
-    seen: IndexMap<u64, Text>,
+    seen: IndexMap<u64, Text, BuildHasherDefault<MarkHasher>>,
+}
+
+/// A hasher of marks: a mark is mixed already, and is its own hash.
+#[derive(Clone, Copy, Default)]
+pub struct MarkHasher {
+    mark: u64,
+}
+
+impl Hasher for MarkHasher {
+    ghost write = { marks.write };
+
+    ghost finish = { marks.finish };
+
+    fn finish(&self) -> u64 {
+        self.mark
+    }
+
+    fn write(&mut self, bytes: &[u8]) {
+        self.mark = first_word(bytes);
+    }
 }
 
 impl Texts {
@@ -22,7 +44,7 @@ impl Texts {
         Texts {
             alloc,
             empty: None,
-            seen: IndexMap::new(alloc),
+            seen: IndexMap::with_hasher(alloc, BuildHasherDefault::new()),
         }
     }
 
@@ -30,6 +52,9 @@ impl Texts {
     pub fn shared(&mut self, text: &str) -> Result<Text, Memory>
         ensures { IfOk result (λ given. given ≡ text.now) }
     {
+        if text.is_empty() {
+            return self.blank();
+        }
         if let Some(found) = self.known(text.as_bytes())? {
             return Ok(found);
         }
@@ -37,16 +62,25 @@ impl Texts {
         self.kept(text)
     }
 
-    /// The text of these bytes, where it came before.
+    /// The empty text, which needs no look-up.
+    pub(crate) fn blank(&mut self) -> Result<Text, Memory>
+        ensures { IfOk result (λ given. given ≡ []) }
+    {
+        if let Some(found) = &self.empty {
+            if found.as_str().is_empty() {
+                return Ok(found.copied()?);
+            }
+        }
+        let text = Text::of(self.alloc, "")?;
+        self.empty = Some(text.copied()?);
+        Ok(text)
+    }
+
+    /// The text of these bytes, where it came before and is not empty.
     pub(crate) fn known(&self, text: &[u8]) -> Result<Option<Text>, Memory>
         ensures { IfOk result (λ found. IfSome found (λ given. given ≡ text.now)) }
     {
-        let found = if text.is_empty() {
-            self.empty.as_ref()
-        } else {
-            self.seen.get(&mark_of(text))
-        };
-        match found {
+        match self.seen.get(&mark_of(text)) {
             Some(found) if found.as_str().as_bytes() == text => Ok(Some(found.copied()?)),
             _ => Ok(None),
         }
@@ -57,12 +91,8 @@ impl Texts {
         ensures { IfOk result (λ given. given ≡ text) }
     {
         let copy = text.copied()?;
-        if text.as_str().is_empty() {
-            self.empty = Some(copy);
-        } else {
-            let mark = mark_of(text.as_str().as_bytes());
-            self.seen.insert(mark, copy).map_err(Memory::from)?;
-        }
+        let mark = mark_of(text.as_str().as_bytes());
+        self.seen.insert(mark, copy).map_err(Memory::from)?;
         Ok(text)
     }
 
@@ -75,8 +105,34 @@ impl Texts {
 // A number by which a text is found again; other texts may have it too.
 fn mark_of(text: &[u8]) -> u64 {
     let mut mark = text.len() as u64;
-    for byte in text {
-        mark = (mark ^ u64::from(*byte)).wrapping_mul(0x0100_0000_01B3);
+    let mut left = text;
+    while left.len() >= 8 {
+        mark = mixed(mark ^ first_word(left));
+        left = &left[8..];
     }
-    mark
+    mixed(mark ^ short_word(left))
+}
+
+// The halves change places: the next word meets the one that is mixed better. A table takes both.
+fn mixed(mark: u64) -> u64 {
+    mark.wrapping_mul(0x9e37_79b9_7f4a_7c15).rotate_left(32)
+}
+
+// The number that the first eight bytes spell, the lowest first; 0 where there are fewer.
+fn first_word(bytes: &[u8]) -> u64
+    ensures { result ≡ marks.first_word bytes.now }
+{
+    let [a, b, c, d, e, f, g, h, ..] = bytes else {
+        return 0;
+    };
+    u64::from_le_bytes([*a, *b, *c, *d, *e, *f, *g, *h])
+}
+
+// A number that the bytes spell, of which the last eight count.
+fn short_word(bytes: &[u8]) -> u64 {
+    let mut word = 0;
+    for byte in bytes {
+        word = word << 8 | u64::from(*byte);
+    }
+    word
 }
