@@ -1,7 +1,8 @@
-ghost use Rattle.std.specs.Prelude.{◌≡◌, ◌∷◌, ◌+◌, ◌<◌, [], All, IfOk, IfSome, IsSome, MatchOption, length, max};
+ghost use Rattle.std.specs.Prelude.{◌≡◌, ◌∷◌, ◌+◌, ◌<◌, ◌≤◌, [], All, IfOk, IfSome, IsSome, IsTrue, MatchOption, length, max};
+ghost use Rattle.std.specs.List.{AllAdjacentBelow};
 ghost use Rattle.std.specs.List.Sorted.{IsNonDecreasing};
 ghost use Rattle.std.specs.Option.{option_to_list};
-ghost use Rattle.geo_addr.specs.Ranges.{IsRange};
+ghost use Rattle.geo_addr.specs.Ranges.{IsRange, ground_first};
 ghost use Rattle.cut_segments.specs.Marks.{ground_mark, cut_mark, merged, next_place, past_of, piece, stop_at, sweep};
 ghost use Rattle.cut_segments.specs.Segments.{AreSegments};
 
@@ -40,11 +41,27 @@ pub fn segments_between(
     requires { IsNonDecreasing places.now }
     ensures { IfOk result (λ segments. AreSegments touched.now places.now segments.items) }
 {
+    if are_in_order(touched) {
+        let pieces = sweep(alloc, touched, places)?;
+        return Ok(pieces);
+    }
     let mut grounds = Vec::with_capacity(alloc, touched.len())?;
     grounds.extend_from_slice(touched)?;
     grounds.sort_by_key(|range| range.ground_first())?;
     let segments = sweep(alloc, grounds.as_slice(), places)?;
     Ok(segments)
+}
+
+// Whether each ground begins where the one before it does, or behind that.
+fn are_in_order(grounds: &[Range]) -> bool
+    ensures { IsTrue result → AllAdjacentBelow (λ r t. ground_first r ≤ ground_first t) grounds.now (length grounds.now) }
+{
+    for i in 1..grounds.len() {
+        if grounds[i].ground_first() < grounds[i - 1].ground_first() {
+            return false;
+        }
+    }
+    true
 }
 
 fn ground_mark(range: Range) -> Mark
@@ -70,7 +87,7 @@ fn sweep(alloc: Global, grounds: &[Range], places: &[u128]) -> Result<Vec<Range>
     ensures found { IfOk result (λ pieces. pieces.items ≡ sweep 0 (merged grounds.now places.now)) }
     ensures ranges { IfOk result (λ pieces. All IsRange pieces.items) }
 {
-    let mut pieces = Vec::new(alloc);
+    let mut pieces = Vec::with_capacity(alloc, grounds.len())?;
     let mut reach = None;
     let mut grounds = grounds;
     let mut places = places;

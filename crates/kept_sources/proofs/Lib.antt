@@ -1,3 +1,4 @@
+pub mod CutLemmas
 pub mod PlaceLemmas
 pub mod ShelfLemmas
 pub mod SpeakingLemmas

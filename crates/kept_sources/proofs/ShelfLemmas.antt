@@ -1,6 +1,6 @@
 -- What holds of shared values in the order of names holds of the values themselves.
-use Rattle.std.proofs.Common.{◌≡◌, ℕ, zero, suc, ◌+◌, ◌<◌, ◌++◌, true, false, cond, not, Less, Equal, Greater, List, [], ◌∷◌, map, length, get_or, Option, Some, None, Ok, Err, Ordering, drop, refl, sym, ap, ◌∙◌, subst, append_assoc, arith}
-use Rattle.std.specs.List.{find, flat_map}
+use Rattle.std.proofs.Common.{◌≡◌, ℕ, zero, suc, ◌<◌, true, false, cond, not, Less, Equal, Greater, List, [], ◌∷◌, map, length, get_or, Option, Some, None, Ok, Err, Ordering, refl, sym, ap, ◌∙◌, subst, arith}
+use Rattle.std.specs.List.{find}
 use Rattle.std.specs.Option.{option_map}
 use Rattle.std.specs.Ordering.{match_ordering}
 use Rattle.std.specs.Prelude.{◌↔◌, Result}

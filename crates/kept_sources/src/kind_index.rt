@@ -1,10 +1,12 @@
 //! What is kept of the statements of one kind.
 ghost use Rattle.std.specs.Prelude.{◌≡◌, ◌++◌, map, All, IfOk, OnOk};
+ghost use Rattle.cut_segments.specs.CutPlaces.{AreCutsOf};
 ghost use Rattle.kept_sources.specs.Kinds.{IsKindIndex};
 
-use cut_segments::cut_places;
+use cut_segments::whole;
 use geo_addr::{Memory, Range};
 use geo_terms::{FirstIndex, Statement};
+use split_core::{push_edges, put_in_order};
 use std::alloc::Global;
 
 /// The first statement of a kind at each address, and the cut points of the kind's statements.
@@ -20,8 +22,7 @@ pub fn index_of<S: Statement>(alloc: Global, statements: &[&S]) -> Result<KindIn
     ensures kept { OnOk result (All S.kept (map (λ s. s.now) statements.entry.now)) }
 {
     let firsts = FirstIndex::of(alloc, statements)?;
-    let ranges = ranges_of(alloc, statements)?;
-    let places = cut_places(alloc, ranges.as_slice())?;
+    let places = borrowed_places(alloc, statements)?;
     Ok(KindIndex { firsts, places })
 }
 
@@ -29,6 +30,7 @@ pub fn index_of<S: Statement>(alloc: Global, statements: &[&S]) -> Result<KindIn
 pub fn push_ranges<S: Statement>(ranges: &mut Vec<Range>, statements: &[S]) -> Result<(), Memory>
     ensures { OnOk result (ranges.new.items ≡ ranges.old.items ++ map S.range statements.now) }
 {
+    ranges.reserve(statements.len())?;
     for statement in statements {
         ranges.push(statement.range())?;
     }
@@ -39,18 +41,34 @@ pub fn push_ranges<S: Statement>(ranges: &mut Vec<Range>, statements: &[S]) -> R
 pub fn push_borrows<'a, S>(borrows: &mut Vec<&'a S>, statements: &'a [S]) -> Result<(), Memory>
     ensures { OnOk result (map (λ s. s.now) borrows.new.items ≡ map (λ s. s.now) borrows.old.items ++ statements.entry.now) }
 {
+    borrows.reserve(statements.len())?;
     for statement in statements {
         borrows.push(statement)?;
     }
     Ok(())
 }
 
-fn ranges_of<S: Statement>(alloc: Global, statements: &[&S]) -> Result<Vec<Range>, Memory>
-    ensures { IfOk result (λ ranges. ranges.items ≡ map (λ s. S.range s.now) statements.entry.now) }
+/// The cut points of statements.
+pub fn places_of<S: Statement>(alloc: Global, statements: &[S]) -> Result<Vec<u128>, Memory>
+    ensures { IfOk result (λ places. AreCutsOf (map S.range statements.now) places.items) }
 {
-    let mut ranges = Vec::with_capacity(alloc, statements.len())?;
+    // Of ranges that lie side by side each adds one place.
+    let mut places = Vec::with_capacity(alloc, statements.len())?;
     for statement in statements {
-        ranges.push(statement.range())?;
+        push_edges(&mut places, statement.range(), whole())?;
     }
-    Ok(ranges)
+    put_in_order(&mut places);
+    Ok(places)
+}
+
+// The cut points of borrowed statements.
+fn borrowed_places<S: Statement>(alloc: Global, statements: &[&S]) -> Result<Vec<u128>, Memory>
+    ensures { IfOk result (λ places. AreCutsOf (map S.range (map (λ s. s.now) statements.entry.now)) places.items) }
+{
+    let mut places = Vec::with_capacity(alloc, statements.len())?;
+    for statement in statements {
+        push_edges(&mut places, statement.range(), whole())?;
+    }
+    put_in_order(&mut places);
+    Ok(places)
 }

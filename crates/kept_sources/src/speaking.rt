@@ -9,7 +9,7 @@ ghost use Rattle.geo_terms.specs.declared.note.Origin.{Origin};
 ghost use Rattle.cut_segments.specs.CutPlaces.{AreCutsOf};
 ghost use Rattle.kept_sources.specs.FeedPlaces.{HasCutsOf, kept_places};
 
-use crate::kind_index::push_ranges;
+use crate::kind_index::{places_of, push_ranges};
 use crate::shelf::{Named, copies, find_named, second, take_out, with_one};
 use authority::{Authority, DropFault};
 use cut_segments::{cut_places, push_inside};
@@ -270,10 +270,7 @@ fn places_of_feed(alloc: Global, feed: &Feed) -> Result<Arc<FeedPlaces>, Memory>
 fn entry_places(alloc: Global, entries: &[Entry]) -> Result<Vec<u128>, Memory>
     ensures { IfOk result (λ places. AreCutsOf (map (λ e. range_of_block e.block) entries.now) places.items) }
 {
-    let mut ranges = Vec::new(alloc);
-    push_ranges(&mut ranges, entries)?;
-    let places = cut_places(alloc, ranges.as_slice())?;
-    Ok(places)
+    places_of(alloc, entries)
 }
 
 fn push_references(ranges: &mut Vec<Range>, dumps: &[Arc<Dump>]) -> Result<(), Memory>

@@ -15,6 +15,7 @@ use Rattle.source_changes.specs.Sorting.{DecidesSame, range_cmp, range_ties, ran
 use Rattle.source_changes.specs.Touched.{ground_of}
 use Rattle.source_changes.proofs.Counts.{as_equivalence, changed_moves, times, times_append, times_zipped}
 use Rattle.source_changes.proofs.Merges.{differing_is_changed}
+use Rattle.source_changes.proofs.Paired.{AsFar}
 use Rattle.source_changes.proofs.Statements.{range_is}
 
 -- one more pair that is the same, behind and in front
@@ -81,6 +82,10 @@ module _ {X : Type 0} (range : X → Ends) (same : X → X → Bool) (rest : X �
       (subst (λ (zs : List X). IsPermutation (map (λ x. ground_of (range x)) (changed same old new)) (map (λ x. ground_of (range x)) (changed same (drop n old) zs))) (sym new_is) (start_passed n old new start)) in
       IsPermutation-trans (map (λ x. ground_of (range x)) (changed same old new)) (map (λ x. ground_of (range x)) (changed same old1 new1)) (map (λ x. ground_of (range x)) (changed same (take (length old1 - m) old1) (take (length new1 - m) new1)))
       begun (end_passed (length old1 - m) (length new1 - m) old1 new1 end)
+
+  -- what changed between lists that are as far apart
+  pub far_changed : (old new old' new' : List X) → AsFar same old new old' new' → IsPermutation (map (λ x. ground_of (range x)) (changed same old new)) (map (λ x. ground_of (range x)) (changed same old' new'))
+  far_changed old new old' new' far = changed_moves same alike (λ x. ground_of (range x)) ground_same old new old' new' (far alike)
 
   none_without : (ys : List X) → without same [] ys ≡ []
   none_without [] = refl

@@ -1,6 +1,7 @@
 pub mod Counts
 pub mod Firsts
 pub mod Found
+pub mod Paired
 pub mod Grounds
 pub mod Law
 pub mod Merges

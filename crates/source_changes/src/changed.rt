@@ -15,8 +15,8 @@ use std::cmp::Ordering;
 
 /// The grounds of the statements of two lists that have no partner in the other one, in any order.
 ///
-/// What both lists begin with and what both end with is passed over first, so where a few lines of a long
-/// file changed nothing long is sorted.
+/// What both lists begin with, what both end with, and what is the same at the same place between these is
+/// passed over first, so where a few lines of a long file changed nothing long is sorted.
 pub fn changed_grounds<S: Compared>(
     alloc: Global,
     old: &[S],
@@ -34,8 +34,9 @@ pub fn changed_grounds<S: Compared>(
         push_all(&mut grounds, old)?;
         return Ok(grounds);
     }
-    let old = in_order(alloc, old)?;
-    let new = in_order(alloc, new)?;
+    let (mut old, mut new) = unpaired(alloc, old, new)?;
+    put_in_order(&mut old);
+    put_in_order(&mut new);
     push_differing(&mut grounds, old.as_slice(), new.as_slice())?;
     Ok(grounds)
 }
@@ -111,24 +112,44 @@ fn compare_ranges(x: Range, y: Range) -> Ordering
     x.first.cmp(&y.first).then(x.last.cmp(&y.last))
 }
 
-// The statements in the order in which they are compared.
-fn in_order<'a, S: Compared>(alloc: Global, statements: &'a [S]) -> Result<Vec<&'a S>, Memory>
-    ensures same { IfOk result (λ sorted. IsPermutation statements.entry.now (map (λ s. s.now) sorted.items)) }
-    ensures sorted { IfOk result (λ sorted. IsSorted (whole_cmp S.range S.rest) (map (λ s. s.now) sorted.items)) }
+// Both lists without the statements that are the same at the same place of both, borrowed.
+fn unpaired<'a, S: Compared>(
+    alloc: Global,
+    old: &'a [S],
+    new: &'a [S],
+) -> Result<(Vec<&'a S>, Vec<&'a S>), Memory>
+    ensures { IfOk result (λ left. IsPermutation (map (λ x. ground_of (S.range x)) (changed S.same old.entry.now new.entry.now)) (map (λ x. ground_of (S.range x)) (changed S.same (map (λ s. s.now) left.0.items) (map (λ s. s.now) left.1.items)))) }
 {
-    let mut sorted = borrowed(alloc, statements)?;
-    sorted.sort_unstable_by(|x, y| compare_borrowed(x, y));
-    Ok(sorted)
+    let mut old_left = Vec::new(alloc);
+    let mut new_left = Vec::new(alloc);
+    let shorter = old.len().min(new.len());
+    for i in 0..shorter {
+        if !is_same(&old[i], &new[i]) {
+            old_left.push(&old[i])?;
+            new_left.push(&new[i])?;
+        }
+    }
+    push_borrows(&mut old_left, &old[shorter..])?;
+    push_borrows(&mut new_left, &new[shorter..])?;
+    Ok((old_left, new_left))
 }
 
-fn borrowed<'a, S: Compared>(alloc: Global, statements: &'a [S]) -> Result<Vec<&'a S>, Memory>
-    ensures { IfOk result (λ borrowed. map (λ s. s.now) borrowed.items ≡ statements.entry.now) }
+fn push_borrows<'a, S>(borrows: &mut Vec<&'a S>, statements: &'a [S]) -> Result<(), Memory>
+    ensures { OnOk result (map (λ s. s.now) borrows.new.items ≡ map (λ s. s.now) borrows.old.items ++ statements.entry.now) }
 {
-    let mut borrowed = Vec::with_capacity(alloc, statements.len())?;
+    borrows.reserve(statements.len())?;
     for statement in statements {
-        borrowed.push(statement)?;
+        borrows.push(statement)?;
     }
-    Ok(borrowed)
+    Ok(())
+}
+
+// Puts statements in the order in which they are compared.
+fn put_in_order<S: Compared>(statements: &mut Vec<&S>)
+    ensures same { IsPermutation (map (λ s. s.now) statements.old.items) (map (λ s. s.now) statements.new.items) }
+    ensures sorted { IsSorted (whole_cmp S.range S.rest) (map (λ s. s.now) statements.new.items) }
+{
+    statements.sort_unstable_by(|x, y| compare_borrowed(x, y));
 }
 
 fn compare_borrowed<S: Compared>(x: &&S, y: &&S) -> Ordering
@@ -180,6 +201,7 @@ fn push_rest<S: Compared>(grounds: &mut Vec<Range>, statements: &[&S]) -> Result
 fn push_all<S: Compared>(grounds: &mut Vec<Range>, statements: &[S]) -> Result<(), Memory>
     ensures { OnOk result (grounds.new.items ≡ grounds.old.items ++ map (λ x. ground_of (S.range x)) statements.now) }
 {
+    grounds.reserve(statements.len())?;
     for statement in statements {
         grounds.push(ground_of(statement.range()))?;
     }

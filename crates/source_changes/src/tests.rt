@@ -61,7 +61,7 @@ fn changes<S: Compared>(alloc: Global, old: &[S], new: &[S]) -> Result<Vec<(u128
 #[test]
 fn references_without_a_partner(rt: HostRuntime) -> Result<(), Fail> {
     let alloc = rt.alloc();
-    let table: [(&[Row], &[Row], &[(u128, u128)]); 11] = [
+    let table: [(&[Row], &[Row], &[(u128, u128)]); 12] = [
         (&[], &[], &[]),
         (&[A, B], &[A, B], &[]),
         (&[A, B], &[B_ON_LINE_1, A_ON_LINE_9], &[]),
@@ -76,6 +76,11 @@ fn references_without_a_partner(rt: HostRuntime) -> Result<(), Fail> {
         (&[A, C], &[A_ELSEWHERE, C], &[(10, 19), (10, 19)]),
         (&[], &[B, A], &[(10, 19), (20, 29)]),
         (&[C, A], &[], &[(10, 19), (15, 24)]),
+        (
+            &[A, C, B],
+            &[A_LATER, C, B, B],
+            &[(10, 19), (10, 19), (20, 29)],
+        ),
         (&[A, BOTH_FAMILIES], &[A], &[(1 << 32, 1 << 33)]),
     ];
     for (old, new, wanted) in table {

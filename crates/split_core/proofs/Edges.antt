@@ -30,6 +30,22 @@ module _ {X : Type 0} (P : X → Type 0) where
         | inr same ↦ inr (subst P (sym same) holds)
       ]
 
+-- a place that lies within a range, appended to what is there
+pub push_lying : (old new : List ℕ) (within : Ends) (p : ℕ) → IsWithin within p → ((c : ℕ) → Contains new c ↔ (Contains old c ⊎ (c ≡ p)))
+    → (c : ℕ) → Contains new c ↔ (Contains old c ⊎ ((c ≡ p) × IsWithin within c))
+push_lying old new within p lies pushed c = (
+  λ has.
+      elim ((pushed c).0 has) [
+        | inl there ↦ inl there
+        | inr here ↦ inr (here, subst (IsWithin within) (sym here) lies)
+      ],
+  λ either.
+      elim either [
+        | inl there ↦ (pushed c).1 (inl there)
+        | inr here ↦ (pushed c).1 (inr here.0)
+      ],
+)
+
 -- both edges of a range
 pub push_both : (old mid new : List ℕ) (r within : Ends) (p q : ℕ) → p ≡ ground_first r → q ≡ r.last + 1 → ((c : ℕ) → Contains mid c ↔ (Contains old c ⊎ ((c ≡ p) × IsWithin within c))) → ((c : ℕ) → Contains new c ↔ (Contains mid c ⊎ ((c ≡ q) × IsWithin within c))) → (c : ℕ) → Contains new c ↔ (Contains old c ⊎ (IsEdge c r × IsWithin within c))
 push_both old mid new r within p q p_is q_is first past c = (
@@ -89,13 +105,14 @@ cuts_more ranges i r old new within inside r_is before step c =
           ],
     )
 
--- sorting, and dropping repeats, change no cut point
-pub cuts_sorted : (ranges : List Ends) (within : Ends) (places sorted kept : List ℕ) → IsPermutation places sorted → IsFiltered (DiffersFromLast nat_eq) [] sorted kept → AreCuts ranges within places → AreCuts ranges within kept
-cuts_sorted ranges within places sorted kept moved filtered cuts c =
+-- sorting, and dropping repeats, change no place
+pub places_stay : (places sorted kept : List ℕ) → IsPermutation places sorted → IsFiltered (DiffersFromLast nat_eq) [] sorted kept
+    → (c : ℕ) → Contains kept c ↔ Contains places c
+places_stay places sorted kept moved filtered c =
     let is = dedup_is nat_eq sorted kept filtered in
     let P : List ℕ → Type 0 = λ xs. Contains xs c in (
-      λ has. (cuts c).0 (Contains-permutation sorted places c (IsPermutation-sym places sorted moved) (Contains-from_dedup nat_eq sorted c (subst P is has))),
-      λ cut. subst P (sym is) (Contains-dedup_nat sorted c (Contains-permutation places sorted c moved ((cuts c).1 cut))),
+      λ has. Contains-permutation sorted places c (IsPermutation-sym places sorted moved) (Contains-from_dedup nat_eq sorted c (subst P is has)),
+      λ there. subst P (sym is) (Contains-dedup_nat sorted c (Contains-permutation places sorted c moved there)),
     )
 
 -- and they leave the places ascending
@@ -103,3 +120,9 @@ pub places_ascend : (sorted kept : List ℕ) → IsSorted nat_cmp sorted → IsF
 places_ascend sorted kept is_sorted filtered =
     let is = dedup_is nat_eq sorted kept filtered in
     subst IsStrictlyIncreasing (sym is) (IsStrictlyIncreasing-dedup sorted is_sorted)
+
+-- cut points that are put in order are cut points
+pub cuts_stay : (ranges : List Ends) (within : Ends) (places kept : List ℕ) → ((c : ℕ) → Contains kept c ↔ Contains places c)
+    → AreCuts ranges within places → AreCuts ranges within kept
+cuts_stay ranges within places kept stay cuts c =
+    (λ has. (cuts c).0 ((stay c).0 has), λ cut. (stay c).1 ((cuts c).1 cut))

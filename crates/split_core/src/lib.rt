@@ -7,6 +7,6 @@ mod split;
 mod tests;
 mod walk;
 
-pub use places::cuts;
+pub use places::{cuts, push_edges, put_in_order};
 pub use split::blocks;
 pub use walk::Blocks;

@@ -1,5 +1,5 @@
 //! The places at which ranges cut the address space.
-ghost use Rattle.std.specs.Prelude.{◌≡◌, ◌↔◌, ◌⊎◌, ℕ, Contains, IfOk, OnOk};
+ghost use Rattle.std.specs.Prelude.{◌≡◌, ◌↔◌, ◌⊎◌, ℕ, Contains, IfOk, IsTrue, OnOk};
 ghost use Rattle.std.specs.List.Sorted.{IsStrictlyIncreasing};
 ghost use Rattle.geo_addr.specs.Ranges.{AreCuts, IsEdge, IsWithin};
 
@@ -13,8 +13,7 @@ pub fn cuts(alloc: Global, ranges: &[Range], within: Range) -> Result<Vec<u128>,
     ensures ascending { IfOk result (λ v. IsStrictlyIncreasing v.items) }
 {
     let mut places = edges_within(alloc, ranges, within)?;
-    places.sort_unstable();
-    places.dedup();
+    put_in_order(&mut places);
     Ok(places)
 }
 
@@ -22,15 +21,17 @@ pub fn cuts(alloc: Global, ranges: &[Range], within: Range) -> Result<Vec<u128>,
 fn edges_within(alloc: Global, ranges: &[Range], within: Range) -> Result<Vec<u128>, Memory>
     ensures { IfOk result (λ v. AreCuts ranges.now within v.items) }
 {
-    let mut places = Vec::new(alloc);
+    // Of ranges that lie side by side each adds one place.
+    let mut places = Vec::with_capacity(alloc, ranges.len())?;
     for &range in ranges {
         push_edges(&mut places, range, within)?;
     }
     Ok(places)
 }
 
-/// Appends the two edges of a range, as far as they lie within another.
-fn push_edges(places: &mut Vec<u128>, range: Range, within: Range) -> Result<(), Memory>
+/// Appends the two edges of a range, as far as they lie within another, but not once more the place that is
+/// the last one already.
+pub fn push_edges(places: &mut Vec<u128>, range: Range, within: Range) -> Result<(), Memory>
     ensures { OnOk result ((c : ℕ) → Contains places.new.items c ↔ (Contains places.old.items c ⊎ (IsEdge c range × IsWithin within c))) }
 {
     push_within(places, range.ground_first(), within)?;
@@ -46,7 +47,35 @@ fn push_within(places: &mut Vec<u128>, place: u128, within: Range) -> Result<(),
     ensures { OnOk result ((c : ℕ) → Contains places.new.items c ↔ (Contains places.old.items c ⊎ ((c ≡ place) × IsWithin within c))) }
 {
     if within.first <= place && place <= within.last {
+        push_new(places, place)?;
+    }
+    Ok(())
+}
+
+/// Appends a place, unless it is the last one already.
+fn push_new(places: &mut Vec<u128>, place: u128) -> Result<(), Memory>
+    ensures { OnOk result ((c : ℕ) → Contains places.new.items c ↔ (Contains places.old.items c ⊎ (c ≡ place))) }
+{
+    if !ends_with(places.as_slice(), place) {
         places.push(place)?;
     }
     Ok(())
+}
+
+fn ends_with(places: &[u128], place: u128) -> bool
+    ensures { IsTrue result → Contains places.now place }
+{
+    match places.last() {
+        Some(last) => *last == place,
+        None => false,
+    }
+}
+
+/// Puts places in ascending order, each once.
+pub fn put_in_order(places: &mut Vec<u128>)
+    ensures same { (c : ℕ) → Contains places.new.items c ↔ Contains places.old.items c }
+    ensures ascending { IsStrictlyIncreasing places.new.items }
+{
+    places.sort_unstable();
+    places.dedup();
 }

@@ -1,4 +1,4 @@
-use crate::{blocks, cuts};
+use crate::{blocks, cuts, push_edges, put_in_order};
 use geo_addr::{Memory, Range};
 use std::alloc::Global;
 
@@ -71,5 +71,28 @@ fn cut_points_within_a_range(rt: HostRuntime) -> Result<(), Memory> {
         cuts(alloc, &ranges, Range { first: 9, last: 20 })?.as_slice(),
         [16, 20].as_slice()
     );
+    Ok(())
+}
+
+/// A place that two neighbours share is appended once.
+#[test]
+fn edges_range_by_range(rt: HostRuntime) -> Result<(), Memory> {
+    let alloc = rt.alloc();
+    let within = Range { first: 0, last: 30 };
+    let ranges = [
+        Range { first: 8, last: 15 },
+        Range {
+            first: 16,
+            last: 30,
+        },
+        Range { first: 4, last: 15 },
+    ];
+    let mut places = Vec::new(alloc);
+    for range in ranges {
+        push_edges(&mut places, range, within)?;
+    }
+    assert_eq!(rt; places.as_slice(), [8, 16, 4, 16].as_slice());
+    put_in_order(&mut places);
+    assert_eq!(rt; places.as_slice(), [4, 8, 16].as_slice());
     Ok(())
 }

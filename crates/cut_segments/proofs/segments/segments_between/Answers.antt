@@ -1,7 +1,8 @@
-use Rattle.std.proofs.Common.{◌≡◌, ◌∙◌, ◌++◌, List, ap, sym, subst, rules}
-use Rattle.std.specs.List.{All}
+use Rattle.std.proofs.Common.{◌≡◌, ◌∙◌, ◌++◌, ◌≤◌, List, ℕ, ap, length, sym, subst, rules}
+use Rattle.std.specs.List.{All, AllAdjacentBelow}
 use Rattle.std.specs.List.Sorted.{IsPermutation, IsNonDecreasingBy}
-use Rattle.std.proofs.lemmas.List.Sorted.{IsNonDecreasingBy-from_sort_by_key}
+use Rattle.std.proofs.lemmas.List.Sorted.{IsNonDecreasingBy-from_all_adjacent}
+use Rattle.std.proofs.lemmas.List.Sorted.{IsNonDecreasingBy-from_sort_by_key, IsPermutation-refl}
 use Rattle.geo_addr.specs.Ranges.{Ends, IsRange, ground_first}
 use Rattle.cut_segments.specs.Segments.{AreSegments}
 use Rattle.cut_segments.proofs.SegmentLemmas.{segments_of_sorted}
@@ -17,3 +18,15 @@ returns c =
     let found = c.in_ok-segments.ensures.found in
     subst (λ (out : List Ends). AreSegments c.args.touched.now c.args.places.now out) (sym found)
     (segments_of_sorted c.args.touched.now c.as_slice.result.now c.args.places.now same sorted c.requires (subst (λ (out : List Ends). All IsRange out) found c.in_ok-segments.ensures.ranges))
+
+pub returns-then-are_in_order : goal.returns-then-are_in_order
+returns-then-are_in_order c =
+    let touched = c.args.touched.now in
+    let first : Ends → ℕ = λ r. ground_first r in
+    let up : AllAdjacentBelow (λ r t. first r ≤ first t) touched (length touched) = search rules in
+    let sorted : IsNonDecreasingBy first touched =
+    IsNonDecreasingBy-from_all_adjacent first touched up in
+    let found = c.in_ok-pieces.ensures.found in
+    subst (λ (out : List Ends). AreSegments touched c.args.places.now out) (sym found)
+    (segments_of_sorted touched touched c.args.places.now (IsPermutation-refl touched) sorted
+    c.requires (subst (λ (out : List Ends). All IsRange out) found c.in_ok-pieces.ensures.ranges))

@@ -35,12 +35,17 @@ returns g c =
     let ground : X → Ends = λ x. ground_of (g.S.Statement.range x) in
     let now : Bor X → X = λ s. s.now in
     let found : List (Bor X) → List (Bor X) → List Ends = λ old new. map ground (differing (whole_cmp g.S.Statement.range g.S.Compared.rest) (map now old) (map now new)) in
-    let out : c.push_differing.new.grounds.items ≡ found c.in_ok-old.old.items c.in_ok-new.new.items =
+    let out : c.push_differing.new.grounds.items ≡ found c.put_in_order.new.statements.items c.put_in_order-2.new.statements.items =
     c.in_ok-push_differing.ensures ∙ ap (λ zs. zs ++ found c.as_slice.result.now c.as_slice-2.result.now) c.new-grounds.ensures.items
     ∙ (λ k. found (c.as_slice.ensures.value k) (c.as_slice-2.ensures.value k)) in
-    IsPermutation-trans (map ground (changed g.S.Compared.same c.args.old.now c.args.new.now)) (map ground (changed g.S.Compared.same c.trimmed.result.0.now c.trimmed.result.1.now)) c.push_differing.new.grounds.items
+    let changes : List X → List X → List Ends = λ old new. map ground (changed g.S.Compared.same old new) in
+    let old : List X = map now c.in_ok-old.old.items in
+    let new : List X = map now c.in_ok-old.new.items in
+    IsPermutation-trans (changes c.args.old.now c.args.new.now) (changes c.trimmed.result.0.now c.trimmed.result.1.now) c.push_differing.new.grounds.items
     c.trimmed.ensures
-    (subst (λ (zs : List Ends). IsPermutation (map ground (changed g.S.Compared.same c.trimmed.result.0.now c.trimmed.result.1.now)) zs) (sym out)
+    (IsPermutation-trans (changes c.trimmed.result.0.now c.trimmed.result.1.now) (changes old new) c.push_differing.new.grounds.items
+    c.in_ok-old.ensures
+    (subst (λ (zs : List Ends). IsPermutation (changes old new) zs) (sym out)
     (pass_finds g.S.Statement.range g.S.Compared.same g.S.Compared.rest g.met.S.Compared.rest_total g.met.S.Compared.decides
-    c.trimmed.result.0.now c.trimmed.result.1.now (map now c.in_ok-old.old.items) (map now c.in_ok-new.new.items)
-    c.in_ok-old.ensures.same c.in_ok-new.ensures.same c.in_ok-old.ensures.sorted c.in_ok-new.ensures.sorted))
+    old new (map now c.put_in_order.new.statements.items) (map now c.put_in_order-2.new.statements.items)
+    c.put_in_order.ensures.same c.put_in_order-2.ensures.same c.put_in_order.ensures.sorted c.put_in_order-2.ensures.sorted)))

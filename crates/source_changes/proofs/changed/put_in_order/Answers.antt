@@ -1,18 +1,17 @@
-use Rattle.std.proofs.Common.{◌≡◌, List, map, ap, subst, rules, Bor}
-use Rattle.std.specs.List.Sorted.{IsPermutation, IsSortedBy}
+use Rattle.std.proofs.Common.{◌≡◌, List, map, ap, rules, Bor}
+use Rattle.std.specs.List.Sorted.{IsSortedBy}
 use Rattle.std.specs.Ordering.{is_lt}
 use Rattle.std.proofs.lemmas.List.Sorted.{IsPermutation-map, answers_always, ranks_by}
 use Rattle.geo_terms.proofs.IndexLemmas.{sorted_seen}
 use Rattle.source_changes.specs.Sorting.{whole_cmp}
 use Rattle.source_changes.proofs.Found.{whole_total}
-use Rattle.source_changes.proofs.changed.in_order.Goals as goal
+use Rattle.source_changes.proofs.changed.put_in_order.Goals as goal
 
 pub returns-clause-same : goal.returns-clause-same
 returns-clause-same g c =
     let X = g.row.S.Denot in
     let now : Bor X → X = λ s. s.now in
-    subst (λ (zs : List X). IsPermutation zs (map now c.sort_unstable_by.new.self.items)) c.in_ok-sorted.ensures
-    (IsPermutation-map now c.in_ok-sorted.sorted.items c.sort_unstable_by.new.self.items c.sort_unstable_by.ensures.permutation)
+    IsPermutation-map now c.args.statements.now.items c.sort_unstable_by.new.self.items c.sort_unstable_by.ensures.permutation
 
 pub returns-clause-sorted : goal.returns-clause-sorted
 returns-clause-sorted g c =
