@@ -8,9 +8,8 @@ use Rattle.geo_addr.proofs.BitsLemmas.{OneListOfBits-each}
 use Rattle.trie_core.specs.declared.node.NodeId.{NodeId}
 use Rattle.trie_core.specs.declared.node.Rec.{Rec}
 use Rattle.trie_core.specs.declared.node.Rec.TheVariants.{Leaf, Node}
-use Rattle.trie_core.specs.declared.node.Root.{Root}
 use Rattle.trie_core.specs.declared.node.Pair.{Pair}
-use Rattle.trie_core.specs.Tree.{Tree, leaf, node, look, tree_eq, IsPartOf}
+use Rattle.trie_core.specs.Tree.{Tree, leaf, node, look, tree_eq}
 use Rattle.trie_core.specs.Laws.{SameLookups}
 use Rattle.trie_core.specs.Store.{meaning, tree_of, record_of, IsOf, IsSound}
 use Rattle.trie_core.specs.Compact.{HoldsExactly, StandsIn}

@@ -1,9 +1,8 @@
 -- The nodes of several trees together.
-use Rattle.std.proofs.Common.{◌≡◌, ◌⊎◌, ℕ, inl, inr, Bool, List, [], ◌∷◌, ◌++◌, map, length, refl, sym, ◌∙◌, ap, ap₂}
+use Rattle.std.proofs.Common.{◌≡◌, ℕ, inl, inr, List, [], ◌∷◌, ◌++◌, map, length, refl, sym, ◌∙◌, ap, ap₂}
 use Rattle.std.specs.Prelude.{flat_map}
 use Rattle.std.proofs.lemmas.List.{length-map, map-append}
 use Rattle.trie_core.specs.Tree.{Tree, HasLeaf, AllLeaves, map_tree, tree_eq}
-use Rattle.trie_core.specs.Laws.{IsEquality}
 use Rattle.trie_core.specs.Compact.{StandsIn}
 use Rattle.least_nodes.specs.Layout.{each_once, preorder, IsNode}
 use Rattle.least_nodes.specs.Together.{nodes_of, HaveLeaf, RenamedNodes}

@@ -1,9 +1,7 @@
 -- Lemmas on a walk through a store that passes over what it has seen.
-use Rattle.std.proofs.Common.{◌≡◌, ℕ, ◌<◌, ◌≤◌, inl, inr, Bool, true, false, true≢false, not, nat_eq, if◌then◌else◌, List, [], ◌∷◌, ◌++◌, filter, length, Contains, Result, Ok, Err, OnOk, refl, sym, ◌∙◌, ap, subst, arith, rules}
-use Rattle.std.specs.List.{list_any}
+use Rattle.std.proofs.Common.{◌≡◌, ℕ, ◌<◌, ◌≤◌, inl, inr, Bool, true, false, nat_eq, List, [], ◌∷◌, ◌++◌, filter, length, Contains, refl, sym, ◌∙◌, ap, subst, arith, rules}
 use Rattle.std.proofs.lemmas.List.{length-map, map-append}
 use Rattle.std.proofs.lemmas.List.Elements.{All-contains, All-push, filter-append}
-use Rattle.indexmap.specs.IndexSet.{insert_key}
 use Rattle.trie_core.specs.declared.node.NodeId.{NodeId}
 use Rattle.trie_core.specs.declared.node.Rec.{Rec}
 use Rattle.trie_core.specs.declared.node.Rec.TheVariants.{Node}
@@ -17,16 +15,11 @@ use Rattle.trie_core.proofs.TreeLemmas.{nat_equality}
 use Rattle.least_nodes.specs.Layout.{each_once, preorder, leaves, inner, is_place, place_order}
 use Rattle.least_nodes.specs.Laws.{IsFewest}
 use Rattle.least_nodes.specs.Order.{trees_of, AreOf, nodes_after, places_after, IsDoneBelow, IsNoted, same_node}
-use Rattle.least_nodes.proofs.Elements.{In, In-left, In-append, In-map, In-from_map, In-from_any, any-from_In, In-from_Contains, Contains-from_In, each_once-new, each_once-known, each_once-append, In-each_once, In-each_once-seen, In-each_once-new, In-filter, In-from_filter, filter-each_once, IsDistinct-from_none}
+use Rattle.least_nodes.proofs.Elements.{In, In-left, In-append, In-map, In-from_map, In-from_Contains, Contains-from_In, each_once-new, each_once-known, each_once-append, In-each_once, In-each_once-seen, In-each_once-new, In-filter, In-from_filter, filter-each_once, IsDistinct-from_none}
 use Rattle.least_nodes.proofs.Positions.{length-le_from_apart, Least-holds}
 use Rattle.least_nodes.proofs.TreeParts.{IsEquality-tree_eq, preorder-inside, leaves-inside}
 
--- what holds in any case holds of an answer
-pub OnOk-from : {V E P : Type 0} (r : Result V E) → P → OnOk r P
-OnOk-from (Ok v) is = is
-OnOk-from (Err e) is = tt
-
--- the test of two node numbers that a set makes tells equal ones from others
+-- the test of two node numbers tells equal ones from others
 pub id_equality : IsEquality id_impl.eq-value.it
 id_equality a b = (
   λ is. let h : nat_eq a.0 b.0 ≡ true = is in
@@ -40,16 +33,6 @@ same_node_equality a b = id_equality a b
 
 pub tree_equality : IsEquality (tree_eq nat_eq)
 tree_equality = IsEquality-tree_eq nat_eq nat_equality
-
--- an insert into the set notes the node
-pub IsNoted-insert_key : (ids new : List NodeId) (id : NodeId) (is_new : Bool) → is_new ≡ not (list_any (id_impl.eq-value.it id) ids) → new ≡ insert_key id_impl.eq-value.it ids id → IsNoted ids new id is_new
-IsNoted-insert_key ids new id is_new added keys = by (list_any (id_impl.eq-value.it id) ids) refl
-  where
-    by : (found : Bool) → list_any (id_impl.eq-value.it id) ids ≡ found → IsNoted ids new id is_new
-    by true is =
-        subst (IsNoted ids new id) (sym (added ∙ ap not is)) (Contains-from_In id_impl.eq-value.it id_equality id ids (In-from_any id_impl.eq-value.it id_equality id ids is), keys ∙ ap (λ (b : Bool). if b then ids else ids ++ id ∷ []) is)
-    by false is =
-        subst (IsNoted ids new id) (sym (added ∙ ap not is)) ((λ has. true≢false (sym (any-from_In id_impl.eq-value.it id_equality id ids (In-from_Contains id_impl.eq-value.it id_equality id ids has)) ∙ is)), keys ∙ ap (λ (b : Bool). if b then ids else ids ++ id ∷ []) is)
 
 -- what the answer of an insert says
 pub IsNoted-new : (old new : List NodeId) (id : NodeId) (is_new : Bool) → is_new ≡ true → IsNoted old new id is_new → (Contains old id → ⊥) × (new ≡ old ++ id ∷ [])

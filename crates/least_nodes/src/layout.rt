@@ -1,71 +1,88 @@
 //! The order in which the nodes and the places of a tree are written.
-ghost use Rattle.std.specs.Prelude.{◌≡◌, ◌≤◌, length, nat_eq, IfOk, OnOk};
+ghost use Rattle.std.specs.Prelude.{◌≡◌, ◌≤◌, ◌+◌, ◌*◌, length, nat_eq, IfOk};
 ghost use Rattle.trie_core.specs.Tree.{height};
 ghost use Rattle.trie_core.specs.Store.{meaning, tree_of, IsOf, IsRootOf};
 ghost use Rattle.least_nodes.specs.Layout.{inner, place_order};
 ghost use Rattle.least_nodes.specs.Laws.{IsFewest};
 ghost use Rattle.least_nodes.specs.Order.{trees_of, AreOf, nodes_after, places_after, IsDoneBelow};
 
+use crate::node_set::NodeSet;
 use crate::seen::Seen;
 use geo_addr::Memory;
 use indexmap::IndexSet;
 use std::alloc::Global;
-use trie_core::{Near, NodeId, Rec, Root, Store};
+use trie_core::{Near, Rec, Root, Store};
 
-/// The different nodes under a root, and the numbers of the different places among their leaves, each in
-/// the order in which a walk first comes to them that takes a node before its children and the left
-/// child before the right one.
+/// The different nodes under a root, and the numbers of the different places among their leaves,
+/// each in the order in which a walk first comes to them that takes a node before its children and
+/// the left child before the right one.
 #[derive(Drop)]
 pub struct Layout {
-    pub nodes: IndexSet<NodeId, Near>,
-    pub leaves: IndexSet<u32>,
+    pub nodes: NodeSet,
+    pub leaves: IndexSet<u32, Near>,
+    /// How many records the walk was called on.
+    pub calls: u64,
 }
 
-/// The layout of the tree that the root means. A root that is a leaf has no nodes. The work follows the
-/// nodes under the root and not the size of the store.
+/// The layout of the tree that the root means. A root that is a leaf has no nodes. The walk goes
+/// through the nodes under the root alone, and takes four bytes for each node of the store up to
+/// the root's.
 pub fn order(alloc: Global, store: &Store, root: Root) -> Result<Layout, Memory>
     requires { IsRootOf store.now root }
     ensures nodes { IfOk result
-        (λ layout. trees_of store.now layout.nodes.keys ≡ inner nat_eq (tree_of store.now root)) }
-    ensures of { IfOk result (λ layout. AreOf store.now layout.nodes.keys) }
-    ensures leaves { IfOk result (λ layout. layout.leaves.keys ≡ place_order (tree_of store.now root)) }
+        (λ layout. trees_of store.now layout.nodes ≡ inner nat_eq (tree_of store.now root)) }
+    ensures of { IfOk result (λ layout. AreOf store.now layout.nodes) }
+    ensures leaves { IfOk result
+        (λ layout. layout.leaves.keys ≡ place_order (tree_of store.now root)) }
 
     // No list of nodes that answers as the tree does is shorter.
     ensures least { IfOk result
-        (λ layout. IsFewest 128 (tree_of store.now root) (length layout.nodes.keys)) }
-    ensures few { IfOk result (λ layout. length layout.nodes.keys ≤ length store.now) }
+        (λ layout. IsFewest 128 (tree_of store.now root) (length layout.nodes)) }
+    ensures few { IfOk result (λ layout. length layout.nodes ≤ length store.now) }
+
+    // The root's record and two of each node: nothing below a node is walked a second time.
+    ensures calls { IfOk result (λ layout. layout.calls ≡ 2 * length layout.nodes + 1) }
 {
     let rec = store.rec_of(root);
     let mut seen = Seen::new(alloc);
-    visit(store, rec, &mut seen)?;
+    let calls = visit(store, rec, &mut seen)?;
     Ok(Layout {
         nodes: seen.nodes,
         leaves: seen.places,
+        calls,
     })
 }
 
-// Walks through the tree of the record, and passes over what was seen. No tree is higher than 128, so
-// the recursion stays shallow.
-fn visit(store: &Store, rec: Rec, seen: &mut Seen) -> Result<(), Memory>
+// Walks through the tree of the record, passes over what was seen, and answers how many records it
+// was called on. No tree is higher than 128, so the recursion stays shallow.
+fn visit(store: &Store, rec: Rec, seen: &mut Seen) -> Result<u64, Memory>
     requires of { IsOf store.now rec }
-    requires known { AreOf store.now seen.old.nodes.keys }
+    requires known { AreOf store.now seen.old.nodes }
     requires done { IsDoneBelow (height (meaning store.now rec))
-        (trees_of store.now seen.old.nodes.keys) seen.old.places.keys }
-    ensures known { OnOk result (AreOf store.now seen.new.nodes.keys) }
-    ensures nodes { OnOk result (trees_of store.now seen.new.nodes.keys
-        ≡ nodes_after (trees_of store.now seen.old.nodes.keys) (meaning store.now rec)) }
-    ensures places { OnOk result (seen.new.places.keys
+        (trees_of store.now seen.old.nodes) seen.old.places.keys }
+    ensures known { IfOk result (λ _. AreOf store.now seen.new.nodes) }
+    ensures nodes { IfOk result (λ _. trees_of store.now seen.new.nodes
+        ≡ nodes_after (trees_of store.now seen.old.nodes) (meaning store.now rec)) }
+    ensures places { IfOk result (λ _. seen.new.places.keys
         ≡ places_after seen.old.places.keys (meaning store.now rec)) }
+    ensures calls { IfOk result (λ calls. calls + 2 * length seen.old.nodes
+        ≡ 2 * length seen.new.nodes + 1) }
 {
     match rec {
-        Rec::Leaf(number) => seen.note_leaf(number),
+        Rec::Leaf(number) => {
+            seen.note_leaf(number)?;
+            Ok(1)
+        }
         Rec::Node(id) => {
             if !seen.note_node(id)? {
-                return Ok(());
+                return Ok(1);
             }
             let (left, right) = store.children(id);
-            visit(store, left, seen)?;
-            visit(store, right, seen)
+            let calls = visit(store, left, seen)?;
+            let more = visit(store, right, seen)?;
+            // A set has fewer than 2^32 nodes, so the sum fits.
+            let _ = seen.nodes.len();
+            Ok(1 + calls + more)
         }
     }
 }

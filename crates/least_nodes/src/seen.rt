@@ -3,6 +3,7 @@ ghost use Rattle.std.specs.Prelude.{◌≡◌, [], IfOk, OnOk};
 ghost use Rattle.trie_core.specs.Tree.{leaf};
 ghost use Rattle.least_nodes.specs.Order.{places_after, IsNoted};
 
+use crate::node_set::NodeSet;
 use geo_addr::Memory;
 use indexmap::IndexSet;
 use std::alloc::Global;
@@ -11,36 +12,35 @@ use trie_core::{Near, NodeId};
 /// The nodes and the places that a walk has come to, each once, in the order of the first visits.
 #[derive(Drop)]
 pub(crate) struct Seen {
-    pub(crate) nodes: IndexSet<NodeId, Near>,
-    pub(crate) places: IndexSet<u32>,
+    pub(crate) nodes: NodeSet,
+    pub(crate) places: IndexSet<u32, Near>,
 }
 
 impl Seen {
     /// A walk that has not begun; it takes no memory.
     pub(crate) fn new(alloc: Global) -> Seen
-        ensures nodes { result.nodes.keys ≡ [] }
+        ensures nodes { result.nodes ≡ [] }
         ensures places { result.places.keys ≡ [] }
     {
         Seen {
-            nodes: IndexSet::with_hasher(alloc, Near::new()),
-            places: IndexSet::new(alloc),
+            nodes: NodeSet::new(alloc),
+            places: IndexSet::with_hasher(alloc, Near::new()),
         }
     }
 
     /// Notes a node, and says whether it is new.
     pub(crate) fn note_node(&mut self, id: NodeId) -> Result<bool, Memory>
-        ensures noted { IfOk result (IsNoted self.old.nodes.keys self.new.nodes.keys id) }
+        ensures noted { IfOk result (IsNoted self.old.nodes self.new.nodes id) }
         ensures places { self.new.places.keys ≡ self.old.places.keys }
     {
-        let is_new = self.nodes.insert(id)?;
-        Ok(is_new)
+        self.nodes.insert(id)
     }
 
     /// Notes the place that a leaf is. Leaf 0 is no place.
     pub(crate) fn note_leaf(&mut self, number: u32) -> Result<(), Memory>
         ensures places { OnOk result
             (self.new.places.keys ≡ places_after self.old.places.keys (leaf number)) }
-        ensures nodes { self.new.nodes.keys ≡ self.old.nodes.keys }
+        ensures nodes { self.new.nodes ≡ self.old.nodes }
     {
         if number != 0 {
             self.places.insert(number)?;

@@ -25,7 +25,7 @@ use Rattle.mmdb_data.specs.declared.fault.DataCause.TheVariants.{OutOfSection}
 use Rattle.mmdb_file.specs.declared.fault.OpenFault.TheVariants.{Version}
 use Rattle.mmdb_file.specs.Marker.{marker, last_marker}
 use Rattle.mmdb_file.specs.Metadata.{told_members, english, metadata}
-use Rattle.mmdb_file.specs.Walk.{Opened, Told, told_of, told_of_value, number_field, count_of, bits_of_size, is_known, cut, opened, seek, place_of_record, place_at, value_at, value_read, walk_opened, walk}
+use Rattle.mmdb_file.specs.Walk.{Opened, Told, told_of, told_of_value, number_field, count_of, bits_of_size, is_known, cut, nodes_of, nodes_told, opened, seek, place_of_record, place_at, value_at, value_read, walk_opened, walk}
 use Rattle.mmdb_data.specs.Packing.{packed, packed_offsets}
 use Rattle.geo_terms.specs.PlaceForm.{PlaceParts}
 use Rattle.geo_terms.specs.Numbers.{place_at as place_at_number}
@@ -192,6 +192,16 @@ opened_again bits nodes section epoch name some few low utf8 short =
     opened_is (front ++ (marker ++ meta)) (length front) (Some told) front meta last ahead behind tells
     ∙ ap (λ (b : Bool). if b then cut front told else Err Version) (known_again (length nodes) bits)
     ∙ cut_again bits nodes section
+
+-- and tells how many nodes it has
+pub nodes_told_again : (bits : Bits) (nodes : List (ℕ × ℕ)) (section : List ℕ) (epoch : ℕ)
+    → (name bytes : List ℕ) → bytes ≡ file_of bits nodes section epoch name
+    → 0 < length nodes → length nodes < 2 ^ 32 → epoch < 2 ^ 64
+    → IsUtf8 name → length name ≤ 64 → nodes_told bytes ≡ Some (length nodes)
+unfolding nodes_told
+nodes_told_again bits nodes section epoch name bytes is some few low utf8 short =
+    let again = opened_again bits nodes section epoch name some few low utf8 short in
+    ap (λ b. nodes_of (opened b)) is ∙ ap nodes_of again
 
 -- ---- the values are read again
 

@@ -98,6 +98,14 @@ opened_at bytes (Some place) = opened_with (take place bytes) (told_of_value (re
 unfoldable pub opened : List ℕ → Result Opened OpenFault
 opened bytes = opened_at bytes (last_marker bytes)
 
+abbrev pub nodes_of : Result Opened OpenFault → Option ℕ
+nodes_of (Ok file) = Some file.nodes
+nodes_of (Err fault) = None
+
+-- how many nodes these bytes tell whoever opens them that their file has
+unfoldable pub nodes_told : List ℕ → Option ℕ
+nodes_told bytes = nodes_of (opened bytes)
+
 -- the record at which the way along these bits from a node ends, if it ends by then
 abbrev pub seek : (ℕ → Bool → ℕ) → ℕ → ℕ → List Bool → Option ℕ
 seek read nodes place [] = if nat_lt place nodes then None else Some place

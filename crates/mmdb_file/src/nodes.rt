@@ -36,7 +36,7 @@ pub(crate) fn nodes_of(
 ) -> Result<Vec<(u32, u32)>, Memory>
     requires root { IsOf store.now root }
     requires of { AreOf store.now ids.now }
-    requires few { length numbers.now.nodes.keys < 2 ^ 32 }
+    requires few { length numbers.now.nodes < 2 ^ 32 }
     requires low { (k : ℕ) → numbers.now.count + 16 + slice_index numbers.now.starts.items k < 2 ^ 32 }
     ensures { IfOk result (λ nodes. nodes.items
         ≡ nodes_from store.now (number_of numbers.now) root ids.now) }
@@ -49,7 +49,7 @@ pub(crate) fn nodes_of(
 }
 
 fn root_node(alloc: Global, root: Rec, numbers: &Numbers) -> Result<Vec<(u32, u32)>, Memory>
-    requires few { length numbers.now.nodes.keys < 2 ^ 32 }
+    requires few { length numbers.now.nodes < 2 ^ 32 }
     requires low { (k : ℕ) → numbers.now.count + 16 + slice_index numbers.now.starts.items k < 2 ^ 32 }
     ensures { IfOk result (λ nodes. nodes.items ≡ (number_of numbers.now root, number_of numbers.now root) ∷ []) }
 {
@@ -66,7 +66,7 @@ fn inner_nodes(
     numbers: &Numbers,
 ) -> Result<Vec<(u32, u32)>, Memory>
     requires of { AreOf store.now ids.now }
-    requires few { length numbers.now.nodes.keys < 2 ^ 32 }
+    requires few { length numbers.now.nodes < 2 ^ 32 }
     requires low { (k : ℕ) → numbers.now.count + 16 + slice_index numbers.now.starts.items k < 2 ^ 32 }
     ensures { IfOk result (λ nodes. nodes.items ≡ map_list (node_numbers store.now (number_of numbers.now)) ids.now) }
 {

@@ -3,6 +3,7 @@ ghost use Rattle.std.specs.Prelude.{◌≡◌, ◌+◌, ◌^◌, ◌<◌, ◌≤
 ghost use Rattle.mmdb_file.specs.Writing.{record_number};
 
 use indexmap::IndexSet;
+use least_nodes::NodeSet;
 use trie_core::{Near, NodeId, Rec};
 
 /// The bytes between the search tree and the data section.
@@ -12,17 +13,17 @@ pub(crate) const GAP: u64 = 16;
 #[derive(Drop)]
 pub(crate) struct Numbers {
     pub(crate) count: u32,
-    pub(crate) nodes: IndexSet<NodeId, Near>,
-    pub(crate) places: IndexSet<u32>,
+    pub(crate) nodes: NodeSet,
+    pub(crate) places: IndexSet<u32, Near>,
     pub(crate) starts: Vec<u64>,
 }
 
 impl Numbers {
     /// The record as it stands in the file.
     pub(crate) fn record(&self, rec: Rec) -> u32
-        requires few { length self.now.nodes.keys < 2 ^ 32 }
+        requires few { length self.now.nodes < 2 ^ 32 }
         requires low { (k : ℕ) → self.now.count + 16 + slice_index self.now.starts.items k < 2 ^ 32 }
-        ensures { result ≡ record_number self.now.count self.now.nodes.keys self.now.places.keys self.now.starts.items rec }
+        ensures { result ≡ record_number self.now.count self.now.nodes self.now.places.keys self.now.starts.items rec }
     {
         match rec {
             Rec::Leaf(number) => self.leaf(number),
@@ -32,7 +33,7 @@ impl Numbers {
 
     fn leaf(&self, number: u32) -> u32
         requires low { (k : ℕ) → self.now.count + 16 + slice_index self.now.starts.items k < 2 ^ 32 }
-        ensures { result ≡ record_number self.now.count self.now.nodes.keys self.now.places.keys self.now.starts.items (Rec.Leaf number) }
+        ensures { result ≡ record_number self.now.count self.now.nodes self.now.places.keys self.now.starts.items (Rec.Leaf number) }
     {
         match self.places.get_index_of(&number) {
             Some(index) => (u64::from(self.count) + GAP + start_at(&self.starts, index)) as u32,
@@ -41,10 +42,10 @@ impl Numbers {
     }
 
     fn node(&self, id: NodeId) -> u32
-        requires few { length self.now.nodes.keys < 2 ^ 32 }
-        ensures { result ≡ record_number self.now.count self.now.nodes.keys self.now.places.keys self.now.starts.items (Rec.Node id) }
+        requires few { length self.now.nodes < 2 ^ 32 }
+        ensures { result ≡ record_number self.now.count self.now.nodes self.now.places.keys self.now.starts.items (Rec.Node id) }
     {
-        match self.nodes.get_index_of(&id) {
+        match self.nodes.index_of(id) {
             Some(index) => index as u32,
             None => self.nodes.len() as u32,
         }

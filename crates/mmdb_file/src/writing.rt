@@ -3,7 +3,7 @@ ghost use Rattle.std.specs.Prelude.{◌≡◌, ◌+◌, ◌*◌, ◌^◌, ◌<�
 ghost use Rattle.std.specs.Str.{IsUtf8};
 ghost use Rattle.geo_addr.specs.Bits.{bits_of};
 ghost use Rattle.mmdb_file.specs.PlaceValue.{place_value};
-ghost use Rattle.mmdb_file.specs.Walk.{walk};
+ghost use Rattle.mmdb_file.specs.Walk.{walk, nodes_told};
 ghost use Rattle.geo_terms.specs.Numbers.{place_at};
 ghost use Rattle.trie_core.specs.Tree.{tree};
 ghost use Rattle.trie_core.specs.Store.{IsOf, IsRootOf, leaf_at, tree_of};
@@ -69,6 +69,9 @@ pub fn write_file(
         → walk written.bytes.items (bits_of 128 address) ≡ Ok (option_map place_value (place_at places.now k))) }
     ensures nodes { IfOk result (λ written. written.nodes ≡ file_nodes (place_tree places.now store.now root)) }
 
+    // The count is the one that whoever opens the bytes reads in them.
+    ensures told { IfOk result (λ written. nodes_told written.bytes.items ≡ Some written.nodes) }
+
     // No list of nodes that answers each address with the same place is shorter.
     ensures fewest { IfOk result
         (λ written. (nodes : List (Member (Option PlaceParts) × Member (Option PlaceParts)))
@@ -125,7 +128,7 @@ pub fn numbers_to_places(store: &Store, root: Root, places: &Places)
 
 fn numbers_of(count: u32, layout: Layout, starts: Vec<u64>) -> Numbers
     ensures count { result.count ≡ count }
-    ensures nodes { result.nodes.keys ≡ layout.nodes.keys }
+    ensures nodes { result.nodes ≡ layout.nodes }
     ensures places { result.places.keys ≡ layout.leaves.keys }
     ensures starts { result.starts.items ≡ starts.items }
 {
@@ -151,7 +154,7 @@ fn written(
     requires of { AreOf store.now ids.now }
     requires name { length meta.now.name ≤ 64 }
     requires ids { length ids.now ≤ numbers.now.count }
-    requires keys { length numbers.now.nodes.keys ≤ numbers.now.count }
+    requires keys { length numbers.now.nodes ≤ numbers.now.count }
     requires low { (k : ℕ) → numbers.now.count + 16 + slice_index numbers.now.starts.items k < limit bits }
     ensures bytes { IfOk result (λ bytes. bytes.items ≡ file_of bits
         (nodes_from store.now (number_of numbers.now) root ids.now) section.now meta.now.epoch meta.now.name) }

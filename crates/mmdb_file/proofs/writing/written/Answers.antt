@@ -26,17 +26,17 @@ pub file_bytes-requires-clause-fits : goal.file_bytes-requires-clause-fits
 file_bytes-requires-clause-fits c =
     subst (λ (nodes : List (ℕ × ℕ)). (k : ℕ) → k < length nodes → NodeFits c.args.bits (get_or nodes k (0, 0))) (sym (c.as_slice.ensures.value ∙ c.in_ok-nodes.ensures))
     (nodes_fit c.args.bits c.args.store.now (number_of c.args.numbers.now) c.args.root c.args.ids.now
-    (λ rec. record_number-lt c.args.numbers.now.count (limit c.args.bits) c.args.numbers.now.nodes.keys c.args.numbers.now.places.keys c.args.numbers.now.starts.items rec
+    (λ rec. record_number-lt c.args.numbers.now.count (limit c.args.bits) c.args.numbers.now.nodes c.args.numbers.now.places.keys c.args.numbers.now.starts.items rec
     (omega (arith, c.requires.keys, c.requires.low 0)) (omega (arith, c.requires.low 0)) c.requires.low))
 
 pub returns-clause-fits : goal.returns-clause-fits
 returns-clause-fits c =
     nodes_fit c.args.bits c.args.store.now (number_of c.args.numbers.now) c.args.root c.args.ids.now
-    (λ rec. record_number-lt c.args.numbers.now.count (limit c.args.bits) c.args.numbers.now.nodes.keys c.args.numbers.now.places.keys c.args.numbers.now.starts.items rec
+    (λ rec. record_number-lt c.args.numbers.now.count (limit c.args.bits) c.args.numbers.now.nodes c.args.numbers.now.places.keys c.args.numbers.now.starts.items rec
     (omega (arith, c.requires.keys, c.requires.low 0)) (omega (arith, c.requires.low 0)) c.requires.low)
 
 pub returns-in_err-nodes-clause-fits : goal.returns-in_err-nodes-clause-fits
 returns-in_err-nodes-clause-fits c =
     nodes_fit c.args.bits c.args.store.now (number_of c.args.numbers.now) c.args.root c.args.ids.now
-    (λ rec. record_number-lt c.args.numbers.now.count (limit c.args.bits) c.args.numbers.now.nodes.keys c.args.numbers.now.places.keys c.args.numbers.now.starts.items rec
+    (λ rec. record_number-lt c.args.numbers.now.count (limit c.args.bits) c.args.numbers.now.nodes c.args.numbers.now.places.keys c.args.numbers.now.starts.items rec
     (omega (arith, c.requires.keys, c.requires.low 0)) (omega (arith, c.requires.low 0)) c.requires.low)
