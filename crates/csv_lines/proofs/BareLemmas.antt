@@ -1,21 +1,23 @@
 -- A text without quotes: its values are its pieces between commas. A file without quotes hands nothing over.
-use Rattle.std.proofs.Common.{◌≡◌, ◌≢◌, ℕ, zero, suc, ◌+◌, ◌-◌, ◌<◌, Bool, true, false, not, cond, ◌&&◌, ◌==◌, List, [], ◌∷◌, length, map, drop, take, Option, Some, None, refl, sym, ap, ◌∙◌, arith}
-use Rattle.std.specs.Prelude.{is_some, nat_eq, option_map, slice_index, unwrap_or}
+use Rattle.std.proofs.Common.{◌≡◌, ◌≢◌, ℕ, zero, suc, ◌+◌, ◌-◌, ◌<◌, ◌≤◌, Bool, true, false, not, cond, ◌&&◌, ◌||◌, ◌==◌, ◌⊎◌, inl, inr, List, [], ◌∷◌, length, map, drop, take, reverse, Option, Some, None, refl, sym, ap, subst, ◌∙◌, ne_eqb, arith}
+use Rattle.std.specs.Prelude.{is_some, nat_eq, option_map, slice_index, slice_index_or, unwrap_or}
 use Rattle.std.specs.List.{enumerate_from, list_all, onto_first, prefix_len, starts_with}
-use Rattle.std.specs.Str.{IsAscii, is_utf8}
+use Rattle.std.specs.Str.{is_utf8}
 use Rattle.std.specs.Str.Lines.{strip_carriage_return}
 use Rattle.std.proofs.lemmas.Bool.{and_parts, eqb-true}
 use Rattle.std.proofs.lemmas.Bool.Decides.{nat_tests}
-use Rattle.std.proofs.lemmas.Str.{IsUtf8-from_ascii, is_utf8-from_IsUtf8}
-use Rattle.std.proofs.lemmas.Str.Ascii.{IsAscii-cons, IsAscii-nil}
+use Rattle.std.proofs.lemmas.List.{reverse-append, reverse-reverse}
+use Rattle.std.proofs.lemmas.List.Folds.{list_all-append}
 use Rattle.memchr.specs.Find.{Nowhere, NoneBefore, Passes, is_byte}
-use Rattle.geo_addr.specs.Lines.{byte_order_mark, last_line, lines_of, lines_of_pieces, numbered_lines, pieces, without_mark}
+use Rattle.csv.specs.Records.{field_at}
+use Rattle.geo_addr.specs.Lines.{byte_order_mark, is_blank, last_line, lines_of, lines_of_pieces, numbered_lines, pieces, trimmed, trimmed_start, without_mark}
+use Rattle.geo_terms.specs.PlaceForm.{is_empty}
 use Rattle.csv_lines.specs.Fields.{Field, Plain, Quoted, fields, goes_on, is_bare, is_inner, is_unquoted, scan, value, values_of, with_byte, with_plain}
-use Rattle.csv_lines.specs.Rests.{all_handed, content_of, first_piece, handed, handed_by, rest_of, row_of}
+use Rattle.csv_lines.specs.Rests.{IsBareLine, all_handed, content_of, first_piece, handed, handed_by, rest_of, row_of}
 use Rattle.csv_lines.specs.declared.rest.Content.{Content}
 use Rattle.csv_lines.specs.declared.rest.Content.TheVariants.{Blank, NotText, NoFields, Fields}
 use Rattle.csv_lines.specs.declared.scan.Spot.TheVariants.{Start, Inside}
-use Rattle.csv_lines.proofs.TextLemmas.{all_drop, all_take, trimmed_all}
+use Rattle.csv_lines.proofs.TextLemmas.{all_drop, all_take, end_is, trimmed_all}
 
 -- ---- whether a text has a quote
 
@@ -177,7 +179,10 @@ pub nothing_handed : (file : List ℕ) → is_unquoted file ≡ true → all_han
 nothing_handed file free =
     lines_handed 1 (lines_of (without_mark file)) (lines_all no_quote (pieces 10 (without_mark file)) (pieces_all no_quote 10 (without_mark file) (mark_all no_quote file free)))
 
--- ---- texts of ASCII without quotes and line ends
+-- ---- texts without quotes, line ends and comments
+
+abbrev uncommented : ℕ → Bool
+uncommented b = not (b == 35)
 
 all_weaker : (p q : ℕ → Bool) → ((b : ℕ) → p b ≡ true → q b ≡ true) → (text : List ℕ) → list_all p text ≡ true → list_all q text ≡ true
 all_weaker p q weaker [] e = refl
@@ -191,20 +196,14 @@ bare_quote b e = grind (arith, nat_tests)
 bare_inner : (b : ℕ) → is_bare b ≡ true → is_inner b ≡ true
 bare_inner b e = grind (arith, nat_tests)
 
-bare_ascii : (b : ℕ) → is_bare b ≡ true → b < 128
-bare_ascii b e = grind (arith, nat_tests)
+bare_uncommented : (b : ℕ) → is_bare b ≡ true → uncommented b ≡ true
+bare_uncommented b e = grind (arith, nat_tests)
 
 goes_bare : (b : ℕ) → goes_on b ≡ true → is_bare b ≡ true
 goes_bare b e = grind (arith, nat_tests)
 
 goes_no_comma : (b : ℕ) → goes_on b ≡ true → (b == 44) ≡ false
 goes_no_comma b e = grind (arith, nat_tests)
-
-all_ascii : (text : List ℕ) → list_all is_bare text ≡ true → IsAscii text
-all_ascii [] e = IsAscii-nil
-all_ascii (b ∷ bs) e =
-    let (one, more) = and_parts (is_bare b) (list_all is_bare bs) e in
-    IsAscii-cons b bs (bare_ascii b one) (all_ascii bs more)
 
 -- the bytes up to the end of a text that go on are its only field
 pub cut_last : (text : List ℕ) → drop (prefix_len goes_on text) text ≡ []
@@ -223,21 +222,45 @@ cut_last (b ∷ bs) e = by (goes_on b) refl e (cut_last bs)
 
 -- those up to a comma are its first field
 pub cut_comma : (text next : List ℕ) → drop (prefix_len goes_on text) text ≡ 44 ∷ next
-    → (pieces 44 text ≡ take (prefix_len goes_on text) text ∷ pieces 44 next) × (list_all is_bare next ≡ true → list_all is_bare text ≡ true)
+    → (pieces 44 text ≡ take (prefix_len goes_on text) text ∷ pieces 44 next)
+    × (list_all is_bare text ≡ list_all is_bare next)
 cut_comma [] next e = absurd cc
 cut_comma (b ∷ bs) next e = by (goes_on b) refl e (cut_comma bs next)
   where
     by : (x : Bool) → goes_on b ≡ x → drop (cond x (1 + prefix_len goes_on bs) 0) (b ∷ bs) ≡ 44 ∷ next
-        → (drop (prefix_len goes_on bs) bs ≡ 44 ∷ next → (pieces 44 bs ≡ take (prefix_len goes_on bs) bs ∷ pieces 44 next) × (list_all is_bare next ≡ true → list_all is_bare bs ≡ true))
-        → (pieces 44 (b ∷ bs) ≡ take (cond x (1 + prefix_len goes_on bs) 0) (b ∷ bs) ∷ pieces 44 next) × (list_all is_bare next ≡ true → list_all is_bare (b ∷ bs) ≡ true)
+        → (drop (prefix_len goes_on bs) bs ≡ 44 ∷ next
+        → (pieces 44 bs ≡ take (prefix_len goes_on bs) bs ∷ pieces 44 next)
+        × (list_all is_bare bs ≡ list_all is_bare next))
+        → (pieces 44 (b ∷ bs) ≡ take (cond x (1 + prefix_len goes_on bs) 0) (b ∷ bs) ∷ pieces 44 next)
+        × (list_all is_bare (b ∷ bs) ≡ list_all is_bare next)
     by false is h later =
         let head : b ≡ 44 = cc in
         let tail : bs ≡ next = cc in
-        (rw (head, tail) refl, λ bare. rw (head, tail) bare)
+        (rw (head, tail) refl, rw (head, tail) refl)
     by true is h later =
         let step : 1 + prefix_len goes_on bs ≡ suc (prefix_len goes_on bs) = omega arith in
         let (left, bare) = later (rw step at h) in
-        (rw (goes_no_comma b is, step, left) refl, λ more. rw (goes_bare b is, bare more) refl)
+        (rw (goes_no_comma b is, step, left) refl, rw (goes_bare b is) bare)
+
+-- a byte that neither goes on nor is a comma is in no bare text
+other_byte : (b : ℕ) → goes_on b ≡ false → (b ≡ 44 → ⊥) → is_bare b ≡ false
+other_byte b e other = ap (λ (x : Bool). x || goes_on b) (ne_eqb b 44 other) ∙ e
+
+pub cut_other : (text next : List ℕ) (b : ℕ) → drop (prefix_len goes_on text) text ≡ b ∷ next
+    → (b ≡ 44 → ⊥) → list_all is_bare text ≡ false
+cut_other [] next b e other = absurd cc
+cut_other (a ∷ more) next b e other = by (goes_on a) refl e (cut_other more next b)
+  where
+    by : (x : Bool) → goes_on a ≡ x
+        → drop (cond x (1 + prefix_len goes_on more) 0) (a ∷ more) ≡ b ∷ next
+        → (drop (prefix_len goes_on more) more ≡ b ∷ next → (b ≡ 44 → ⊥)
+        → list_all is_bare more ≡ false) → list_all is_bare (a ∷ more) ≡ false
+    by false is h later =
+        let head : a ≡ b = cc in
+        rw (other_byte a is (λ c. other (sym head ∙ c))) refl
+    by true is h later =
+        let step : 1 + prefix_len goes_on more ≡ suc (prefix_len goes_on more) = omega arith in
+        rw (goes_bare a is) (later (rw step at h) other)
 
 no_items : (xs : List ℕ) → length xs ≡ 0 → xs ≡ []
 no_items [] e = refl
@@ -255,10 +278,15 @@ module _ (text front after : List ℕ) (n : ℕ) (count : n ≡ prefix_len goes_
       let (cut, bare) = cut_last text (left ∙ no_items after none) in
       (cut ∙ ap (λ (t : List ℕ). t ∷ []) first, bare)
 
-  pub comma_cut : (b : ℕ) (next : List ℕ) → after ≡ b ∷ next → b ≡ 44 → (pieces 44 text ≡ front ∷ pieces 44 next) × (list_all is_bare next ≡ true → list_all is_bare text ≡ true)
+  pub comma_cut : (b : ℕ) (next : List ℕ) → after ≡ b ∷ next → b ≡ 44
+      → (pieces 44 text ≡ front ∷ pieces 44 next) × (list_all is_bare text ≡ list_all is_bare next)
   comma_cut b next parts is =
       let (cut, bare) = cut_comma text next (left ∙ parts ∙ ap (λ (x : ℕ). x ∷ next) is) in
       (cut ∙ ap (λ (t : List ℕ). t ∷ pieces 44 next) first, bare)
+
+  pub other_cut : (b : ℕ) (next : List ℕ) → after ≡ b ∷ next → (b ≡ 44 → ⊥)
+      → list_all is_bare text ≡ false
+  other_cut b next parts other = cut_other text next b (left ∙ parts) other
 
 content_by : (x u : Bool) (vs : Option (List (List ℕ))) (ps : List (List ℕ)) → x ≡ false → u ≡ true → vs ≡ Some ps
     → cond x Blank (cond (not u) NotText (cond (is_some vs) Fields NoFields)) ≡ Fields
@@ -274,14 +302,133 @@ pub blank_of : (rest : List ℕ) → (length rest == 0) ≡ true → content_of 
 blank_of [] e = refl
 blank_of (b ∷ bs) e = let none = eqb-true (length (b ∷ bs)) 0 e in absurd (omega arith)
 
-pub bare_fields : (rest : List ℕ) → (length rest == 0) ≡ false → list_all is_bare rest ≡ true → (content_of rest ≡ Fields) × (pieces 44 rest ≡ row_of rest)
-bare_fields [] some bare = absurd cc
-bare_fields (b ∷ bs) some bare =
+pub bare_fields : (rest : List ℕ) → (length rest == 0) ≡ false → is_utf8 rest ≡ true
+    → list_all is_bare rest ≡ true
+    → (content_of rest ≡ Fields) × (pieces 44 rest ≡ row_of rest)
+bare_fields [] some text bare = absurd cc
+bare_fields (b ∷ bs) some text bare =
     let rest = b ∷ bs in
     let values = bare_values rest bare in (
-      content_by false (is_utf8 rest) (values_of rest) (pieces 44 rest) refl (is_utf8-from_IsUtf8 rest (IsUtf8-from_ascii rest (all_ascii rest bare))) values,
+      content_by false (is_utf8 rest) (values_of rest) (pieces 44 rest) refl text values,
       sym (ap (λ (o : Option (List (List ℕ))). unwrap_or o []) values),
     )
 
 pub bare_unquoted : (text : List ℕ) → list_all is_bare text ≡ true → is_unquoted text ≡ true
 bare_unquoted text bare = all_weaker is_bare no_quote bare_quote text bare
+
+-- ---- a line without a comment
+
+-- what holds of blanks and of the text without those at its start holds of the text
+untrimmed_start : (q : ℕ → Bool) → ((b : ℕ) → is_blank b ≡ true → q b ≡ true) → (xs : List ℕ)
+    → list_all q (trimmed_start xs) ≡ true → list_all q xs ≡ true
+untrimmed_start q blank [] e = refl
+untrimmed_start q blank (x ∷ xs) e = by (is_blank x) refl e (untrimmed_start q blank xs)
+  where
+    by : (b : Bool) → is_blank x ≡ b
+        → list_all q (drop (cond b (1 + prefix_len is_blank xs) 0) (x ∷ xs)) ≡ true
+        → (list_all q (trimmed_start xs) ≡ true → list_all q xs ≡ true) → list_all q (x ∷ xs) ≡ true
+    by false is h later = h
+    by true is h later =
+        let step : 1 + prefix_len is_blank xs ≡ suc (prefix_len is_blank xs) = omega arith in
+        rw (blank x is, later (rw step at h)) refl
+
+reversed_all : (q : ℕ → Bool) (xs : List ℕ) → list_all q xs ≡ true → list_all q (reverse xs) ≡ true
+reversed_all q [] e = refl
+reversed_all q (x ∷ xs) e =
+    let (one, more) = and_parts (q x) (list_all q xs) e in
+    ap (list_all q) (reverse-append (x ∷ []) xs) ∙ list_all-append q (reverse xs) (x ∷ [])
+    ∙ rw (reversed_all q xs more, one) refl
+
+untrimmed : (q : ℕ → Bool) → ((b : ℕ) → is_blank b ≡ true → q b ≡ true) → (xs : List ℕ)
+    → list_all q (trimmed xs) ≡ true → list_all q xs ≡ true
+untrimmed q blank xs e =
+    let start = trimmed_start xs in
+    let turned = reversed_all q _ (ap (list_all q) (sym (end_is start)) ∙ e) in
+    let behind =
+    untrimmed_start q blank (reverse start)
+    (ap (list_all q) (sym (reverse-reverse (trimmed_start (reverse start)))) ∙ turned) in
+    untrimmed_start q blank xs
+    (ap (list_all q) (sym (reverse-reverse start)) ∙ reversed_all q (reverse start) behind)
+
+one_piece : (text : List ℕ) → list_all uncommented text ≡ true → pieces 35 text ≡ text ∷ []
+one_piece [] e = refl
+one_piece (b ∷ bs) e =
+    let (one, more) = and_parts (uncommented b) (list_all uncommented bs) e in
+    rw (unnot (b == 35) one, one_piece bs more) refl
+
+blank_uncommented : (b : ℕ) → is_blank b ≡ true → uncommented b ≡ true
+blank_uncommented b e = grind (arith, nat_tests)
+
+-- the rest of a line is the line without the blanks around it, where that is bare
+pub bare_rest : (line : List ℕ) → list_all is_bare (trimmed line) ≡ true
+    → rest_of line ≡ trimmed line
+bare_rest line bare =
+    let free =
+    untrimmed uncommented blank_uncommented line
+    (all_weaker is_bare uncommented bare_uncommented (trimmed line) bare) in
+    ap (λ (ps : List (List ℕ)). trimmed (first_piece ps)) (one_piece line free)
+
+-- such a line has fields, which are the pieces of its rest, and hands nothing over
+pub bare_line : (line rest : List ℕ) → rest ≡ trimmed line → (length rest == 0) ≡ false
+    → is_utf8 rest ≡ true → list_all is_bare rest ≡ true
+    → (content_of (rest_of line) ≡ Fields) × (pieces 44 rest ≡ row_of (rest_of line))
+    × (handed line ≡ [])
+bare_line line rest is some text bare =
+    let same : rest_of line ≡ rest =
+    bare_rest line (subst (λ (t : List ℕ). list_all is_bare t ≡ true) is bare) ∙ sym is in
+    let (content, row) = bare_fields rest some text bare in (
+      ap content_of same ∙ content,
+      row ∙ ap row_of (sym same),
+      handed_none line (ap is_unquoted same ∙ bare_unquoted rest bare),
+    )
+
+-- ---- the fields of a row by their places
+
+pub field_within : {A : Type 0} (f : A → List ℕ) (xs : List A) (n i : ℕ) (d : A) → i < n
+    → n ≤ length xs → Some (f (slice_index_or xs i d)) ≡ field_at (map f (take n xs)) i
+unfolding field_at
+field_within f [] n i d below few = absurd (omega arith)
+field_within f (x ∷ xs) zero i d below few = absurd (omega arith)
+field_within f (x ∷ xs) (suc n) zero d below few = refl
+field_within f (x ∷ xs) (suc n) (suc i) d below few =
+    field_within f xs n i d (omega arith) (omega arith)
+
+pub field_past : {A : Type 0} (f : A → List ℕ) (xs : List A) (n i : ℕ) → n ≤ i
+    → None ≡ field_at (map f (take n xs)) i
+unfolding field_at
+field_past f [] zero i past = refl
+field_past f [] (suc n) i past = refl
+field_past f (x ∷ xs) zero i past = refl
+field_past f (x ∷ xs) (suc n) zero past = absurd (omega arith)
+field_past f (x ∷ xs) (suc n) (suc i) past = field_past f xs n i (omega arith)
+
+-- ---- the lines that are cut
+
+no_fields : (x u : Bool) (vs : Option (List (List ℕ))) → (x ≡ true) ⊎ (u ≡ false)
+    → cond x Blank (cond (not u) NotText (cond (is_some vs) Fields NoFields)) ≡ Fields → ⊥
+no_fields true u vs either e = absurd cc
+no_fields false true vs (inl h) e = absurd cc
+no_fields false true vs (inr h) e = absurd cc
+no_fields false false vs either e = absurd cc
+
+pub not_taken : (line rest : List ℕ) → rest ≡ trimmed line
+    → ((length rest == 0) ≡ true) ⊎ (is_utf8 rest ≡ false) → IsBareLine line → ⊥
+not_taken line rest is either taken =
+    let same : rest_of line ≡ rest = bare_rest line taken.bare ∙ sym is in
+    no_fields (is_empty rest) (is_utf8 rest) (values_of rest) (by rest either)
+    (ap content_of (sym same) ∙ taken.content)
+  where
+    by : (r : List ℕ) → ((length r == 0) ≡ true) ⊎ (is_utf8 r ≡ false)
+        → (is_empty r ≡ true) ⊎ (is_utf8 r ≡ false)
+    by [] (inl h) = inl refl
+    by (b ∷ bs) (inl h) = let none = eqb-true (length (b ∷ bs)) 0 h in absurd (omega arith)
+    by r (inr h) = inr h
+
+pub taken_bare : (line rest : List ℕ) → rest ≡ trimmed line → IsBareLine line
+    → list_all is_bare rest ≡ true
+taken_bare line rest is taken =
+    subst (λ (t : List ℕ). list_all is_bare t ≡ true) (sym is) taken.bare
+
+pub taken_few : (line : List ℕ) (fields : List (List ℕ)) → fields ≡ row_of (rest_of line)
+    → IsBareLine line → length fields ≤ 8
+taken_few line fields is taken = subst (λ (f : List (List ℕ)). length f ≤ 8) (sym is) taken.few

@@ -65,7 +65,8 @@ length_rest : (i : ℕ) (xs : List ℕ) → length (drop i xs) ≡ length xs - i
 length_rest i xs = omega (arith, length-drop i xs)
 
 -- blanks are taken from the end as they are from the start, the other way round
-end_is : (xs : List ℕ) → trimmed_end xs ≡ reverse (drop (prefix_len is_blank (reverse xs)) (reverse xs))
+pub end_is : (xs : List ℕ)
+    → trimmed_end xs ≡ reverse (drop (prefix_len is_blank (reverse xs)) (reverse xs))
 end_is xs =
     let count = prefix_len is_blank (reverse xs) in
     let left = length xs - count in

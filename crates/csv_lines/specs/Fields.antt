@@ -1,6 +1,6 @@
 -- The fields of a line of comma-separated values: plain ones, and quoted ones in which each quote is doubled (RFC 4180 section 2).
 -- A byte is its number: 34 is the quote, 44 the comma, 10 the line feed, 13 the carriage return.
-use Rattle.std.specs.Prelude.{◌≡◌, ℕ, Bool, true, not, ◌&&◌, ◌||◌, ◌==◌, List, [], ◌∷◌, ◌++◌, map, IsTrue, Option, None, Some, option_map, is_some, nat_lt, if◌then◌else◌}
+use Rattle.std.specs.Prelude.{◌≡◌, ℕ, Bool, true, not, ◌&&◌, ◌||◌, ◌==◌, List, [], ◌∷◌, ◌++◌, map, IsTrue, Option, None, Some, option_map, is_some, if◌then◌else◌}
 use Rattle.std.specs.List.{list_all}
 use Rattle.csv_lines.specs.declared.scan.Spot.{Spot}
 use Rattle.csv_lines.specs.declared.scan.Spot.TheVariants.{Start, Inside, Within, Closed}
@@ -78,9 +78,9 @@ fields text = scan Start text
 abbrev pub is_unquoted : List ℕ → Bool
 is_unquoted text = list_all (λ b. not (b == 34)) text
 
--- whether a byte is ASCII, and no comma, quote or line end
+-- whether a byte is no comma, quote, line end or start of a comment
 abbrev pub goes_on : ℕ → Bool
-goes_on b = if nat_lt 44 b then nat_lt b 128 else (not (b == 44) && not (b == 34) && not (b == 10) && not (b == 13))
+goes_on b = not (b == 44) && not (b == 34) && not (b == 35) && not (b == 10) && not (b == 13)
 
 -- a byte that goes on, or a comma
 abbrev pub is_bare : ℕ → Bool

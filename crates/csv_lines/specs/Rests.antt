@@ -1,6 +1,7 @@
 -- What is left of a line without its comment, and how `csv` reads it (RFC 8805 section 2, RFC 4180 section 2).
-use Rattle.std.specs.Prelude.{◌≡◌, ℕ, ◌+◌, Result, not, is_some, List, [], ◌∷◌, ◌++◌, flat_map, Option, Some, unwrap_or, get_or, if◌then◌else◌}
+use Rattle.std.specs.Prelude.{◌≡◌, ℕ, ◌+◌, ◌≤◌, Result, true, not, is_some, List, [], ◌∷◌, ◌++◌, length, flat_map, Option, Some, unwrap_or, get_or, if◌then◌else◌}
 use Rattle.std.specs.Str.{is_utf8}
+use Rattle.std.specs.List.{list_all}
 use Rattle.geo_addr.specs.Lines.{pieces, trimmed}
 use Rattle.geo_terms.specs.PlaceForm.{is_empty}
 use Rattle.csv.specs.Machine.{next_record}
@@ -11,7 +12,7 @@ use Rattle.csv.specs.declared.reader.Trim.TheVariants as trim
 use Rattle.geo_terms.specs.SaidOf.{said_of}
 use Rattle.geo_terms.specs.declared.place.PlaceFault.{PlaceFault}
 use Rattle.geo_terms.specs.declared.place.Said.{Said}
-use Rattle.csv_lines.specs.Fields.{is_unquoted, values_of}
+use Rattle.csv_lines.specs.Fields.{is_bare, is_unquoted, values_of}
 use Rattle.csv_lines.specs.declared.rest.Content.{Content}
 use Rattle.csv_lines.specs.declared.rest.Content.TheVariants.{Blank, NotText, NoFields, Fields}
 
@@ -33,6 +34,12 @@ content_of rest =
 -- the fields of a rest, with their quotes taken off
 abbrev pub row_of : List ℕ → List (List ℕ)
 row_of rest = unwrap_or (values_of rest) []
+
+-- a line of at most eight fields that has neither quotes nor a comment
+pub record IsBareLine (line : List ℕ) : Type 0 where
+  pub content : content_of (rest_of line) ≡ Fields
+  pub bare : list_all is_bare (trimmed line) ≡ true
+  pub few : length (row_of (rest_of line)) ≤ 8
 
 -- a field without the blanks around it; missing fields are empty
 abbrev pub column : ℕ → List (List ℕ) → List ℕ

@@ -46,7 +46,7 @@ pub fn content_of(rest: &[u8]) -> Content
 }
 
 #[tactic(auto, using(crate::proofs::RestLemmas::text_is, crate::proofs::RestLemmas::text_is_not))]
-fn is_text(bytes: &[u8]) -> bool
+pub(crate) fn is_text(bytes: &[u8]) -> bool
     ensures { result ≡ is_utf8 bytes.now }
 {
     match str::from_utf8(bytes) {

@@ -1,13 +1,13 @@
 //! The fields of all lines that have any; one `csv` reader reads those with quotes.
-ghost use Rattle.std.specs.Prelude.{◌≡◌, ◌≢◌, [], ◌∷◌, ◌++◌, ◌<◌, ℕ, List, Some, IfOk, OnOk};
+ghost use Rattle.std.specs.Prelude.{◌≡◌, ◌≢◌, [], ◌∷◌, ◌++◌, ◌<◌, ℕ, List, Some, IfOk, OnOk, option_map};
 ghost use Rattle.geo_addr.specs.Lines.{numbered_lines};
-ghost use Rattle.csv.specs.Records.{fields_of};
+ghost use Rattle.csv.specs.Records.{field_at, fields_of};
 ghost use Rattle.csv_lines.specs.Clean.{AreTexts};
 ghost use Rattle.csv_lines.specs.Fields.{values_of};
 ghost use Rattle.csv_lines.specs.Rests.{CanRead, Stands, all_handed, column, content_of, handed, handed_text, rest_of, row_of, said_in};
 ghost use Rattle.csv_lines.specs.declared.rest.Content.{Content};
 
-use crate::bare::{cut_bare, cut_row, is_unquoted};
+use crate::bare::{cut_row, is_unquoted};
 use crate::rest::{Content, content_of, rest_of};
 use csv::{ByteRecord, Reader, ReaderBuilder};
 use geo_addr::{Lines, Memory, trim_blanks};
@@ -79,28 +79,6 @@ pub fn next_row(
     ensures stands { (left : List ℕ) → Stands (λ s. Some s.now) reader.old (handed line.now ++ left) → OnOk result (Stands (λ s. Some s.now) reader.new left) }
 {
     let rest = rest_of(line);
-    if rest.is_empty() {
-        return Ok(Content::Blank);
-    }
-    if cut_bare(rest, row)? {
-        return Ok(Content::Fields);
-    }
-    other_row(reader, line, row)
-}
-
-// The same of any line.
-fn other_row(
-    reader: &mut Reader<&[u8]>,
-    line: &[u8],
-    row: &mut ByteRecord,
-) -> Result<Content, Memory>
-    requires { CanRead (λ s. Some s.now) reader.old line.now }
-    ensures content { IfOk result (λ content. content ≡ content_of (rest_of line.now)) }
-    ensures row { IfOk result (λ content. content ≡ Content.Fields → fields_of row.new ≡ row_of (rest_of line.now)) }
-    ensures texts { IfOk result (λ content. content ≡ Content.Fields → AreTexts (fields_of row.new)) }
-    ensures stands { (left : List ℕ) → Stands (λ s. Some s.now) reader.old (handed line.now ++ left) → OnOk result (Stands (λ s. Some s.now) reader.new left) }
-{
-    let rest = rest_of(line);
     let content = content_of(rest);
     match content {
         Content::Blank => {}
@@ -134,11 +112,28 @@ fn read_row(reader: &mut Reader<&[u8]>, row: &mut ByteRecord) -> Result<(), Memo
     }
 }
 
+/// The fields of a line.
+pub trait Row {
+    ghost fields: { Self → List (List ℕ) };
+
+    /// A field by its place from 0, if there is one.
+    fn field(&self, place: usize) -> Option<&[u8]>
+        ensures { option_map (λ s. s.now) result ≡ field_at (fields self.now) place };
+}
+
+impl Row for ByteRecord {
+    ghost fields = { fields_of };
+
+    fn field(&self, place: usize) -> Option<&[u8]> {
+        self.get(place)
+    }
+}
+
 /// A field of a row by its place from 0, without the blanks around it; a missing one is empty.
-pub fn column(row: &ByteRecord, place: usize) -> &[u8]
-    ensures { result.now ≡ column place (fields_of row.now) }
+pub fn column<R: Row>(row: &R, place: usize) -> &[u8]
+    ensures { result.now ≡ column place (R.fields row.now) }
 {
-    match row.get(place) {
+    match row.field(place) {
         Some(field) => trim_blanks(field),
         None => &[],
     }
@@ -147,14 +142,14 @@ pub fn column(row: &ByteRecord, place: usize) -> &[u8]
 /// What four fields from a place on say of a location, or the first of their faults: country, region,
 /// city and postal code.
 #[tactic(auto, using(crate::proofs::RestLemmas::fault_told))]
-pub fn said_in(
+pub fn said_in<R: Row>(
     texts: &mut Texts,
-    row: &ByteRecord,
+    row: &R,
     place: usize,
 ) -> Result<Result<Said, PlaceFault>, Memory>
     requires few { place < 8 }
-    requires texts { AreTexts (fields_of row.now) }
-    ensures { IfOk result (λ said. said ≡ said_in place (fields_of row.now)) }
+    requires texts { AreTexts (R.fields row.now) }
+    ensures { IfOk result (λ said. said ≡ said_in place (R.fields row.now)) }
 {
     let country = text_column(row, place);
     let region = text_column(row, place + 1);
@@ -170,12 +165,10 @@ pub fn said_in(
 }
 
 // A field of a row by its place, as a text.
-fn text_column(row: &ByteRecord, place: usize) -> &str
-    requires { AreTexts (fields_of row.now) }
-    ensures { result.now ≡ column place (fields_of row.now) }
+fn text_column<R: Row>(row: &R, place: usize) -> &str
+    requires { AreTexts (R.fields row.now) }
+    ensures { result.now ≡ column place (R.fields row.now) }
 {
-    match str::from_utf8(column(row, place)) {
-        Ok(text) => text,
-        Err(_) => unreachable!(),
-    }
+    // Its `requires` is that of this function.
+    unsafe { str::from_utf8_unchecked(column(row, place)) }
 }

@@ -16,8 +16,9 @@ const LONGEST: usize = 67_108_864;
 /// The most lines that pass the line rules.
 const MOST: usize = 2_097_152;
 
-/// Few files have lines that are shorter on the average, in bytes.
-const USUAL: usize = 16;
+/// For each so many bytes of a file room for one entry is taken ahead; few files have shorter lines on
+/// the average.
+const SHORT_LINE: usize = 16;
 
 /// Reads a geofeed (RFC 8805): the entries and the notes of its lines.
 ///
@@ -80,12 +81,11 @@ fn read_lines(alloc: Global, bytes: &[u8]) -> Result<Found, SourceFault>
     Ok(found)
 }
 
-// No entries, with room for those of a file, so that they are not moved as they come. Room that is not
-// written to costs nothing.
+// No entries, with room for those of a file, so that they are not moved as they come.
 fn with_room(alloc: Global, bytes: &[u8]) -> Result<Vec<Entry>, Memory>
     ensures { IfOk result (λ entries. entries.items ≡ []) }
 {
-    let room = (bytes.len() / USUAL).min(MOST);
+    let room = (bytes.len() / SHORT_LINE).min(MOST);
     let entries = Vec::with_capacity(alloc, room)?;
     Ok(entries)
 }

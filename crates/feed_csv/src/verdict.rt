@@ -1,12 +1,11 @@
 //! What a line says by itself.
 ghost use Rattle.std.specs.Prelude.{◌≡◌, ◌++◌, ℕ, List, Some, IfOk, OnOk};
-ghost use Rattle.csv.specs.Records.{fields_of};
 ghost use Rattle.csv_lines.specs.Clean.{AreTexts};
 ghost use Rattle.csv_lines.specs.Rests.{CanRead, Stands, handed, said_in};
 ghost use Rattle.feed_csv.specs.Verdicts.{accepted_at, block_rule, place_rule, row_verdict, verdict};
 
 use csv::{ByteRecord, Reader};
-use csv_lines::{Content, column, next_row, said_in};
+use csv_lines::{Content, Row, bare_row, column, next_row, said_in};
 use geo_addr::{Block, BlockFault, Memory, parse_block};
 use geo_terms::{PlaceFault, Rule, Said, Texts};
 
@@ -30,6 +29,9 @@ pub(crate) fn read_line(
     ensures verdict { IfOk result (λ found. found ≡ verdict line.now) }
     ensures stands { (left : List ℕ) → Stands (λ s. Some s.now) reader.old (handed line.now ++ left) → OnOk result (Stands (λ s. Some s.now) reader.new left) }
 {
+    if let Some(bare) = bare_row(line) {
+        return row_verdict(texts, &bare);
+    }
     match next_row(reader, line, row)? {
         Content::Blank => Ok(Verdict::Silent),
         Content::NotText => Ok(Verdict::Broken(Rule::F01)),
@@ -39,9 +41,9 @@ pub(crate) fn read_line(
 }
 
 // What fields say: the first rule that they break, else an entry.
-fn row_verdict(texts: &mut Texts, row: &ByteRecord) -> Result<Verdict, Memory>
-    requires { AreTexts (fields_of row.now) }
-    ensures { IfOk result (λ found. found ≡ row_verdict (fields_of row.now)) }
+fn row_verdict<R: Row>(texts: &mut Texts, row: &R) -> Result<Verdict, Memory>
+    requires { AreTexts (R.fields row.now) }
+    ensures { IfOk result (λ found. found ≡ row_verdict (R.fields row.now)) }
 {
     let prefix = column(row, 0);
     if prefix.is_empty() {
@@ -53,9 +55,9 @@ fn row_verdict(texts: &mut Texts, row: &ByteRecord) -> Result<Verdict, Memory>
     }
 }
 
-fn accepted_at(texts: &mut Texts, block: Block, row: &ByteRecord) -> Result<Verdict, Memory>
-    requires { AreTexts (fields_of row.now) }
-    ensures { IfOk result (λ found. found ≡ accepted_at block (said_in 1 (fields_of row.now))) }
+fn accepted_at<R: Row>(texts: &mut Texts, block: Block, row: &R) -> Result<Verdict, Memory>
+    requires { AreTexts (R.fields row.now) }
+    ensures { IfOk result (λ found. found ≡ accepted_at block (said_in 1 (R.fields row.now))) }
 {
     match said_in(texts, row, 1)? {
         Ok(said) => Ok(Verdict::Accepted(block, said)),

@@ -13,8 +13,9 @@ const LONGEST: usize = 268_435_456;
 /// The most delegations of a file.
 const MOST: usize = 2_097_152;
 
-/// Few files have lines that are shorter on the average, in bytes.
-const USUAL: usize = 40;
+/// For each so many bytes of a file room for one row is taken ahead; few files have shorter lines on the
+/// average.
+const SHORT_LINE: usize = 40;
 
 /// Reads a statistics file: the delegations and the notes of its lines.
 ///
@@ -52,8 +53,9 @@ fn read_lines(alloc: Global, slot: &Text, bytes: &[u8]) -> Result<Found, SourceF
     ensures too_many { result ≡ Err SourceFault.TooMany → most < length (rows slot.now bytes.now) }
     ensures too_long { result ≢ Err SourceFault.TooLong }
 {
+    let room = (bytes.len() / SHORT_LINE).min(MOST);
     let mut found = Found {
-        rows: Vec::with_capacity(alloc, room_for(bytes)).map_err(Memory::from)?,
+        rows: Vec::with_capacity(alloc, room).map_err(Memory::from)?,
         notes: Vec::new(alloc),
         texts: Texts::new(alloc),
     };
@@ -61,11 +63,6 @@ fn read_lines(alloc: Global, slot: &Text, bytes: &[u8]) -> Result<Found, SourceF
         take_line(slot, line, &mut found)?;
     }
     Ok(found)
-}
-
-// Room for the rows, so that they are not moved as they grow; what is not written to costs nothing.
-fn room_for(bytes: &[u8]) -> usize {
-    (bytes.len() / USUAL).min(MOST)
 }
 
 // Adds what one more line says.

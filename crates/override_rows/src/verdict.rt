@@ -1,12 +1,11 @@
 //! What a line says by itself.
 ghost use Rattle.std.specs.Prelude.{◌≡◌, ◌++◌, ℕ, List, Some, IfOk, OnOk};
-ghost use Rattle.csv.specs.Records.{fields_of};
 ghost use Rattle.csv_lines.specs.Clean.{AreTexts};
 ghost use Rattle.csv_lines.specs.Rests.{CanRead, Stands, column, handed};
 ghost use Rattle.override_rows.specs.Verdicts.{acted, row_verdict, set_at, verdict};
 
 use csv::{ByteRecord, Reader};
-use csv_lines::{Content, column, next_row, said_in};
+use csv_lines::{Content, Row, bare_row, column, next_row, said_in};
 use geo_addr::{Memory, Range, parse_span};
 use geo_terms::{Rule, Said, Texts};
 
@@ -30,6 +29,9 @@ pub(crate) fn read_line(
     ensures verdict { IfOk result (λ found. found ≡ verdict line.now) }
     ensures stands { (left : List ℕ) → Stands (λ s. Some s.now) reader.old (handed line.now ++ left) → OnOk result (Stands (λ s. Some s.now) reader.new left) }
 {
+    if let Some(bare) = bare_row(line) {
+        return row_verdict(texts, &bare);
+    }
     match next_row(reader, line, row)? {
         Content::Blank => Ok(Verdict::Silent),
         Content::NotText => Ok(Verdict::Broken(Rule::O01)),
@@ -39,9 +41,9 @@ pub(crate) fn read_line(
 }
 
 // What fields say: the first rule that they break, else a row.
-fn row_verdict(texts: &mut Texts, row: &ByteRecord) -> Result<Verdict, Memory>
-    requires { AreTexts (fields_of row.now) }
-    ensures { IfOk result (λ found. found ≡ row_verdict (fields_of row.now)) }
+fn row_verdict<R: Row>(texts: &mut Texts, row: &R) -> Result<Verdict, Memory>
+    requires { AreTexts (R.fields row.now) }
+    ensures { IfOk result (λ found. found ≡ row_verdict (R.fields row.now)) }
 {
     match parse_span(column(row, 0)) {
         Ok(range) => acted(texts, range, row),
@@ -49,9 +51,9 @@ fn row_verdict(texts: &mut Texts, row: &ByteRecord) -> Result<Verdict, Memory>
     }
 }
 
-fn acted(texts: &mut Texts, range: Range, row: &ByteRecord) -> Result<Verdict, Memory>
-    requires { AreTexts (fields_of row.now) }
-    ensures { IfOk result (λ found. found ≡ acted range (column 1 (fields_of row.now)) (fields_of row.now)) }
+fn acted<R: Row>(texts: &mut Texts, range: Range, row: &R) -> Result<Verdict, Memory>
+    requires { AreTexts (R.fields row.now) }
+    ensures { IfOk result (λ found. found ≡ acted range (column 1 (R.fields row.now)) (R.fields row.now)) }
 {
     let word = column(row, 1);
     if word == b"void".as_slice() {

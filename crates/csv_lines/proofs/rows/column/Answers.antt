@@ -2,12 +2,16 @@
 use Rattle.std.proofs.Common.{◌∙◌, ap, []}
 use Rattle.std.specs.Prelude.{unwrap_or}
 use Rattle.geo_addr.specs.Lines.{trimmed}
-use Rattle.csv.specs.Records.{fields_of}
 use Rattle.csv_lines.proofs.RestLemmas.{field_is}
 use Rattle.csv_lines.proofs.rows.column.Goals as goal
 
 pub returns-in-Some : goal.returns-in-Some
-returns-in-Some c = c.trim_blanks.ensures ∙ ap trimmed (ap (λ o. unwrap_or o []) c.in-Some.ensures.value ∙ field_is (fields_of c.args.row.now) c.args.place)
+returns-in-Some g c =
+    c.trim_blanks.ensures
+    ∙ ap trimmed (ap (λ o. unwrap_or o []) c.in-Some.ensures
+    ∙ field_is (g.R.Row.fields c.args.row.now) c.args.place)
 
 pub returns-in-None : goal.returns-in-None
-returns-in-None c = ap trimmed (ap (λ o. unwrap_or o []) c.in-None.ensures.value ∙ field_is (fields_of c.args.row.now) c.args.place)
+returns-in-None g c =
+    ap trimmed (ap (λ o. unwrap_or o []) c.in-None.ensures
+    ∙ field_is (g.R.Row.fields c.args.row.now) c.args.place)
