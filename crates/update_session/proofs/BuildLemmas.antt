@@ -1,12 +1,12 @@
 -- What a root answers after the segments were painted on it.
-use Rattle.std.proofs.Common.{◌≡◌, ℕ, zero, suc, ◌+◌, ◌*◌, ◌^◌, ◌<◌, ◌≤◌, Bool, true, false, cond, ◌&&◌, leb, List, [], ◌∷◌, ◌++◌, length, map, take, get_or, add-one, Option, Some, None, refl, sym, ap, ap₂, ◌∙◌, subst, arith, length-append, append_assoc, append-nil}
+use Rattle.std.proofs.Common.{◌≡◌, ℕ, zero, suc, ◌+◌, ◌*◌, ◌^◌, ◌<◌, ◌≤◌, Bool, true, false, cond, ◌&&◌, leb, List, [], ◌∷◌, ◌++◌, length, map, take, get_or, add-one, Option, Some, None, refl, sym, ap, ap₂, ◌∙◌, subst, arith, length-append, append_assoc, append-nil, Bor}
 use Rattle.std.specs.Prelude.{slice_get}
 use Rattle.std.specs.List.{All, Any, AllByRecursion, AllZip}
 use Rattle.std.proofs.lemmas.Bool.Decides.{nat_tests}
-use Rattle.std.proofs.lemmas.List.{length-map}
+use Rattle.std.proofs.lemmas.List.{length-map, map-append}
 use Rattle.std.proofs.Math.ListN.{get_or-map}
 use Rattle.std.proofs.Math.Seq.{take-suc}
-use Rattle.std.proofs.lemmas.Slice.Zip.{AllZip-long, all_zipped_more}
+use Rattle.std.proofs.lemmas.Slice.Zip.{all_zipped_more}
 use Rattle.std.proofs.lemmas.List.Elements.{All-from_recursion, recursion_from_All}
 use Rattle.geo_addr.specs.Ranges.{Ends, IsRange, IsWithin}
 use Rattle.geo_terms.specs.Numbers.{place_at}
@@ -20,9 +20,8 @@ use Rattle.trie_core.specs.declared.node.Root.{Root}
 use Rattle.trie_core.specs.declared.paint.Part.{Part}
 use Rattle.trie_core.specs.Paint.{IsAscending, leaf_in, over}
 use Rattle.trie_core.specs.Store.{leaf_at}
-use Rattle.update_session.specs.Build.{AreSteady, HasNumber, IsChosen, IsNumbered}
+use Rattle.update_session.specs.Build.{AreSteady, HasNumber, IsNumbered, IsSaid}
 use Rattle.update_session.specs.Touch.{bound, few_places}
-use Rattle.update_session.specs.declared.choosing.Choice.{Choice}
 use Rattle.update_session.specs.Kept.{Answers, AnswersSpoken, GrowsBy}
 
 -- ---- a list of places that grows
@@ -44,61 +43,85 @@ pub GrowsBy-trans : (x y z : List PlaceParts) (m n all : ℕ) → GrowsBy x y m 
 GrowsBy-trans x y z m n all (more, y-is, few) (late, z-is, few') le =
     (more ++ late, z-is ∙ ap (λ (ps : List PlaceParts). ps ++ late) y-is ∙ append_assoc x more late, omega (arith, few, few', le, length-append more late))
 
-IsNumbered-grown : (before after : List PlaceParts) (n : ℕ) (c : Choice) (p : Part) → GrowsBy before after n → IsNumbered before c p → IsNumbered after c p
-IsNumbered-grown before after n c p (more, after-is, few) h =
-    subst (λ (places : List PlaceParts). IsNumbered places c p) (sym after-is)
-    (record { range = h.range; few = omega (arith, h.few, length-append before more); place = place_at-grown before more p.leaf h.few ∙ h.place })
+IsNumbered-grown : (before after : List PlaceParts) (n : ℕ) (said : Option (Bor PlaceParts))
+    (p : Part) → GrowsBy before after n → IsNumbered before said p → IsNumbered after said p
+IsNumbered-grown before after n said p (more, after-is, few) h =
+    subst (λ (places : List PlaceParts). IsNumbered places said p) (sym after-is)
+    (record {
+      few = omega (arith, h.few, length-append before more);
+      place = place_at-grown before more p.leaf h.few ∙ h.place;
+    })
 
 -- parts with numbers keep them
-pub AllZip-IsNumbered-grown : (before after : List PlaceParts) (n : ℕ) (cs : List Choice) (ps : List Part) → GrowsBy before after n → AllZip (IsNumbered before) cs ps → AllZip (IsNumbered after) cs ps
+pub AllZip-IsNumbered-grown : (before after : List PlaceParts) (n : ℕ)
+    (said : List (Option (Bor PlaceParts))) (ps : List Part) → GrowsBy before after n
+    → AllZip (IsNumbered before) said ps → AllZip (IsNumbered after) said ps
 AllZip-IsNumbered-grown before after n [] [] grown h = h
 AllZip-IsNumbered-grown before after n [] (p ∷ ps) grown h = absurd h
-AllZip-IsNumbered-grown before after n (c ∷ cs) [] grown h = absurd h
-AllZip-IsNumbered-grown before after n (c ∷ cs) (p ∷ ps) grown h = (IsNumbered-grown before after n c p grown h.0, AllZip-IsNumbered-grown before after n cs ps grown h.1)
+AllZip-IsNumbered-grown before after n (x ∷ xs) [] grown h = absurd h
+AllZip-IsNumbered-grown before after n (x ∷ xs) (p ∷ ps) grown h = (
+  IsNumbered-grown before after n x p grown h.0,
+  AllZip-IsNumbered-grown before after n xs ps grown h.1,
+)
 
--- one part more, for one choice more
-pub one_more_numbered : (places : List PlaceParts) (cs : List Choice) (ps all : List Part) (i : ℕ) (c : Choice) (p : Part) → i < length cs → c ≡ get_or cs i c → AllZip (IsNumbered places) (take i cs) ps
-    → IsNumbered places c p → all ≡ ps ++ p ∷ [] → AllZip (IsNumbered places) (take (i + 1) cs) all
-one_more_numbered places cs ps all i c p below is h one pushed =
-    let longer : take (i + 1) cs ≡ take i cs ++ c ∷ [] = ap (λ n. take n cs) (add-one i) ∙ take-suc cs i c below ∙ ap (λ d. take i cs ++ d ∷ []) (sym is) in
-    subst (λ (qs : List Part). AllZip (IsNumbered places) (take (i + 1) cs) qs) (sym pushed)
-    (subst (λ (ds : List Choice). AllZip (IsNumbered places) ds (ps ++ p ∷ [])) (sym longer) (all_zipped_more (IsNumbered places) (take i cs) ps c p h one))
+-- one part more, for one more thing that is said
+pub one_more_numbered : (places : List PlaceParts) (said : List (Option (Bor PlaceParts)))
+    (ps all : List Part) (i : ℕ) (x : Option (Bor PlaceParts)) (p : Part) → i < length said
+    → x ≡ get_or said i x → AllZip (IsNumbered places) (take i said) ps → IsNumbered places x p
+    → all ≡ ps ++ p ∷ [] → AllZip (IsNumbered places) (take (i + 1) said) all
+one_more_numbered places said ps all i x p below is h one pushed =
+    let longer : take (i + 1) said ≡ take i said ++ x ∷ [] =
+    ap (λ n. take n said) (add-one i) ∙ take-suc said i x below
+    ∙ ap (λ y. take i said ++ y ∷ []) (sym is) in
+    subst (λ (qs : List Part). AllZip (IsNumbered places) (take (i + 1) said) qs) (sym pushed)
+    (subst (λ (ys : List (Option (Bor PlaceParts))). AllZip (IsNumbered places) ys (ps ++ p ∷ []))
+    (sym longer) (all_zipped_more (IsNumbered places) (take i said) ps x p h one))
 
--- the parts of the choices of segments have the segments' ranges, and the numbers of what is said of them
-pub ranges_of_parts : (s : InForce) (places : List PlaceParts) (segments : List Ends) (cs : List Choice) (ps : List Part) → AllZip (IsChosen s) segments cs → AllZip (IsNumbered places) cs ps → map (λ p. p.range) ps ≡ segments
-ranges_of_parts s places [] [] [] chosen numbered = refl
-ranges_of_parts s places [] [] (p ∷ ps) chosen numbered = absurd numbered
-ranges_of_parts s places [] (c ∷ cs) ps chosen numbered = absurd chosen
-ranges_of_parts s places (r ∷ rs) [] ps chosen numbered = absurd chosen
-ranges_of_parts s places (r ∷ rs) (c ∷ cs) [] chosen numbered = absurd numbered
-ranges_of_parts s places (r ∷ rs) (c ∷ cs) (p ∷ ps) chosen numbered =
-    ap₂ (λ (x : Ends) (xs : List Ends). x ∷ xs) (numbered.0.range ∙ chosen.0.range) (ranges_of_parts s places rs cs ps chosen.1 numbered.1)
+-- one part more, for one segment more
+pub one_more_range : (segments : List Ends) (ps all : List Part) (i : ℕ) (r : Ends) (p : Part)
+    → i < length segments → r ≡ get_or segments i r → map (λ q. q.range) ps ≡ take i segments
+    → p.range ≡ r → all ≡ ps ++ p ∷ [] → map (λ q. q.range) all ≡ take (i + 1) segments
+one_more_range segments ps all i r p below is h one pushed =
+    ap (map (λ (q : Part). q.range)) pushed ∙ map-append (λ (q : Part). q.range) ps (p ∷ [])
+    ∙ ap₂ (λ (xs : List Ends) (x : Ends). xs ++ x ∷ []) h (one ∙ is)
+    ∙ sym (ap (λ n. take n segments) (add-one i) ∙ take-suc segments i r below)
 
-numbers_by_recursion : (s : InForce) (places : List PlaceParts) (segments : List Ends) (cs : List Choice) (ps : List Part) → AllZip (IsChosen s) segments cs → AllZip (IsNumbered places) cs ps → AllByRecursion (HasNumber s places) ps
-numbers_by_recursion s places segments cs [] chosen numbered = tt
-numbers_by_recursion s places segments [] (p ∷ ps) chosen numbered = absurd numbered
-numbers_by_recursion s places [] (c ∷ cs) (p ∷ ps) chosen numbered = absurd chosen
-numbers_by_recursion s places (r ∷ rs) (c ∷ cs) (p ∷ ps) chosen numbered =
-    let first : p.range ≡ r = numbered.0.range ∙ chosen.0.range in
-    ((numbered.0.few, numbered.0.place ∙ chosen.0.said ∙ ap (λ (x : Ends). spoken_at s x.first) (sym first)), numbers_by_recursion s places rs cs ps chosen.1 numbered.1)
+numbers_by_recursion : (s : InForce) (places : List PlaceParts)
+    (said : List (Option (Bor PlaceParts))) (ps : List Part)
+    → AllZip (IsSaid s) (map (λ p. p.range) ps) said → AllZip (IsNumbered places) said ps
+    → AllByRecursion (HasNumber s places) ps
+numbers_by_recursion s places said [] are_said numbered = tt
+numbers_by_recursion s places [] (p ∷ ps) are_said numbered = absurd numbered
+numbers_by_recursion s places (x ∷ xs) (p ∷ ps) are_said numbered = (
+  (numbered.0.few, numbered.0.place ∙ are_said.0),
+  numbers_by_recursion s places xs ps are_said.1 numbered.1,
+)
 
-pub numbers_of_parts : (s : InForce) (places : List PlaceParts) (segments : List Ends) (cs : List Choice) (ps : List Part) → AllZip (IsChosen s) segments cs → AllZip (IsNumbered places) cs ps → All (HasNumber s places) ps
-numbers_of_parts s places segments cs ps chosen numbered = All-from_recursion (HasNumber s places) ps (numbers_by_recursion s places segments cs ps chosen numbered)
+-- the parts of segments have the numbers of what is said of these
+pub numbers_of_parts : (s : InForce) (places : List PlaceParts) (segments : List Ends)
+    (said : List (Option (Bor PlaceParts))) (ps : List Part) → map (λ p. p.range) ps ≡ segments
+    → AllZip (IsSaid s) segments said → AllZip (IsNumbered places) said ps
+    → All (HasNumber s places) ps
+numbers_of_parts s places segments said ps ranges are_said numbered =
+    let of_parts : AllZip (IsSaid s) (map (λ p. p.range) ps) said =
+    subst (λ (rs : List Ends). AllZip (IsSaid s) rs said) (sym ranges) are_said in
+    All-from_recursion (HasNumber s places) ps
+    (numbers_by_recursion s places said ps of_parts numbered)
 
 -- an emit gives numbers to no more places than the segments are, and paints no more parts
-few_choices : (s : InForce) (touched segments : List Ends) (cs : List Choice) → AreSteady s touched segments → AllZip (IsChosen s) segments cs → length cs + 1 ≤ few_places touched s
+pub few_places_of : (s : InForce) (touched segments : List Ends) (n : ℕ)
+    (before after : List PlaceParts) → AreSteady s touched segments → n ≡ length segments
+    → GrowsBy before after n → GrowsBy before after (few_places touched s)
 unfolding few_places
-few_choices s touched segments cs steady chosen = omega (arith, AllZip-long (IsChosen s) segments cs chosen, steady.few)
+few_places_of s touched segments n before after steady is (more, after-is, few) =
+    (more, after-is, omega (arith, few, is, steady.few))
 
-pub few_places_of : (s : InForce) (touched segments : List Ends) (cs : List Choice) (before after : List PlaceParts) → AreSteady s touched segments → AllZip (IsChosen s) segments cs
-    → GrowsBy before after (length cs) → GrowsBy before after (few_places touched s)
-few_places_of s touched segments cs before after steady chosen (more, after-is, few) = (more, after-is, omega (arith, few, few_choices s touched segments cs steady chosen))
-
-pub few_parts : (s : InForce) (touched segments : List Ends) (cs : List Choice) (ps : List Part) (places : List PlaceParts) → AreSteady s touched segments → AllZip (IsChosen s) segments cs → AllZip (IsNumbered places) cs ps
+pub few_parts : (s : InForce) (touched segments : List Ends) (ps : List Part)
+    → AreSteady s touched segments → map (λ p. p.range) ps ≡ segments
     → 256 * length ps + 256 ≤ bound touched s
-unfolding bound
-few_parts s touched segments cs ps places steady chosen numbered =
-    omega (arith, AllZip-long (IsNumbered places) cs ps numbered, few_choices s touched segments cs steady chosen)
+unfolding bound few_places
+few_parts s touched segments ps steady ranges =
+    omega (arith, sym (length-map ps (λ (p : Part). p.range)) ∙ ap length ranges, steady.few)
 
 pub Answers-grown : (pairs : List Pair) (before after : List PlaceParts) (n : ℕ) (root : Root) (wanted : Option PlaceParts) (a : ℕ) → GrowsBy before after n → Answers pairs before root wanted a → Answers pairs after root wanted a
 Answers-grown pairs before after n root wanted a (more, after-is, few) h =

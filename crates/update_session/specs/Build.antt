@@ -1,6 +1,7 @@
 -- How the tree is painted anew: the touched grounds are cut, each segment gets its place's number, and all are painted.
-use Rattle.std.specs.Prelude.{◌≡◌, ℕ, ◌<◌, ◌≤◌, IsTrue, List, length, All, Any}
+use Rattle.std.specs.Prelude.{◌≡◌, ℕ, ◌<◌, ◌≤◌, IsTrue, List, length, Option, All, Any}
 use Rattle.std.specs.List.{AllAdjacentBelow}
+use Rattle.std.specs.Borrow.{Bor}
 use Rattle.std.specs.Option.{option_copied}
 use Rattle.geo_addr.specs.Ranges.{Ends, IsRange, IsWithin}
 use Rattle.geo_terms.specs.Cuts.{statement_ranges}
@@ -11,7 +12,6 @@ use Rattle.geo_terms.specs.Sources.{InForce}
 use Rattle.source_changes.specs.Touched.{is_touched}
 use Rattle.trie_core.specs.declared.paint.Part.{Part}
 use Rattle.update_session.specs.Touch.{touch}
-use Rattle.update_session.specs.declared.choosing.Choice.{Choice}
 
 -- ascending ranges that have the touched addresses and no others, of all of each the same is said, and there are no more of them than the touch
 pub record AreSteady (s : InForce) (touched out : List Ends) : Type 0 where
@@ -26,13 +26,12 @@ pub record AreSteady (s : InForce) (touched out : List Ends) : Type 0 where
 abbrev pub HasNumber : InForce → List PlaceParts → Part → Type 0
 HasNumber s places p = (p.leaf ≤ length places) × (place_at places p.leaf ≡ spoken_at s p.range.first)
 
--- a segment was looked up: what is said of its first address
-pub record IsChosen (s : InForce) (segment : Ends) (choice : Choice) : Type 0 where
-  pub range : choice.range ≡ segment
-  pub said : option_copied choice.place ≡ spoken_at s segment.first
+-- what is said of a segment: what is said of its first address
+abbrev pub IsSaid : InForce → Ends → Option (Bor PlaceParts) → Type 0
+IsSaid s segment place = option_copied place ≡ spoken_at s segment.first
 
--- a part has the range of a choice, and the number of its place
-pub record IsNumbered (places : List PlaceParts) (choice : Choice) (part : Part) : Type 0 where
-  pub range : part.range ≡ choice.range
+-- a part has the number of what is said
+pub record IsNumbered (places : List PlaceParts) (said : Option (Bor PlaceParts)) (part : Part)
+    : Type 0 where
   pub few : part.leaf ≤ length places
-  pub place : place_at places part.leaf ≡ option_copied choice.place
+  pub place : place_at places part.leaf ≡ option_copied said

@@ -11,7 +11,7 @@ ghost use Rattle.update_session.specs.Kept.{AnswersAll, GrowsBy as PlacesGrowBy,
 ghost use Rattle.update_session.specs.Touch.{bound, few_places, touch};
 
 use crate::alias::with_aliases;
-use crate::choosing::{Choice, choose};
+use crate::choosing::choose;
 use crate::fault::EmitFault;
 use fan_work::Forks;
 use geo_addr::{Memory, Range};
@@ -54,10 +54,10 @@ pub(crate) fn repaint<R: Threads + Sync, G: Gate, L: Ledger>(
         return Ok(root);
     }
     let segments = cut(sources, touched)?;
-    let choices = choose(forks, sources, segments.as_slice())?;
+    let said = choose(forks, sources, segments.as_slice())?;
+    let parts = parts_of(forks.alloc, segments.as_slice(), said.as_slice(), places)?;
+    drop(said);
     drop(segments);
-    let parts = parts_of(forks.alloc, choices.as_slice(), places)?;
-    drop(choices);
     let painted = paint(store, root, parts.as_slice(), steps)?;
     with_aliases(store, painted, steps)
 }
@@ -70,34 +70,40 @@ fn cut(sources: &Sources, touched: &[Range]) -> Result<Vec<Range>, Memory>
     Ok(segments)
 }
 
-// Each choice with the number of its place.
-fn parts_of(alloc: Global, choices: &[Choice], places: &mut Places) -> Result<Vec<Part>, EmitFault>
-    ensures numbered { IfOk result (λ parts. AllZip (IsNumbered places.new) choices.entry.now parts.items) }
-    ensures places { PlacesGrowBy places.old places.new (length choices.entry.now) }
+// Each segment with the number of what is said of it.
+fn parts_of(
+    alloc: Global,
+    segments: &[Range],
+    said: &[Option<&Place>],
+    places: &mut Places,
+) -> Result<Vec<Part>, EmitFault>
+    requires { length said.now ≡ length segments.now }
+    ensures ranges { IfOk result (λ parts. map (λ p. p.range) parts.items ≡ segments.entry.now) }
+    ensures numbered { IfOk result
+        (λ parts. AllZip (IsNumbered places.new) said.entry.now parts.items) }
+    ensures places { PlacesGrowBy places.old places.new (length segments.entry.now) }
     ensures full { result ≡ Err EmitFault.TooLarge → length places.new + 1 ≡ 2 ^ 32 }
 {
-    let mut parts = Vec::with_capacity(alloc, choices.len())?;
-    for choice in choices {
-        let part = part_of(choice, places)?;
+    let mut parts = Vec::with_capacity(alloc, segments.len())?;
+    for (at, range) in segments.iter().enumerate() {
+        let part = part_of(*range, said[at], places)?;
         parts.push(part)?;
     }
     Ok(parts)
 }
 
-// A choice with the number of its place.
-fn part_of(choice: &Choice, places: &mut Places) -> Result<Part, EmitFault>
-    ensures numbered { IfOk result (IsNumbered places.new choice.entry.now) }
+// A segment with the number of what is said of it.
+fn part_of(range: Range, said: Option<&Place>, places: &mut Places) -> Result<Part, EmitFault>
+    ensures range { IfOk result (λ part. part.range ≡ range) }
+    ensures numbered { IfOk result (IsNumbered places.new said.entry) }
     ensures places { PlacesGrowBy places.old places.new 1 }
     ensures full { result ≡ Err EmitFault.TooLarge → length places.new + 1 ≡ 2 ^ 32 }
 {
-    let leaf = match choice.place {
+    let leaf = match said {
         Some(place) => number_of(places, place)?,
         None => 0,
     };
-    Ok(Part {
-        range: choice.range,
-        leaf,
-    })
+    Ok(Part { range, leaf })
 }
 
 // The number of a place.

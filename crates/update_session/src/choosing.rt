@@ -1,7 +1,7 @@
 //! What the sources say of each segment, looked up by pieces side by side.
-ghost use Rattle.std.specs.Prelude.{◌≡◌, IfOk};
+ghost use Rattle.std.specs.Prelude.{IfOk};
 ghost use Rattle.std.specs.List.{AllZip};
-ghost use Rattle.update_session.specs.Build.{IsChosen};
+ghost use Rattle.update_session.specs.Build.{IsSaid};
 
 use fan_work::{Forks, Work, map_pieces};
 use geo_addr::{Memory, Range};
@@ -12,30 +12,19 @@ use std::alloc::Global;
 use std::marker::Sync;
 use std::thread::Threads;
 
-/// A segment, and the place that the sources say it has.
-#[derive(Clone, Copy, Debug)]
-pub(crate) struct Choice<'a> {
-    pub(crate) range: Range,
-    pub(crate) place: Option<&'a Place>,
-}
-
 /// Work that asks what the sources say of a segment.
 #[derive(Drop)]
 struct Choosing<'a> {
     sources: &'a Sources,
 }
 
-impl<'a> Work<Range, Choice<'a>> for Choosing<'a> {
-    ghost use Rattle.std.specs.Prelude.{◌≡◌};
-    ghost use Rattle.update_session.specs.Build.{IsChosen};
+impl<'a> Work<Range, Option<&'a Place>> for Choosing<'a> {
+    ghost use Rattle.update_session.specs.Build.{IsSaid};
 
-    ghost related = { λ work range choice. IsChosen work.sources.now range choice };
+    ghost related = { λ work range place. IsSaid work.sources.now range place };
 
-    fn done(&self, _alloc: Global, item: &Range) -> Result<Choice<'a>, Memory> {
-        Ok(Choice {
-            range: *item,
-            place: self.sources.choice(*item),
-        })
+    fn done(&self, _alloc: Global, item: &Range) -> Result<Option<&'a Place>, Memory> {
+        Ok(self.sources.choice(*item))
     }
 }
 
@@ -44,8 +33,8 @@ pub(crate) fn choose<'a, R: Threads + Sync, G: Gate>(
     forks: &Forks<R, G>,
     sources: &'a Sources,
     segments: &[Range],
-) -> Result<Vec<Choice<'a>>, Memory>
-    ensures { IfOk result (λ choices. AllZip (IsChosen sources.entry.now) segments.now choices.items) }
+) -> Result<Vec<Option<&'a Place>>, Memory>
+    ensures { IfOk result (λ said. AllZip (IsSaid sources.entry.now) segments.now said.items) }
 {
     map_pieces(forks, segments, &Choosing { sources })
 }

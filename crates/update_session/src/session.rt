@@ -61,7 +61,7 @@ impl Session {
     ghost use Rattle.least_nodes.specs.Laws.{Finds};
     ghost use Rattle.mmdb_file.specs.FileImage.{record_tree};
     ghost use Rattle.mmdb_file.specs.PlaceValue.{place_value};
-    ghost use Rattle.mmdb_file.specs.Walk.{walk};
+    ghost use Rattle.mmdb_file.specs.Walk.{nodes_told, walk};
     ghost use Rattle.mmdb_file.specs.Writing.{place_tree};
     ghost use Rattle.precedence.specs.Why.{reasons_of};
     ghost use Rattle.trie_core.specs.Store.{IsRootOf};
@@ -130,6 +130,9 @@ impl Session {
         // No list of nodes that answers the record at every address is shorter.
         ensures fewest { IfOk result (λ file. (nodes : List (Member (Option PlaceParts) × Member (Option PlaceParts)))
             → Finds 128 nodes (record_at self.old.state.sources) → file.nodes ≤ length nodes) }
+
+        // The count is the one that whoever opens the bytes reads in them.
+        ensures told { IfOk result (λ file. nodes_told file.bytes.items ≡ Some file.nodes) }
         ensures too_large { result ≡ Err EmitFault.TooLarge
             → IsTrue (is_too_large self.old.state) ⊎ IsSpent self.old }
         ensures ticks { steps.old ≤ steps.new }

@@ -8,7 +8,7 @@ ghost use Rattle.least_nodes.specs.NodeList.{Member};
 ghost use Rattle.least_nodes.specs.Laws.{Finds};
 ghost use Rattle.mmdb_file.specs.FileImage.{record_tree};
 ghost use Rattle.mmdb_file.specs.PlaceValue.{place_value};
-ghost use Rattle.mmdb_file.specs.Walk.{walk};
+ghost use Rattle.mmdb_file.specs.Walk.{nodes_told, walk};
 ghost use Rattle.mmdb_file.specs.Writing.{place_tree};
 ghost use Rattle.trie_core.specs.Store.{leaf_at, IsRootOf};
 ghost use Rattle.update_session.specs.Kept.{AnswersAll};
@@ -38,6 +38,7 @@ pub fn write(
         → walk file.bytes.items (bits_of 128 a) ≡ Ok (option_map place_value (record_at s a))) }
     ensures fewest { IfOk result (λ file. (s : InForce) → AnswersAll store.now places.now root s
         → (nodes : List (Member (Option PlaceParts) × Member (Option PlaceParts))) → Finds 128 nodes (record_at s) → file.nodes ≤ length nodes) }
+    ensures told { IfOk result (λ file. nodes_told file.bytes.items ≡ Some file.nodes) }
     ensures too_large { result ≡ Err EmitFault.TooLarge → (s : InForce) → AnswersAll store.now places.now root s
         → IsTrue (is_too_large (record { sources = s; epoch = meta.now.epoch; name = meta.now.name })) }
 {
