@@ -1,5 +1,7 @@
 -- The moves of a job, part by part.
-use Rattle.std.proofs.Common.{◌≡◌, ℕ, zero, suc, ◌+◌, ◌<◌, ◌≤◌, ◌⊎◌, inl, inr, List, [], ◌∷◌, ◌++◌, length, take, drop, Option, Some, refl, sym, ◌∙◌, ap, subst, arith, append_assoc}
+use Rattle.std.proofs.Common.{◌≡◌, ℕ, zero, suc, ◌+◌, ◌<◌, ◌≤◌, ◌⊎◌, inl, inr, List, [], ◌∷◌, ◌++◌}
+use Rattle.std.proofs.Common.{length, take, drop, Option, Some, refl, sym, ◌∙◌, ap, subst, arith}
+use Rattle.std.proofs.Common.{append_assoc}
 use Rattle.std.specs.Prelude.{slice_get}
 use Rattle.geo_outside.specs.Files.{Told}
 use Rattle.update_session.specs.Kept.{Held}
@@ -8,8 +10,10 @@ use Rattle.job_lines.specs.declared.act.Act.TheVariants as acts
 use Rattle.job_lines.specs.declared.job.Step.{Step}
 use Rattle.job_run.specs.declared.apart.Apart.{Apart}
 use Rattle.job_run.specs.declared.stop.Stop.{Stop}
-use Rattle.job_run.specs.declared.stop.Stop.TheVariants.{Blocked, ReadFailed, PutFailed, SinkFailed, Memory}
-use Rattle.job_run.specs.Acts.{Move, looks, counts, does, shows, act_effect, after, blocked, effect, step_of}
+use Rattle.job_run.specs.declared.stop.Stop.TheVariants.{Blocked, ReadFailed, PutFailed, SinkFailed}
+use Rattle.job_run.specs.declared.stop.Stop.TheVariants.{Memory}
+use Rattle.job_run.specs.Acts.{Move, looks, counts, does, shows, act_effect, after, blocked, effect}
+use Rattle.job_run.specs.Acts.{step_of}
 use Rattle.job_run.specs.Course.{Outcome, course, ended, go_on, unless, IsAt}
 use Rattle.job_run.specs.Parts.{DoesPart, FailsAt, FailsPart}
 use Rattle.job_run.specs.Published.{Publishes}
@@ -33,32 +37,50 @@ name_of_act (acts.Mark name) world = refl
 name_of_act (acts.Back name) world = refl
 name_of_act acts.Compact world = refl
 
-pub named_move : (move : Move) (step : Step) (world : World) → step_of move ≡ Some step → (effect move world).name ≡ file_named step.act
-named_move (looks step) other world is = let e : step ≡ other = cc in ap (λ (s : Step). file_named s.act) e
-named_move (counts step) other world is = let e : step ≡ other = cc in ap (λ (s : Step). file_named s.act) e
-named_move (does step) other world is = let e : step ≡ other = cc in name_of_act step.act world ∙ ap (λ (s : Step). file_named s.act) e
+pub named_move : (move : Move) (step : Step) (world : World) → step_of move ≡ Some step
+    → (effect move world).name ≡ file_named step.act
+named_move (looks step) other world is = let e : step ≡ other = cc in
+    ap (λ (s : Step). file_named s.act) e
+named_move (counts step) other world is = let e : step ≡ other = cc in
+    ap (λ (s : Step). file_named s.act) e
+named_move (does step) other world is = let e : step ≡ other = cc in
+    name_of_act step.act world ∙ ap (λ (s : Step). file_named s.act) e
 named_move (shows last) other world is = absurd (cc)
 
 -- a text is printed behind a text
-pub prints_more : (old mid new : Option (List ℕ)) (text more : List ℕ) → Prints old mid text → Prints mid new more → Prints old new (text ++ more)
-prints_more old mid new text more first then before was = then (before ++ text) (first before was) ∙ ap Some (append_assoc before text more)
+pub prints_more : (old mid new : Option (List ℕ)) (text more : List ℕ) → Prints old mid text
+    → Prints mid new more → Prints old new (text ++ more)
+prints_more old mid new text more first then before was = then
+    (before ++ text) (first before was) ∙ ap Some (append_assoc before text more)
 
-prints_still : (old mid new : Option (List ℕ)) (text : List ℕ) → Prints old mid text → Prints mid new [] → Prints old new text
-prints_still old mid new text first then before was = then (before ++ text) (first before was) ∙ ap Some (append_nil (before ++ text))
+prints_still : (old mid new : Option (List ℕ)) (text : List ℕ) → Prints old mid text
+    → Prints mid new [] → Prints old new text
+prints_still old mid new text first then before was = then
+    (before ++ text) (first before was) ∙ ap Some (append_nil (before ++ text))
 
-pub tail_more : (why : Stop) (old mid new : Option (List ℕ)) (text more part : List ℕ) → Prints old mid text → Tail why more part mid new → Tail why (text ++ more) part old new
-tail_more (Blocked cause) old mid new text more part first tail = prints_more old mid new text more first tail
-tail_more ReadFailed old mid new text more part first tail = prints_more old mid new text more first tail
-tail_more PutFailed old mid new text more part first tail = prints_more old mid new text more first tail
+pub tail_more : (why : Stop) (old mid new : Option (List ℕ)) (text more part : List ℕ)
+    → Prints old mid text → Tail why more part mid new → Tail why (text ++ more) part old new
+tail_more (Blocked cause) old mid new text more part first tail =
+    prints_more old mid new text more first tail
+tail_more ReadFailed old mid new text more part first tail =
+    prints_more old mid new text more first tail
+tail_more PutFailed old mid new text more part first tail =
+    prints_more old mid new text more first tail
 tail_more SinkFailed old mid new text more part first tail = λ before was.
-    let p = tail (before ++ text) (first before was) in
-    (p.0, p.1 ∙ ap Some (append_assoc before text (more ++ take p.0 part) ∙ ap (λ (t : List ℕ). before ++ t) (sym (append_assoc text more (take p.0 part)))))
-tail_more Memory old mid new text more part first tail = prints_more old mid new text more first tail
+    let p = tail (before ++ text) (first before was) in (
+      p.0,
+      p.1 ∙ ap Some (append_assoc before text (more ++ take p.0 part)
+          ∙ ap (λ (t : List ℕ). before ++ t) (sym (append_assoc text more (take p.0 part)))),
+    )
+tail_more Memory old mid new text more part first tail =
+    prints_more old mid new text more first tail
 
 -- a place in two lists: it is one of the first, or one of the second
-place_in : (moves more : List Move) (count : ℕ) (move : Move) → slice_get (moves ++ more) count ≡ Some move
+place_in : (moves more : List Move) (count : ℕ) (move : Move)
+    → slice_get (moves ++ more) count ≡ Some move
     → ((slice_get moves count ≡ Some move) × (take count (moves ++ more) ≡ take count moves))
-    ⊎ ((k : ℕ) × (slice_get more k ≡ Some move) × (take count (moves ++ more) ≡ moves ++ take k more))
+    ⊎ ((k : ℕ) × (slice_get more k ≡ Some move)
+    × (take count (moves ++ more) ≡ moves ++ take k more))
 place_in [] more count move next = inr (count, next, refl)
 place_in (first ∷ rest) more zero move next = inl (next, refl)
 place_in (first ∷ rest) more (suc count) move next = elim (place_in rest more count move next) [
@@ -67,52 +89,78 @@ place_in (first ∷ rest) more (suc count) move next = elim (place_in rest more 
 ]
 
 -- a place in the second of two lists, or in the first, is one in both together
-place_after : (moves more : List Move) (k : ℕ) → (slice_get (moves ++ more) (length moves + k) ≡ slice_get more k) × (take (length moves + k) (moves ++ more) ≡ moves ++ take k more)
-place_after [] more k = let e : 0 + k ≡ k = omega arith in (ap (slice_get more) e, ap (λ (n : ℕ). take n more) e)
+place_after : (moves more : List Move) (k : ℕ)
+    → (slice_get (moves ++ more) (length moves + k) ≡ slice_get more k)
+    × (take (length moves + k) (moves ++ more) ≡ moves ++ take k more)
+place_after [] more k = let e : 0 + k ≡ k = omega arith in
+    (ap (slice_get more) e, ap (λ (n : ℕ). take n more) e)
 place_after (first ∷ rest) more k =
     let p = place_after rest more k in
-    let e : suc (length rest) + k ≡ suc (length rest + k) = omega arith in
-    (ap (slice_get (first ∷ (rest ++ more))) e ∙ p.0, ap (λ (n : ℕ). take n (first ∷ (rest ++ more))) e ∙ ap (λ (ms : List Move). first ∷ ms) p.1)
+    let e : suc (length rest) + k ≡ suc (length rest + k) = omega arith in (
+      ap (slice_get (first ∷ (rest ++ more))) e ∙ p.0,
+      ap (λ (n : ℕ). take n (first ∷ (rest ++ more))) e ∙ ap (λ (ms : List Move). first ∷ ms) p.1,
+    )
 
-place_before : (moves more : List Move) (count : ℕ) (move : Move) → slice_get moves count ≡ Some move → (slice_get (moves ++ more) count ≡ Some move) × (take count (moves ++ more) ≡ take count moves)
+place_before : (moves more : List Move) (count : ℕ) (move : Move)
+    → slice_get moves count ≡ Some move
+    → (slice_get (moves ++ more) count ≡ Some move)
+    × (take count (moves ++ more) ≡ take count moves)
 place_before [] more count move next = absurd (cc)
 place_before (first ∷ rest) more zero move next = (next, refl)
-place_before (first ∷ rest) more (suc count) move next = let p = place_before rest more count move next in (p.0, ap (λ (ms : List Move). first ∷ ms) p.1)
+place_before (first ∷ rest) more (suc count) move next = let p =
+    place_before rest more count move next in (p.0, ap (λ (ms : List Move). first ∷ ms) p.1)
 
 -- two lists, one behind the other
-course_both : (moves more : List Move) (start mid : World) → course moves start ≡ ended mid → course (moves ++ more) start ≡ course more mid
-course_both moves more start mid done = course-append moves more start ∙ ap (λ (o : Outcome). go_on o more) done
+course_both : (moves more : List Move) (start mid : World) → course moves start ≡ ended mid
+    → course (moves ++ more) start ≡ course more mid
+course_both moves more start mid done =
+    course-append moves more start ∙ ap (λ (o : Outcome). go_on o more) done
 
 ended_same : (a b : World) → ended a ≡ ended b → a ≡ b
 ended_same a b is = cc
 
 published_both : (moves more : List Move) (start mid : World) → course moves start ≡ ended mid
-    → ((count : ℕ) (move : Move) (then : World) → IsAt moves start count move then → Publishes move then.session.state)
-    → ((count : ℕ) (move : Move) (then : World) → IsAt more mid count move then → Publishes move then.session.state)
-    → (count : ℕ) (move : Move) (then : World) → IsAt (moves ++ more) start count move then → Publishes move then.session.state
-published_both moves more start mid done first second count move then there = elim (place_in moves more count move there.next) [
-  | inl here ↦ first count move then (record { done = ap (λ (ms : List Move). course ms start) (sym here.1) ∙ there.done; next = here.0 })
-  | inr later ↦ second later.0 move then (record {
-    done = sym (course_both moves (take later.0 more) start mid done) ∙ ap (λ (ms : List Move). course ms start) (sym later.2) ∙ there.done;
-    next = later.1;
-  })
-]
+    → ((count : ℕ) (move : Move) (then : World) → IsAt moves start count move then
+    → Publishes move then.session.state)
+    → ((count : ℕ) (move : Move) (then : World) → IsAt more mid count move then
+    → Publishes move then.session.state)
+    → (count : ℕ) (move : Move) (then : World) → IsAt (moves ++ more) start count move then
+    → Publishes move then.session.state
+published_both moves more start mid done first second count move then there =
+    elim (place_in moves more count move there.next) [
+      | inl here ↦ first count move then
+          (record {
+            done = ap (λ (ms : List Move). course ms start) (sym here.1) ∙ there.done;
+            next =
+                here.0;
+          })
+      | inr later ↦ second later.0 move then (record {
+        done = sym (course_both moves (take later.0 more) start mid done)
+            ∙ ap (λ (ms : List Move). course ms start) (sym later.2) ∙ there.done;
+        next = later.1;
+      })
+    ]
 
-at_later : (moves more : List Move) (start mid : World) → course moves start ≡ ended mid → (count : ℕ) (move : Move) (then : World) → IsAt more mid count move then → IsAt (moves ++ more) start (length moves + count) move then
+at_later : (moves more : List Move) (start mid : World) → course moves start ≡ ended mid
+    → (count : ℕ) (move : Move) (then : World) → IsAt more mid count move then
+    → IsAt (moves ++ more) start (length moves + count) move then
 at_later moves more start mid done count move then there =
     let p = place_after moves more count in
     record {
-      done = ap (λ (ms : List Move). course ms start) p.1 ∙ course_both moves (take count more) start mid done ∙ there.done;
+      done = ap (λ (ms : List Move). course ms start) p.1
+          ∙ course_both moves (take count more) start mid done ∙ there.done;
       next = p.0 ∙ there.next;
     }
 
-at_before : (moves more : List Move) (start : World) (count : ℕ) (move : Move) (then : World) → IsAt moves start count move then → IsAt (moves ++ more) start count move then
+at_before : (moves more : List Move) (start : World) (count : ℕ) (move : Move) (then : World)
+    → IsAt moves start count move then → IsAt (moves ++ more) start count move then
 at_before moves more start count move then there =
     let p = place_before moves more count move there.next in
     record { done = ap (λ (ms : List Move). course ms start) p.1 ∙ there.done; next = p.0 }
 
 -- parts: none, one move, and one part behind another
-pub part_none : (world : World) (apart : List Apart) (session : Held) (now : Seen) → IsIn apart now.told session world → DoesPart [] world session now now
+pub part_none : (world : World) (apart : List Apart) (session : Held) (now : Seen)
+    → IsIn apart now.told session world → DoesPart [] world session now now
 part_none world apart session now here = record {
   then = world;
   done = refl;
@@ -124,7 +172,9 @@ part_none world apart session now here = record {
   published = λ count move then there. absurd (let next = there.next in cc);
 }
 
-pub part_one : (move : Move) (world : World) (session : Held) (old new : Seen) → Does move world session old new → IsPaid (effect move world) world old.steps new.steps → DoesPart (move ∷ []) world session old new
+pub part_one : (move : Move) (world : World) (session : Held) (old new : Seen)
+    → Does move world session old new → IsPaid (effect move world) world old.steps new.steps
+    → DoesPart (move ∷ []) world session old new
 part_one move world session old new made paid = record {
   then = after move world;
   done = ap (λ b. unless b move world (ended (after move world))) made.free;
@@ -136,27 +186,41 @@ part_one move world session old new made paid = record {
   published = λ count other then there. by count other then there;
 }
   where
-    by : (count : ℕ) (other : Move) (then : World) → IsAt (move ∷ []) world count other then → Publishes other then.session.state
+    by : (count : ℕ) (other : Move) (then : World) → IsAt (move ∷ []) world count other then
+        → Publishes other then.session.state
     by zero other then there =
         let same : move ≡ other = (let next = there.next in cc) in
         let here : world ≡ then = ended_same world then there.done in
-        subst (λ (m : Move). Publishes m then.session.state) same (subst (λ (w : World). Publishes move w.session.state) here made.published)
+        subst (λ (m : Move). Publishes m then.session.state) same
+        (subst (λ (w : World). Publishes move w.session.state) here made.published)
     by (suc count) other then there = absurd (let next = there.next in cc)
 
-pub part_more : (moves more : List Move) (world : World) (session session' : Held) (old mid new : Seen) → (first : DoesPart moves world session old mid) → DoesPart more first.then session' mid new → DoesPart (moves ++ more) world session' old new
+pub part_more : (moves more : List Move) (world : World) (session session' : Held)
+    (old mid new : Seen) → (first : DoesPart moves world session old mid)
+    → DoesPart more first.then session' mid new → DoesPart (moves ++ more) world session' old new
 part_more moves more world session session' old mid new first second = record {
   then = second.then;
   done = course_both moves more world first.then first.done ∙ second.done;
-  stands = record { tells = second.stands.tells; aside = second.stands.aside ∙ first.stands.aside; stands = second.stands.stands };
+  stands = record {
+    tells = second.stands.tells;
+    aside = second.stands.aside ∙ first.stands.aside;
+    stands = second.stands.stands;
+  };
   text = first.text ++ second.text;
-  grown = second.grown ∙ ap (λ (t : List ℕ). t ++ second.text) first.grown ∙ append_assoc world.text first.text second.text;
-  printed = prints_more old.written mid.written new.written first.text second.text first.printed second.printed;
+  grown = second.grown ∙ ap (λ (t : List ℕ). t ++ second.text) first.grown
+      ∙ append_assoc world.text first.text second.text;
+  printed = prints_more old.written mid.written new.written first.text second.text first.printed
+      second.printed;
   paid = (let p = first.paid in let q = second.paid in omega (arith, p, q));
-  published = published_both moves more world first.then first.done first.published second.published;
+  published = published_both moves more world first.then first.done first.published
+      second.published;
 }
 
 -- a part that fails: at its one move, behind other moves, and before other moves
-pub fails_one : (why : Stop) (move : Move) (step : Step) (world : World) (old new : Seen) → step_of move ≡ Some step → Fails why move world [] old new → IsPaid (effect move world) world old.steps new.steps → FailsPart why (move ∷ []) step world old new
+pub fails_one : (why : Stop) (move : Move) (step : Step) (world : World) (old new : Seen)
+    → step_of move ≡ Some step → Fails why move world [] old new
+    → IsPaid (effect move world) world old.steps new.steps
+    → FailsPart why (move ∷ []) step world old new
 fails_one why move step world old new its fails paid = record {
   count = 0;
   move = move;
@@ -169,23 +233,30 @@ fails_one why move step world old new its fails paid = record {
   paid = paid;
 }
 
-pub fails_later : (why : Stop) (moves more : List Move) (step : Step) (world : World) (session : Held) (old mid new : Seen) → (first : DoesPart moves world session old mid) → FailsPart why more step first.then mid new → FailsPart why (moves ++ more) step world old new
+pub fails_later : (why : Stop) (moves more : List Move) (step : Step) (world : World)
+    (session : Held) (old mid new : Seen) → (first : DoesPart moves world session old mid)
+    → FailsPart why more step first.then mid new → FailsPart why (moves ++ more) step world old new
 fails_later why moves more step world session old mid new first second = record {
   count = length moves + second.count;
   move = second.move;
   then = second.then;
-  there = at_later moves more world first.then first.done second.count second.move second.then second.there;
+  there = at_later moves more world first.then first.done second.count second.move second.then
+      second.there;
   its = second.its;
   text = first.text ++ second.text;
-  grown = second.grown ∙ ap (λ (t : List ℕ). t ++ second.text) first.grown ∙ append_assoc world.text first.text second.text;
+  grown = second.grown ∙ ap (λ (t : List ℕ). t ++ second.text) first.grown
+      ∙ append_assoc world.text first.text second.text;
   fails = record {
     files = second.fails.files;
-    printed = tail_more why old.written mid.written new.written first.text second.text (effect second.move second.then).text first.printed second.fails.printed;
+    printed = tail_more why old.written mid.written new.written first.text second.text
+        (effect second.move second.then).text first.printed second.fails.printed;
   };
   paid = (let p = first.paid in let q = second.paid in omega (arith, p, q));
 }
 
-pub fails_before : (why : Stop) (moves more : List Move) (step : Step) (world : World) (old new : Seen) → FailsPart why moves step world old new → FailsPart why (moves ++ more) step world old new
+pub fails_before : (why : Stop) (moves more : List Move) (step : Step) (world : World)
+    (old new : Seen) → FailsPart why moves step world old new
+    → FailsPart why (moves ++ more) step world old new
 fails_before why moves more step world old new part = record {
   count = part.count;
   move = part.move;
@@ -199,24 +270,33 @@ fails_before why moves more step world old new part = record {
 }
 
 -- what stands behind some moves, beside the same files apart
-pub stands_on : (apart : List Apart) (start : World) {told told' : Option Told} {session session' : Held} {then : World} → IsIn apart told session start → IsIn start.apart told' session' then → IsIn apart told' session' then
-stands_on apart start here later = record { tells = later.tells; aside = later.aside ∙ here.aside; stands = later.stands }
+pub stands_on : (apart : List Apart)
+    (start : World) {told told' : Option Told} {session session' : Held} {then : World}
+    → IsIn apart told session start → IsIn start.apart told' session' then
+    → IsIn apart told' session' then
+stands_on apart start here later =
+    record { tells = later.tells; aside = later.aside ∙ here.aside; stands = later.stands }
 
 -- the whole of a job, from where nothing was printed
-pub all_of : (moves : List Move) (start : World) (session : Held) (old new : Seen) → start.text ≡ [] → DoesPart moves start session old new → DoesAll moves start session old new
+pub all_of : (moves : List Move) (start : World) (session : Held) (old new : Seen) → start.text ≡ []
+    → DoesPart moves start session old new → DoesAll moves start session old new
 all_of moves start session old new blank part = record {
   world = part.then;
   done = part.done;
   stands = part.stands;
-  printed = subst (Prints old.written new.written) (sym (part.grown ∙ ap (λ (t : List ℕ). t ++ part.text) blank)) part.printed;
+  printed = subst (Prints old.written new.written)
+      (sym (part.grown ∙ ap (λ (t : List ℕ). t ++ part.text) blank)) part.printed;
   steps = part.paid;
   published = part.published;
 }
 
-pub stop_of : (why : Stop) (moves : List Move) (steps : List Step) (at : ℕ) (start : World) (old new : Seen) → start.text ≡ [] → FailsAt why moves steps at start old new → StopsAt why at moves steps start old new
+pub stop_of : (why : Stop) (moves : List Move) (steps : List Step) (at : ℕ) (start : World)
+    (old new : Seen) → start.text ≡ [] → FailsAt why moves steps at start old new
+    → StopsAt why at moves steps start old new
 stop_of why moves steps at start old new blank failed =
     let part = failed.part in
-    let same : part.text ≡ part.then.text = sym (part.grown ∙ ap (λ (t : List ℕ). t ++ part.text) blank) in
+    let same : part.text ≡ part.then.text =
+    sym (part.grown ∙ ap (λ (t : List ℕ). t ++ part.text) blank) in
     record {
       step = failed.step;
       named = failed.named;
@@ -230,16 +310,24 @@ stop_of why moves steps at start old new blank failed =
     }
 
 -- all moves of a list, and one more behind them
-pub does_more : (moves : List Move) (start : World) (session session' : Held) (old mid new : Seen) (all : DoesAll moves start session old mid) (move : Move)
-    → IsPaid (effect move all.world) all.world mid.steps new.steps → Does move all.world session' mid new → DoesAll (moves ++ move ∷ []) start session' old new
+pub does_more : (moves : List Move) (start : World) (session session' : Held) (old mid new : Seen)
+    (all : DoesAll moves start session old mid) (move : Move)
+    → IsPaid (effect move all.world) all.world mid.steps new.steps
+    → Does move all.world session' mid new → DoesAll (moves ++ move ∷ []) start session' old new
 unfolding part_one
 does_more moves start session session' old mid new all move paid made =
     let one = part_one move all.world session' mid new made paid in
     record {
       world = one.then;
       done = course_both moves (move ∷ []) start all.world all.done ∙ one.done;
-      stands = record { tells = one.stands.tells; aside = one.stands.aside ∙ all.stands.aside; stands = one.stands.stands };
-      printed = prints_more old.written mid.written new.written all.world.text (effect move all.world).text all.printed made.printed;
+      stands = record {
+        tells = one.stands.tells;
+        aside = one.stands.aside ∙ all.stands.aside;
+        stands = one.stands.stands;
+      };
+      printed = prints_more old.written mid.written new.written all.world.text
+          (effect move all.world).text all.printed made.printed;
       steps = (let p = all.steps in let q = one.paid in omega (arith, p, q));
-      published = published_both moves (move ∷ []) start all.world all.done all.published one.published;
+      published = published_both moves
+          (move ∷ []) start all.world all.done all.published one.published;
     }

@@ -1,13 +1,16 @@
 -- What each act of a job does, and the moves of a command.
-use Rattle.std.specs.Prelude.{ℕ, List, [], ◌∷◌, ◌++◌, length, flat_map, codes, decimal, Option, Some, None, is_some, if◌then◌else◌}
+use Rattle.std.specs.Prelude.{ℕ, List, [], ◌∷◌, ◌++◌, length, flat_map, codes, decimal, Option}
+use Rattle.std.specs.Prelude.{Some, None, is_some, if◌then◌else◌}
 use Rattle.feed_csv.specs.File.{longest as longest_feed}
 use Rattle.geo_terms.specs.NoteText.{note_line}
 use Rattle.geo_terms.specs.Report.{report}
 use Rattle.geo_terms.specs.declared.note.Note.{Note}
-use Rattle.update_session.specs.Standing.{compact_count, compacted, emitted, mark_named, marked, went_back}
+use Rattle.update_session.specs.Standing.{compact_count, compacted, emitted, mark_named, marked}
+use Rattle.update_session.specs.Standing.{went_back}
 use Rattle.update_session.specs.State.{FileValue, file_of, is_too_large}
 use Rattle.job_lines.specs.declared.act.Act.{Act}
-use Rattle.job_lines.specs.declared.act.Act.TheVariants.{Rpsl, Stats, Feed, Overrides, Drop, Emit, Report, Mark, Back, Compact}
+use Rattle.job_lines.specs.declared.act.Act.TheVariants.{Rpsl, Stats, Feed, Overrides, Drop, Emit}
+use Rattle.job_lines.specs.declared.act.Act.TheVariants.{Report, Mark, Back, Compact}
 use Rattle.job_lines.specs.declared.act.Gone.{Gone}
 use Rattle.job_lines.specs.declared.job.Step.{Step}
 use Rattle.job_run.specs.Sources.{change_by, file_named, is_there, no_source, sourced, unreadable}
@@ -23,7 +26,11 @@ bytes_in (Some file) = file.bytes
 -- the line that an emit prints: `emit NAME nodes N data D bits B bytes L`
 unfoldable pub emit_line : (name : List ℕ) → FileValue → List ℕ
 emit_line name file =
-    codes "emit " ++ (name ++ (codes " nodes " ++ (decimal file.nodes ++ (codes " data " ++ (decimal file.section ++ (codes " bits " ++ (decimal file.bits ++ (codes " bytes " ++ (decimal (length file.bytes) ++ 10 ∷ [])))))))))
+    codes "emit " ++ (name ++ (codes " nodes "
+    ++ (decimal file.nodes ++ (codes " data "
+    ++ (decimal file.section ++ (codes " bits "
+    ++ (decimal file.bits ++ (codes " bytes "
+    ++ (decimal (length file.bytes) ++ 10 ∷ [])))))))))
 
 abbrev pub emit_line_of : (name : List ℕ) → Option FileValue → List ℕ
 emit_line_of name None = []
@@ -31,13 +38,16 @@ emit_line_of name (Some file) = emit_line name file
 
 -- what a report prints: a line for each note, and `notes N`
 unfoldable pub report_text : List Note → List ℕ
-report_text notes = flat_map note_line notes ++ (codes "notes " ++ (decimal (length notes) ++ 10 ∷ []))
+report_text notes = flat_map note_line notes
+    ++ (codes "notes " ++ (decimal (length notes) ++ 10 ∷ []))
 
 -- what a compaction prints: `compact nodes N`
 unfoldable pub compact_line : ℕ → List ℕ
 compact_line count = codes "compact nodes " ++ (decimal count ++ 10 ∷ [])
 
--- a move of a command. A line that sets a feed makes three: its file is read, its statements are counted, and it is set. Any other line makes one. A command that does no line, or more than its lines, shows something at the end
+-- a move of a command. A line that sets a feed makes three: its file is read, its statements are
+-- counted, and it is set. Any other line makes one. A command that does no line, or more than its
+-- lines, shows something at the end
 pub data Move : Type 0 where
   looks : Step → Move
   counts : Step → Move
@@ -54,7 +64,8 @@ set_effect act world = record {
   text = [];
 }
 
--- the effects of the three moves of a line that sets a feed: the file was read before its statements are counted, and these before it is set
+-- the effects of the three moves of a line that sets a feed: the file was read before its
+-- statements are counted, and these before it is set
 abbrev pub look_effect : Act → World → Effect
 look_effect act world = record {
   name = file_named act;
@@ -104,7 +115,8 @@ emit_effect file world = record {
 
 -- the effects of the lines that keep what is in force under a name, and go back to it
 abbrev pub mark_effect : (name : List ℕ) → World → Effect
-mark_effect name world = record { name = []; blocked = None; files = untouched; session = marked name world.session; text = [] }
+mark_effect name world = record
+    { name = []; blocked = None; files = untouched; session = marked name world.session; text = [] }
 
 abbrev pub back_effect : (name : List ℕ) → World → Effect
 back_effect name world = record {
@@ -164,7 +176,8 @@ IsPrintingAct (Mark name) = ⊥
 IsPrintingAct (Back name) = ⊥
 IsPrintingAct Compact = Unit {0}
 
--- a move that prints: that of a line that writes a file, reports or compacts, or the last one of a command
+-- a move that prints: that of a line that writes a file, reports or compacts, or the last one of a
+-- command
 abbrev pub IsPrinting : Move → Type 0
 IsPrinting (looks step) = ⊥
 IsPrinting (counts step) = ⊥

@@ -16,7 +16,8 @@ unless (Some why) move world next = stopped move why world
 -- the moves are made in order; the first one that is blocked stops them
 abbrev pub course : List Move → World → Outcome
 course [] world = ended world
-course (move ∷ moves) world = unless (blocked move world) move world (course moves (after move world))
+course (move ∷ moves) world =
+    unless (blocked move world) move world (course moves (after move world))
 
 -- the run of a list goes on with more moves
 abbrev pub go_on : Outcome → List Move → Outcome
@@ -24,6 +25,7 @@ go_on (ended world) more = course more world
 go_on (stopped move why world) more = stopped move why world
 
 -- the moves before this place were all made, they led to this world, and this is the next move
-pub record IsAt (moves : List Move) (start : World) (count : ℕ) (move : Move) (world : World) : Type 0 where
+pub record IsAt (moves : List Move) (start : World) (count : ℕ) (move : Move)
+    (world : World) : Type 0 where
   pub done : course (take count moves) start ≡ ended world
   pub next : slice_get moves count ≡ Some move

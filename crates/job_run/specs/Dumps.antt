@@ -17,7 +17,8 @@ abbrev pub refusal : {T : Type 0} → Result T SourceFault → Option Cause
 refusal (Ok found) = None
 refusal (Err fault) = fault_cause fault
 
--- why what a name holds is no dump of a slot: there is no file, or it has too many bytes or too many references
+-- why what a name holds is no dump of a slot: there is no file, or it has too many bytes or too
+-- many references
 abbrev pub no_dump : (slot : List ℕ) → Option (List ℕ) → Option Cause
 no_dump slot None = Some Missing
 no_dump slot (Some bytes) = refusal (dump slot bytes)

@@ -1,5 +1,6 @@
 -- Feeds that are set together: what was read for each line, and what was made of it.
-use Rattle.std.specs.Prelude.{◌≡◌, ◌≢◌, ℕ, ◌<◌, ◌⊎◌, List, [], ◌∷◌, map, take, slice_get, Option, Some, None, Result, Ok, Err}
+use Rattle.std.specs.Prelude.{◌≡◌, ◌≢◌, ℕ, ◌<◌, ◌⊎◌, List, [], ◌∷◌, map, take, slice_get, Option}
+use Rattle.std.specs.Prelude.{Some, None, Result, Ok, Err}
 use Rattle.feed_csv.specs.File.{feed, longest}
 use Rattle.geo_outside.specs.Files.{Told}
 use Rattle.geo_terms.specs.SourceForm.{FeedParts}
@@ -29,10 +30,12 @@ pub record IsRead (apart : List Apart) (told : Told) (step : Step) (held : Held)
   pub readable : unreadable longest (Some held.bytes.items) ≡ None
 
 -- the files of the lines before this place can be read, and that of this one was not
-pub record HaltsReading (apart : List Apart) (told : Told) (steps : List Step) (why : Stop) (at : ℕ) : Type 0 where
+pub record HaltsReading (apart : List Apart) (told : Told) (steps : List Step) (why : Stop)
+    (at : ℕ) : Type 0 where
   pub step : Step
   pub named : slice_get steps at ≡ Some step
-  pub before : (k : ℕ) (earlier : Step) → k < at → slice_get steps k ≡ Some earlier → no_read apart told earlier ≡ None
+  pub before : (k : ℕ) (earlier : Step) → k < at → slice_get steps k ≡ Some earlier
+      → no_read apart told earlier ≡ None
   pub hindered : IsHindered why (λ cause. no_read apart told step ≡ Some cause)
 
 -- bytes are no feed, or memory ran out
@@ -42,11 +45,13 @@ pub record IsNoFeed (held : Held) (why : Stop) : Type 0 where
 
 -- what is made of what was read
 abbrev pub Parses : Held → Result FeedParts Stop → Type 0
-Parses held (Ok found) = (found ≡ feed held.url.now held.bytes.items) × (no_feed (Some held.bytes.items) ≡ None)
+Parses held (Ok found) = (found ≡ feed held.url.now held.bytes.items)
+    × (no_feed (Some held.bytes.items) ≡ None)
 Parses held (Err why) = IsNoFeed held why
 
 -- this is the first of what was made that is no feed
-pub record IsFirstRefused (parsed : List (Result FeedParts Stop)) (why : Stop) (at : ℕ) : Type 0 where
+pub record IsFirstRefused (parsed : List (Result FeedParts Stop)) (why : Stop)
+    (at : ℕ) : Type 0 where
   pub there : slice_get parsed at ≡ Some (Err why)
   pub feeds : List FeedParts
   pub before : take at parsed ≡ map Ok feeds
@@ -56,7 +61,8 @@ pub record IsFirstNoFeed (held : List Held) (why : Stop) (at : ℕ) : Type 0 whe
   pub item : Held
   pub named : slice_get held at ≡ Some item
   pub none : IsNoFeed item why
-  pub before : (k : ℕ) (earlier : Held) → k < at → slice_get held k ≡ Some earlier → no_feed (Some earlier.bytes.items) ≡ None
+  pub before : (k : ℕ) (earlier : Held) → k < at → slice_get held k ≡ Some earlier
+      → no_feed (Some earlier.bytes.items) ≡ None
 
 abbrev pub RefusesParsing : List Held → Stop → ℕ → Type 0
 RefusesParsing held why at = IsFirstNoFeed held why at ⊎ ((why ≡ Memory) × (at ≡ 0))

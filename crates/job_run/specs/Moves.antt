@@ -1,7 +1,9 @@
 -- The moves that the lines of a job make.
-use Rattle.std.specs.Prelude.{◌≡◌, ℕ, ◌+◌, Bool, true, false, nat_lt, List, [], ◌∷◌, ◌++◌, length, map, slice_get, Some, if◌then◌else◌}
+use Rattle.std.specs.Prelude.{◌≡◌, ℕ, ◌+◌, Bool, true, false, nat_lt, List, [], ◌∷◌, ◌++◌, length}
+use Rattle.std.specs.Prelude.{map, slice_get, Some, if◌then◌else◌}
 use Rattle.job_lines.specs.declared.act.Act.{Act}
-use Rattle.job_lines.specs.declared.act.Act.TheVariants.{Rpsl, Stats, Feed, Overrides, Drop, Emit, Report, Mark, Back, Compact}
+use Rattle.job_lines.specs.declared.act.Act.TheVariants.{Rpsl, Stats, Feed, Overrides, Drop, Emit}
+use Rattle.job_lines.specs.declared.act.Act.TheVariants.{Report, Mark, Back, Compact}
 use Rattle.job_lines.specs.declared.job.Step.{Step}
 use Rattle.job_run.specs.Acts.{Move, looks, counts, does}
 use Rattle.job_run.specs.Sources.{LacksApart, read_room}
@@ -39,7 +41,8 @@ takes Sources (Mark name) = true
 takes Sources (Back name) = true
 takes Sources Compact = false
 
--- lines that set feeds together: all files are read, then all statements are counted, then all feeds are set
+-- lines that set feeds together: all files are read, then all statements are counted, then all
+-- feeds are set
 abbrev pub together : List Step → List Move
 together group = map looks group ++ (map counts group ++ map does group)
 
@@ -52,15 +55,18 @@ begins_feed (step ∷ steps) = sets_feed step.act
 abbrev pub alone : Scope → Step → List Move
 alone scope step = if takes scope step.act then does step ∷ [] else []
 
--- the moves of lines behind a group that has begun: neighbours that set feeds are one group, up to 16 of them counted from the first
+-- the moves of lines behind a group that has begun: neighbours that set feeds are one group, up to
+-- 16 of them counted from the first
 abbrev pub moves_from : Scope → (group steps : List Step) → List Move
 moves_from scope group [] = together group
 moves_from scope group (step ∷ steps) =
     if sets_feed step.act then
-    (if nat_lt (length group) most_together then moves_from scope (group ++ step ∷ []) steps else together group ++ moves_from scope (step ∷ []) steps)
+    (if nat_lt (length group) most_together then moves_from scope (group ++ step ∷ []) steps
+    else together group ++ moves_from scope (step ∷ []) steps)
     else together group ++ (alone scope step ++ moves_from scope [] steps)
 
--- the moves of a job, all of them or those that set and drop sources; the groups are those of all lines
+-- the moves of a job, all of them or those that set and drop sources; the groups are those of all
+-- lines
 abbrev pub moves_by : Scope → List Step → List Move
 moves_by scope steps = moves_from scope [] steps
 

@@ -13,7 +13,8 @@ use Rattle.job_run.specs.declared.scope.Scope.{Scope}
 use Rattle.job_run.specs.declared.stop.Stop.{Stop}
 
 -- these moves were made from a world on
-pub record DoesPart (moves : List Move) (world : World) (session : Held) (old new : Seen) : Type 0 where
+pub record DoesPart (moves : List Move) (world : World) (session : Held)
+    (old new : Seen) : Type 0 where
   pub then : World
   pub done : course moves world ≡ ended then
   pub stands : IsIn world.apart new.told session then
@@ -21,10 +22,12 @@ pub record DoesPart (moves : List Move) (world : World) (session : Held) (old ne
   pub grown : then.text ≡ world.text ++ text
   pub printed : Prints old.written new.written text
   pub paid : new.steps + world.session.spent ≤ old.steps + then.session.spent
-  pub published : (count : ℕ) (move : Move) (there : World) → IsAt moves world count move there → Publishes move there.session.state
+  pub published : (count : ℕ) (move : Move) (there : World) → IsAt moves world count move there
+      → Publishes move there.session.state
 
 -- of these moves one was not made, which belongs to this step
-pub record FailsPart (why : Stop) (moves : List Move) (step : Step) (world : World) (old new : Seen) : Type 0 where
+pub record FailsPart (why : Stop) (moves : List Move) (step : Step) (world : World)
+    (old new : Seen) : Type 0 where
   pub count : ℕ
   pub move : Move
   pub then : World
@@ -36,13 +39,15 @@ pub record FailsPart (why : Stop) (moves : List Move) (step : Step) (world : Wor
   pub paid : new.steps + world.session.spent ≤ old.steps + (effect move then).session.spent
 
 -- the moves of the first lines, so many, were made
-pub record DoesFirst (scope : Scope) (steps : List Step) (count : ℕ) (world : World) (session : Held) (old new : Seen) : Type 0 where
+pub record DoesFirst (scope : Scope) (steps : List Step) (count : ℕ) (world : World)
+    (session : Held) (old new : Seen) : Type 0 where
   pub moves : List Move
   pub split : moves_by scope steps ≡ moves ++ moves_by scope (drop count steps)
   pub part : DoesPart moves world session old new
 
 -- of these moves one was not made, which belongs to the step at this place
-pub record FailsAt (why : Stop) (moves : List Move) (steps : List Step) (at : ℕ) (world : World) (old new : Seen) : Type 0 where
+pub record FailsAt (why : Stop) (moves : List Move) (steps : List Step) (at : ℕ) (world : World)
+    (old new : Seen) : Type 0 where
   pub step : Step
   pub named : slice_get steps at ≡ Some step
   pub part : FailsPart why moves step world old new

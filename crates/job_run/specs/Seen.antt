@@ -1,4 +1,5 @@
--- What is seen of the folder, the sink and the steps at a moment, and what is printed between two moments.
+-- What is seen of the folder, the sink and the steps at a moment, and what is printed between two
+-- moments.
 use Rattle.std.specs.Prelude.{◌≡◌, ℕ, List, ◌++◌, take, Option, Some}
 use Rattle.geo_outside.specs.Files.{Told}
 
@@ -23,4 +24,5 @@ Prints old new text = (before : List ℕ) → old ≡ Some before → new ≡ So
 
 -- what was written before is followed by this text and a part of another one
 abbrev pub PrintsPart : (old new : Option (List ℕ)) → (whole part : List ℕ) → Type 0
-PrintsPart old new whole part = (before : List ℕ) → old ≡ Some before → (n : ℕ) × (new ≡ Some (before ++ (whole ++ take n part)))
+PrintsPart old new whole part = (before : List ℕ) → old ≡ Some before
+    → (n : ℕ) × (new ≡ Some (before ++ (whole ++ take n part)))

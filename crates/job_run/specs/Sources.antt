@@ -1,17 +1,23 @@
--- What a line of a job makes of a source: why the file that it names is none, and what the line changes.
-use Rattle.std.specs.Prelude.{◌≡◌, ℕ, ◌+◌, Bool, true, nat_lt, List, [], length, Option, Some, None, Result, Ok, Err, is_some, option_map, option_and_then, if◌then◌else◌}
-use Rattle.feed_csv.specs.File.{accepted as feed_lines, feed, longest as longest_feed, most as most_entries}
+-- What a line of a job makes of a source: why the file that it names is none, and what the line
+-- changes.
+use Rattle.std.specs.Prelude.{◌≡◌, ℕ, ◌+◌, Bool, true, nat_lt, List, [], length, Option, Some, None}
+use Rattle.std.specs.Prelude.{Result, Ok, Err, is_some, option_map, option_and_then, if◌then◌else◌}
+use Rattle.feed_csv.specs.File.{accepted as feed_lines, feed, longest as longest_feed}
+use Rattle.feed_csv.specs.File.{most as most_entries}
 use Rattle.geo_terms.specs.SourceForm.{DumpParts}
 use Rattle.geo_terms.specs.Sources.{InForce}
 use Rattle.geo_terms.specs.declared.source.SourceFault.{SourceFault}
 use Rattle.feed_refs.specs.Dumps.{dump, longest as longest_dump}
 use Rattle.job_lines.specs.declared.act.Act.{Act}
-use Rattle.job_lines.specs.declared.act.Act.TheVariants.{Rpsl, Stats, Feed, Overrides, Drop, Emit, Report, Mark, Back, Compact}
+use Rattle.job_lines.specs.declared.act.Act.TheVariants.{Rpsl, Stats, Feed, Overrides, Drop, Emit}
+use Rattle.job_lines.specs.declared.act.Act.TheVariants.{Report, Mark, Back, Compact}
 use Rattle.job_lines.specs.declared.act.Gone.{Gone}
 use Rattle.job_lines.specs.declared.act.Gone.TheVariants as gone
 use Rattle.nro_stats.specs.File.{longest as longest_stats, most as most_delegations, rows, stats}
-use Rattle.override_rows.specs.File.{accepted as override_lines, longest as longest_overrides, most as most_rows, overrides}
-use Rattle.source_changes.specs.Changes.{Change, SetDump, SetFeed, SetStats, SetOverrides, DropDump, DropFeed, DropStats, DropOverrides, named}
+use Rattle.override_rows.specs.File.{accepted as override_lines, longest as longest_overrides}
+use Rattle.override_rows.specs.File.{most as most_rows, overrides}
+use Rattle.source_changes.specs.Changes.{Change, SetDump, SetFeed, SetStats, SetOverrides, DropDump}
+use Rattle.source_changes.specs.Changes.{DropFeed, DropStats, DropOverrides, named}
 use Rattle.update_session.specs.Calls.{HasChanged}
 use Rattle.update_session.specs.Kept.{Held}
 use Rattle.update_session.specs.Standing.{Standing, changed}
@@ -31,7 +37,8 @@ unfoldable pub crowded : (room statements : ℕ) → Option Cause
 crowded room statements = if nat_lt room statements then Some TooMany else None
 
 -- why a file is no source of so many bytes and statements at most
-abbrev pub uncounted : Option Cause → (room : ℕ) → (statements : List ℕ → ℕ) → Option (List ℕ) → Option Cause
+abbrev pub uncounted : Option Cause → (room : ℕ) → (statements : List ℕ → ℕ) → Option (List ℕ)
+    → Option Cause
 uncounted (Some cause) room statements held = Some cause
 uncounted None room statements None = None
 uncounted None room statements (Some bytes) = crowded room (statements bytes)
@@ -39,7 +46,8 @@ uncounted None room statements (Some bytes) = crowded room (statements bytes)
 abbrev pub unusable : (limit room : ℕ) → (statements : List ℕ → ℕ) → Option (List ℕ) → Option Cause
 unusable limit room statements held = uncounted (unreadable limit held) room statements held
 
--- the statements that are counted: the delegations of a statistics file, and the lines of a feed or of overrides that pass the rules of a line by itself
+-- the statements that are counted: the delegations of a statistics file, and the lines of a feed or
+-- of overrides that pass the rules of a line by itself
 abbrev pub rows_of : (slot bytes : List ℕ) → ℕ
 rows_of slot bytes = length (rows slot bytes)
 

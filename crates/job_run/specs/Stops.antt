@@ -1,4 +1,5 @@
--- What a list of moves leaves where all were made, and where one could not be made: the table of stops.
+-- What a list of moves leaves where all were made, and where one could not be made: the table of
+-- stops.
 use Rattle.std.specs.Prelude.{◌≡◌, ℕ, ◌+◌, ◌-◌, ◌^◌, ◌≤◌, ◌⊎◌, List, slice_get, Option, Some, None}
 use Rattle.geo_outside.specs.Files.{Told, Spoils}
 use Rattle.update_session.specs.Standing.{Stands}
@@ -8,15 +9,18 @@ use Rattle.job_run.specs.declared.apart.Apart.{Apart}
 use Rattle.job_run.specs.declared.stop.Cause.{Cause}
 use Rattle.job_run.specs.declared.stop.Cause.TheVariants.{TooLarge}
 use Rattle.job_run.specs.declared.stop.Stop.{Stop}
-use Rattle.job_run.specs.declared.stop.Stop.TheVariants.{Blocked, ReadFailed, PutFailed, SinkFailed, Memory}
+use Rattle.job_run.specs.declared.stop.Stop.TheVariants.{Blocked, ReadFailed, PutFailed, SinkFailed}
+use Rattle.job_run.specs.declared.stop.Stop.TheVariants.{Memory}
 use Rattle.job_run.specs.Acts.{IsPrinting, Move, effect, blocked, after, step_of}
 use Rattle.job_run.specs.Course.{course, ended, IsAt}
 use Rattle.job_run.specs.Published.{Publishes}
 use Rattle.job_run.specs.Seen.{Seen, Prints, PrintsPart}
 use Rattle.job_run.specs.World.{World, Effect, reads, puts}
 
--- the folder tells what it holds in this world, these files stand apart, and the session stands where it stands there
-pub record IsIn (apart : List Apart) (told : Option Told) (session : Held) (world : World) : Type 0 where
+-- the folder tells what it holds in this world, these files stand apart, and the session stands
+-- where it stands there
+pub record IsIn (apart : List Apart) (told : Option Told) (session : Held)
+    (world : World) : Type 0 where
   pub tells : told ≡ Some world.told
   pub aside : world.apart ≡ apart
   pub stands : Stands session world.session
@@ -37,12 +41,15 @@ pub record IsBlocked (why : Cause) (move : Move) (world : World) (told : Option 
   pub cause : blocked move world ≡ Some why
   pub files : told ≡ Some world.told
 
--- after a move and those before it there may be so many nodes or places that there are no numbers for them
+-- after a move and those before it there may be so many nodes or places that there are no numbers
+-- for them
 abbrev pub IsSpent : Move → World → Type 0
-IsSpent move world = (2 ^ 32 - 1 ≤ (effect move world).session.nodes) ⊎ (2 ^ 32 - 1 ≤ (effect move world).session.numbered)
+IsSpent move world = (2 ^ 32 - 1 ≤ (effect move world).session.nodes)
+    ⊎ (2 ^ 32 - 1 ≤ (effect move world).session.numbered)
 
 -- so many that this is answered as too large; no file was changed
-pub record IsUncounted (why : Cause) (move : Move) (world : World) (told : Option Told) : Type 0 where
+pub record IsUncounted (why : Cause) (move : Move) (world : World)
+    (told : Option Told) : Type 0 where
   pub large : why ≡ TooLarge
   pub spent : IsSpent move world
   pub files : told ≡ Some world.told
@@ -69,13 +76,15 @@ pub record IsUnprinted (move : Move) (world : World) (told : Option Told) : Type
 
 -- what the folder tells at a stop
 abbrev pub Halts : Stop → Move → World → Option Told → Type 0
-Halts (Blocked why) move world told = IsBlocked why move world told ⊎ IsUncounted why move world told
+Halts (Blocked why) move world told =
+    IsBlocked why move world told ⊎ IsUncounted why move world told
 Halts ReadFailed move world told = IsReadless move world told
 Halts PutFailed move world told = IsSpoilt move world told
 Halts SinkFailed move world told = IsUnprinted move world told
 Halts Memory move world told = (told ≡ Some world.told) ⊎ IsUnprinted move world told
 
--- what was printed at a stop: the text before the move, and a part of the move's own where the sink failed
+-- what was printed at a stop: the text before the move, and a part of the move's own where the sink
+-- failed
 abbrev pub Tail : Stop → (text part : List ℕ) → (old new : Option (List ℕ)) → Type 0
 Tail (Blocked why) text part old new = Prints old new text
 Tail ReadFailed text part old new = Prints old new text
@@ -84,7 +93,8 @@ Tail SinkFailed text part old new = PrintsPart old new text part
 Tail Memory text part old new = Prints old new text
 
 -- a move was not made
-pub record Fails (why : Stop) (move : Move) (world : World) (text : List ℕ) (old new : Seen) : Type 0 where
+pub record Fails (why : Stop) (move : Move) (world : World) (text : List ℕ)
+    (old new : Seen) : Type 0 where
   pub files : Halts why move world new.told
   pub printed : Tail why text (effect move world).text old.written new.written
 
@@ -97,16 +107,20 @@ IsHindered SinkFailed stands = ⊥
 IsHindered Memory stands = Unit {0}
 
 -- all moves were made
-pub record DoesAll (moves : List Move) (start : World) (session : Held) (old new : Seen) : Type 0 where
+pub record DoesAll (moves : List Move) (start : World) (session : Held)
+    (old new : Seen) : Type 0 where
   pub world : World
   pub done : course moves start ≡ ended world
   pub stands : IsIn start.apart new.told session world
   pub printed : Prints old.written new.written world.text
   pub steps : new.steps + start.session.spent ≤ old.steps + world.session.spent
-  pub published : (count : ℕ) (move : Move) (then : World) → IsAt moves start count move then → Publishes move then.session.state
+  pub published : (count : ℕ) (move : Move) (then : World) → IsAt moves start count move then
+      → Publishes move then.session.state
 
--- the step at this place was not done: the moves before one of its moves were made, and that one was not
-pub record StopsAt (why : Stop) (at : ℕ) (moves : List Move) (steps : List Step) (start : World) (old new : Seen) : Type 0 where
+-- the step at this place was not done: the moves before one of its moves were made, and that one
+-- was not
+pub record StopsAt (why : Stop) (at : ℕ) (moves : List Move) (steps : List Step) (start : World)
+    (old new : Seen) : Type 0 where
   pub step : Step
   pub named : slice_get steps at ≡ Some step
   pub count : ℕ

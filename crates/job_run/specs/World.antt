@@ -7,7 +7,8 @@ use Rattle.update_session.specs.Standing.{Standing}
 use Rattle.job_run.specs.declared.apart.Apart.{Apart}
 use Rattle.job_run.specs.declared.stop.Cause.{Cause}
 
--- what there is at a moment of a command: the folder's files and puts, the files that stand apart from the folder if there are such, where the session stands, and what the command printed
+-- what there is at a moment of a command: the folder's files and puts, the files that stand apart
+-- from the folder if there are such, where the session stands, and what the command printed
 pub record World : Type 0 where
   pub told : Told
   pub apart : List Apart
@@ -17,9 +18,11 @@ pub record World : Type 0 where
 -- the bytes of the first of these files that has a name
 abbrev pub bytes_apart : List Apart → List ℕ → Option (List ℕ)
 bytes_apart [] name = None
-bytes_apart (file ∷ more) name = if same_text file.name name then Some file.bytes else bytes_apart more name
+bytes_apart (file ∷ more) name = if same_text file.name name then Some file.bytes
+    else bytes_apart more name
 
--- the bytes of a name where a job's lines read: among the files that stand apart, and in the folder where there are none
+-- the bytes of a name where a job's lines read: among the files that stand apart, and in the folder
+-- where there are none
 abbrev pub held_in : List Apart → Told → List ℕ → Option (List ℕ)
 held_in [] told name = map.get told.held name
 held_in (file ∷ more) told name = bytes_apart (file ∷ more) name
@@ -33,7 +36,8 @@ pub data Handling : Type 0 where
   reads : Handling
   puts : (bytes : List ℕ) → Handling
 
--- what a move does: the name that it reads, puts or asks for; why it cannot be made, if it cannot; what it does to files; and, where it is made, where the session stands then, and what is printed
+-- what a move does: the name that it reads, puts or asks for; why it cannot be made, if it cannot;
+-- what it does to files; and, where it is made, where the session stands then, and what is printed
 pub record Effect : Type 0 where
   pub name : List ℕ
   pub blocked : Option Cause
@@ -43,7 +47,14 @@ pub record Effect : Type 0 where
 
 -- the effect of a move that only prints
 abbrev pub printing : List ℕ → World → Effect
-printing text world = record { name = []; blocked = None; files = untouched; session = world.session; text = text }
+printing text world = record {
+  name = [];
+  blocked = None;
+  files = untouched;
+  session =
+      world.session;
+  text = text;
+}
 
 -- the files and the puts after a name was handled
 abbrev pub handled : Handling → (name : List ℕ) → Told → Told

@@ -22,9 +22,11 @@ invariant-loop-at g l =
       put_faults : F.put_faults l.fn.folder ≤ F.put_faults l.folder;
       misses : F.misses l.fn.folder ≤ F.misses l.folder;
       faults : O.faults l.fn.out ≤ O.faults l.out;
-      given : F.given l.folder + read_rooms (drop l.at l.job) ≤ F.given l.fn.folder + read_rooms l.job;
+      given : F.given l.folder + read_rooms
+          (drop l.at l.job) ≤ F.given l.fn.folder + read_rooms l.job;
       apart_only : l.apart ≢ [] → F.given l.folder ≤ F.given l.fn.folder;
-      still : l.scope ≡ Sources → (l.steps ≡ l.fn.steps) × (l.out ≡ l.fn.out) × (F.told l.folder ≡ F.told l.fn.folder);
+      still : l.scope ≡ Sources → (l.steps ≡ l.fn.steps) × (l.out ≡ l.fn.out)
+          × (F.told l.folder ≡ F.told l.fn.folder);
     }
 
 abbrev pub decreases-loop-at : goal.decreases-loop-at

@@ -5,6 +5,8 @@ use Rattle.job_run.proofs.dumps.dump_of.Goals as goal
 
 pub returns-in_err-feed_piece-clause-refused : goal.returns-in_err-feed_piece-clause-refused
 returns-in_err-feed_piece-clause-refused c =
-    let p = err_from_is_err_and c.from_residual-in_err-feed_piece.result c.from_residual-in_err-feed_piece.ensures.1 in
+    let p = err_from_is_err_and c.from_residual-in_err-feed_piece.result
+    c.from_residual-in_err-feed_piece.ensures.1 in
     rw (p.1, p.2)
-    (fed_refused c.args.slot.now c.in_ok-reader.reader c.args.bytes.now c.in_err-feed_piece.field-0.0 (search rules) c.in_err-feed_piece.ensures.refused)
+    (fed_refused c.args.slot.now c.in_ok-reader.reader c.args.bytes.now
+    c.in_err-feed_piece.field-0.0 (search rules) c.in_err-feed_piece.ensures.refused)

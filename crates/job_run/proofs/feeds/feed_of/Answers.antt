@@ -17,5 +17,6 @@ returns-in-Err-TooLong-clause-unset c =
 pub returns-in-Err-TooMany-clause-unset : goal.returns-in-Err-TooMany-clause-unset
 returns-in-Err-TooMany-clause-unset c =
     too_many longest most entries_of c.args.bytes.now
-    (λ (over : longest < length c.args.bytes.now). let e = c.in-Err-TooMany.ensures.too_long.1 over in cc)
+    (λ (over : longest < length c.args.bytes.now). let e =
+    c.in-Err-TooMany.ensures.too_long.1 over in cc)
     (c.in-Err-TooMany.ensures.too_many (cc))

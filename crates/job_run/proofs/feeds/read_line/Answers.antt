@@ -12,10 +12,12 @@ pub returns-in-Err-clause-unread : goal.returns-in-Err-clause-unread
 returns-in-Err-clause-unread g c w told =
     let named : file_named c.args.step.now.act ≡ c.as_str.result.now = search rules in
     hindered c.in-Err.why _ _ (c.in-Err.ensures.unread w told)
-    (λ cause is. ap (λ (name : List ℕ). unreadable longest (held_in c.args.apart.now w name)) named ∙ is)
+    (λ cause is. ap (λ (name : List ℕ). unreadable longest (held_in c.args.apart.now w name)) named
+    ∙ is)
 
 pub returns-in-Err-clause-missing_apart : goal.returns-in-Err-clause-missing_apart
 returns-in-Err-clause-missing_apart g c missing =
     let why : c.in-Err.why ≡ Blocked Missing = cc in
     let named : file_named c.args.step.now.act ≡ c.as_str.result.now = search rules in
-    feed_lacks c.args.apart.now c.args.step.now.act c.as_str.result.now c.requires named (c.in-Err.ensures.missing_apart (ap Err why))
+    feed_lacks c.args.apart.now c.args.step.now.act c.as_str.result.now c.requires named
+    (c.in-Err.ensures.missing_apart (ap Err why))

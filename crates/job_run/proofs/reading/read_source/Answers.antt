@@ -12,7 +12,9 @@ pub returns-then-is_empty-clause-unread : goal.returns-then-is_empty-clause-unre
 returns-then-is_empty-clause-unread g c w told =
     let zero_is : length c.args.apart.now ≡ 0 = grind (arith, nat_tests) in
     let none : [] ≡ c.args.apart.now = sym (nil_from_length c.args.apart.now zero_is) in
-    subst (λ (files : List Apart). IfErr c.read_file.result (λ why. IsHindered why (λ cause. unreadable c.args.longest (held_in files w c.args.name.now) ≡ Some cause))) none
+    subst (λ (files : List Apart). IfErr c.read_file.result
+    (λ why. IsHindered why (λ cause. unreadable c.args.longest
+    (held_in files w c.args.name.now) ≡ Some cause))) none
     (c.read_file.ensures.unread w told)
 
 pub returns-clause-missing_apart : goal.returns-clause-missing_apart

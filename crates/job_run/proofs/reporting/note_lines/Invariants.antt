@@ -6,4 +6,5 @@ use Rattle.job_run.proofs.reporting.note_lines.Given as goal
 -- the lines of the notes that are left follow those written
 abbrev pub invariant-loop-note : goal.invariant-loop-note
 invariant-loop-note l =
-    string_bytes l.lines ++ flat_map note_line (drop l.note-index l.notes) ≡ flat_map note_line l.notes
+    string_bytes l.lines ++ flat_map note_line
+    (drop l.note-index l.notes) ≡ flat_map note_line l.notes

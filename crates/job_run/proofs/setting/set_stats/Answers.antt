@@ -9,9 +9,11 @@ use Rattle.job_run.proofs.setting.set_stats.Goals as goal
 
 pub returns-in-Err-clause-unset : goal.returns-in-Err-clause-unset
 returns-in-Err-clause-unset g c w told =
-    hindered c.in-Err.why _ _ (c.in-Err.ensures.unread w told) (λ cause is. unusable-unread longest most (rows_of c.args.slot.now) _ cause is)
+    hindered c.in-Err.why _ _ (c.in-Err.ensures.unread w told)
+    (λ cause is. unusable-unread longest most (rows_of c.args.slot.now) _ cause is)
 
 pub returns-in-Err-clause-missing_apart : goal.returns-in-Err-clause-missing_apart
 returns-in-Err-clause-missing_apart g c missing =
     let why : c.in-Err.why ≡ Blocked Missing = cc in
-    lacks longest most (rows_of c.args.slot.now) (bytes_apart c.args.apart.now c.args.name.now) (c.in-Err.ensures.missing_apart (ap Err why))
+    lacks longest most (rows_of c.args.slot.now) (bytes_apart c.args.apart.now c.args.name.now)
+    (c.in-Err.ensures.missing_apart (ap Err why))

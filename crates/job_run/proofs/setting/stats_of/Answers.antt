@@ -9,14 +9,17 @@ pub returns-in-Ok-clause-few : goal.returns-in-Ok-clause-few
 returns-in-Ok-clause-few c =
     usable longest most (rows_of c.args.slot.now) c.args.bytes.now
     (λ (over : longest < length c.args.bytes.now). let e = c.in-Ok.ensures.too_long.1 over in cc)
-    (subst (λ (found : StatsParts). length found.rows ≤ most) c.in-Ok.ensures.read c.in-Ok.ensures.within)
+    (subst (λ (found : StatsParts). length found.rows ≤ most) c.in-Ok.ensures.read
+    c.in-Ok.ensures.within)
 
 pub returns-in-Err-TooLong-clause-unset : goal.returns-in-Err-TooLong-clause-unset
 returns-in-Err-TooLong-clause-unset c =
-    too_long longest most (rows_of c.args.slot.now) c.args.bytes.now (c.in-Err-TooLong.ensures.too_long.0 (cc))
+    too_long longest most (rows_of c.args.slot.now) c.args.bytes.now
+    (c.in-Err-TooLong.ensures.too_long.0 (cc))
 
 pub returns-in-Err-TooMany-clause-unset : goal.returns-in-Err-TooMany-clause-unset
 returns-in-Err-TooMany-clause-unset c =
     too_many longest most (rows_of c.args.slot.now) c.args.bytes.now
-    (λ (over : longest < length c.args.bytes.now). let e = c.in-Err-TooMany.ensures.too_long.1 over in cc)
+    (λ (over : longest < length c.args.bytes.now). let e =
+    c.in-Err-TooMany.ensures.too_long.1 over in cc)
     (c.in-Err-TooMany.ensures.too_many (cc))
