@@ -15,34 +15,34 @@ use Rattle.geo_addr.specs.Printing.{block_text, four_octets, number_text, printe
 use Rattle.geo_addr.specs.Ranges.{Prefix, is_v4, range_of_block}
 use Rattle.generated.specs.Feeds.{country_of, feed, line_of}
 
-abbrev pub is_feed : ℕ → Bool
-is_feed b = b == 10
+abbrev pub is_line_feed : ℕ → Bool
+is_line_feed b = b == 10
 
 -- a text of so many bytes at most, with so many line feeds
 pub record Has (text : List ℕ) (most ends : ℕ) : Type 0 where
   pub short : length text ≤ most
-  pub same : count_by is_feed text ≡ ends
+  pub same : count_by is_line_feed text ≡ ends
 
 both : (a b : List ℕ) (m n i j : ℕ) → Has a m i → Has b n j → Has (a ++ b) (m + n) (i + j)
 both a b m n i j p q = record {
   short = let x = p.short in let y = q.short in omega (arith, length-append a b);
-  same = let x = p.same in let y = q.same in omega (arith, sum_by-append (λ c. cond {A = ℕ} (is_feed c) 1 0) a b);
+  same = let x = p.same in let y = q.same in omega (arith, sum_by-append (λ c. cond {A = ℕ} (is_line_feed c) 1 0) a b);
 }
 
-no_feed : (b : ℕ) → digit_value b < 10 → is_feed b ≡ false
-no_feed b below = ne_eqb b 10 (λ is. let high : digit_value 10 < 10 = subst (λ x. digit_value x < 10) is below in omega arith)
+no_line_feed : (b : ℕ) → digit_value b < 10 → is_line_feed b ≡ false
+no_line_feed b below = ne_eqb b 10 (λ is. let high : digit_value 10 < 10 = subst (λ x. digit_value x < 10) is below in omega arith)
 
-no_feeds : (text : List ℕ) → AllDigits 10 text → count_by is_feed text ≡ 0
-no_feeds [] digits = refl
-no_feeds (b ∷ bs) digits =
-    let none : cond {A = ℕ} (is_feed b) 1 0 ≡ 0 = ap (λ (t : Bool). cond {A = ℕ} t 1 0) (no_feed b digits.0) in
-    let rest = no_feeds bs digits.1 in
-    omega (arith, sum_by-cons (λ c. cond {A = ℕ} (is_feed c) 1 0) b bs)
+no_line_feeds : (text : List ℕ) → AllDigits 10 text → count_by is_line_feed text ≡ 0
+no_line_feeds [] digits = refl
+no_line_feeds (b ∷ bs) digits =
+    let none : cond {A = ℕ} (is_line_feed b) 1 0 ≡ 0 = ap (λ (t : Bool). cond {A = ℕ} t 1 0) (no_line_feed b digits.0) in
+    let rest = no_line_feeds bs digits.1 in
+    omega (arith, sum_by-cons (λ c. cond {A = ℕ} (is_line_feed c) 1 0) b bs)
 
 number : (n : ℕ) → n < 1000 → Has (decimal n) 3 0
 number n small = record {
   short = length-decimal-le 3 n (lit< tt) (omega arith) (omega arith);
-  same = no_feeds (decimal n) (decimal_is_IsNumeral n (omega arith)).0.1;
+  same = no_line_feeds (decimal n) (decimal_is_IsNumeral n (omega arith)).0.1;
 }
 
 dotted : (a b c d : ℕ) → a < 256 → b < 256 → c < 256 → d < 256 → Has (dotted_text a b c d) 15 0
@@ -111,14 +111,14 @@ few_pieces (p ∷ []) = one p
     one (b ∷ bs) = lit≤ tt
 few_pieces (p ∷ next ∷ more) = let rest = few_pieces (next ∷ more) in omega arith
 
-few_marked : (file : List ℕ) → count_by is_feed (without_mark file) ≤ count_by is_feed file
-few_marked file = by (starts_with nat_eq file byte_order_mark)
+no_more_without_mark : (file : List ℕ) → count_by is_line_feed (without_mark file) ≤ count_by is_line_feed file
+no_more_without_mark file = by (starts_with nat_eq file byte_order_mark)
   where
-    by : (b : Bool) → count_by is_feed (if b then drop 3 file else file) ≤ count_by is_feed file
-    by true = omega (arith, sum_by-take-drop (λ c. cond {A = ℕ} (is_feed c) 1 0) file 3)
+    by : (b : Bool) → count_by is_line_feed (if b then drop 3 file else file) ≤ count_by is_line_feed file
+    by true = omega (arith, sum_by-take-drop (λ c. cond {A = ℕ} (is_line_feed c) 1 0) file 3)
     by false = omega arith
 
-pub few_lines : (file : List ℕ) → length (numbered_lines file) ≤ count_by is_feed file + 1
+pub few_lines : (file : List ℕ) → length (numbered_lines file) ≤ count_by is_line_feed file + 1
 few_lines file =
     let text = without_mark file in
-    omega (arith, length-enumerate_from 1 (lines_of text), few_pieces (pieces 10 text), length-slice_split is_feed text, few_marked file)
+    omega (arith, length-enumerate_from 1 (lines_of text), few_pieces (pieces 10 text), length-slice_split is_line_feed text, no_more_without_mark file)

@@ -22,7 +22,7 @@ use Rattle.feed_refs.specs.declared.reference.What.TheVariants.{NotInet, Nothing
 use Rattle.feed_csv.specs.File.{entry_of, longest as longest_feed, most as most_entries}
 use Rattle.nro_stats.specs.File.{row_of, longest as longest_stats, most as most_delegations}
 use Rattle.generated.specs.Feeds.{feed}
-use Rattle.generated.proofs.SizeLemmas.{feed_has, few_lines, is_feed}
+use Rattle.generated.proofs.SizeLemmas.{feed_has, few_lines, is_line_feed}
 use Rattle.update_session.specs.State.{is_too_large}
 use Rattle.job_lines.specs.declared.act.Act.TheVariants as acts
 use Rattle.job_run.specs.declared.apart.Apart.{Apart}
@@ -76,7 +76,7 @@ unfolding stats_file
 stats_used slot file =
     let text = stats_file.bytes in
     let short : length text ≤ 100 = lit≤ tt in
-    let ends : count_by is_feed text ≤ 1 = lit≤ tt in
+    let ends : count_by is_line_feed text ≤ 1 = lit≤ tt in
     usable longest_stats most_delegations (rows_of slot) text (λ long. omega (arith, short))
     (omega (arith, taken (row_of slot) (numbered_lines text), few_lines text, ends))
 
@@ -130,7 +130,7 @@ pub stats_few : (slot : List ℕ) → rows_of slot stats_file.bytes ≤ 2
 unfolding stats_file
 stats_few slot =
     let text = stats_file.bytes in
-    let ends : count_by is_feed text ≤ 1 = lit≤ tt in
+    let ends : count_by is_line_feed text ≤ 1 = lit≤ tt in
     omega (arith, taken (row_of slot) (numbered_lines text), few_lines text, ends)
 
 dump_used : (slot file : List ℕ) → no_source (acts.Rpsl slot file) (Some dump_file.bytes) ≡ None
