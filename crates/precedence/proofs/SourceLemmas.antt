@@ -1,6 +1,6 @@
 -- What the sources say between cut points, and on the segments of what is touched.
-use Rattle.std.proofs.Common.{◌≡◌, ℕ, zero, suc, ◌+◌, ◌<◌, ◌≤◌, ◌^◌, List, [], ◌∷◌, map, get_or, length, arith, Option, Some, None, Contains, refl, sym, ap, ◌∙◌, append-nil}
-use Rattle.std.specs.List.{All, Any, filter, flat_map, count_by}
+use Rattle.std.proofs.Common.{◌≡◌, ℕ, zero, suc, ◌+◌, ◌<◌, ◌≤◌, ◌^◌, List, [], ◌∷◌, get_or, length, arith, Option, Some, None, Contains, refl, sym, ap, ◌∙◌}
+use Rattle.std.specs.List.{All, Any, filter, count_by}
 use Rattle.std.specs.List.Sorted.{IsStrictlyIncreasing}
 use Rattle.std.specs.Prelude.{IsTrue}
 use Rattle.std.proofs.lemmas.List.Kept.{IsStrictlyIncreasing-filter}
@@ -10,7 +10,6 @@ use Rattle.geo_terms.proofs.Constancy.{constant_between_cuts}
 use Rattle.geo_terms.proofs.Members.{Among, among_filter, among_from_contains, contains_from_among}
 use Rattle.geo_terms.proofs.RankLemmas.{up_from, same_members}
 use Rattle.geo_terms.specs.Cuts.{statement_ranges}
-use Rattle.geo_terms.specs.DelegationForm.{DelegationParts}
 use Rattle.geo_terms.specs.Precedence.{entry_of, speaker, speaking_entry, spoken_at}
 use Rattle.geo_terms.specs.SourceForm.{OverridesParts, StatsParts}
 use Rattle.geo_terms.specs.Sources.{InForce}
@@ -21,12 +20,6 @@ use Rattle.cut_segments.specs.CutPlaces.{whole, AreCutsInside}
 use Rattle.precedence.specs.CutPlaces.{AreSourceSegments, IsConstantBetween}
 use Rattle.source_changes.specs.Touched.{is_touched}
 use Rattle.cut_segments.specs.Segments.{AreSegments}
-
-abbrev pub stats_alone : List StatsParts → InForce
-stats_alone ts = record { dumps = []; feeds = []; stats = ts; overrides = None }
-
-pub ranges_of_stats : (ts : List StatsParts) → statement_ranges (stats_alone ts) ≡ map (λ d. d.range) (flat_map (λ t. t.rows) ts)
-ranges_of_stats ts = append-nil (map (λ (d : DelegationParts). d.range) (flat_map (λ t. t.rows) ts))
 
 -- where all cut points of the sources are known, the same is said between them
 pub constant : (s : InForce) (places : List ℕ) → AreCuts (statement_ranges s) whole places → IsConstantBetween s places

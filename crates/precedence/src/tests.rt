@@ -307,31 +307,6 @@ fn the_plain_lookup_agrees(rt: HostRuntime) -> Result<(), Fail> {
     Ok(())
 }
 
-fn touched(first: u128, last: u128) -> Result<Range, Fail> {
-    if first > last {
-        return Err(Fail::from("no range"));
-    }
-    Ok(Range { first, last })
-}
-
-fn cut(sources: &Sources, touched: &[Range]) -> Result<Vec<Range>, Fail> {
-    let segments = sources.segments(touched)?;
-    Ok(segments)
-}
-
-// The ends of the segments of what is touched, and what is said on each.
-fn segments(alloc: Global, sources: &Sources, touched: &[Range]) -> Result<String, Fail> {
-    let mut text = String::new(alloc);
-    for segment in &cut(sources, touched)? {
-        let (first, last) = (segment.first, segment.last);
-        let ends = format!(in alloc; "{first:x}-{last:x} ")?;
-        text.push_str(ends.as_str())?;
-        push_place(&mut text, sources.choice(*segment))?;
-        text.push_str(";")?;
-    }
-    Ok(text)
-}
-
 #[test]
 fn a_report_is_in_its_order(rt: HostRuntime) -> Result<(), Fail> {
     let alloc = rt.alloc();
