@@ -1,5 +1,6 @@
 -- How many addresses of each family have a place of each country.
-use Rattle.std.specs.Prelude.{ℕ, zero, suc, ◌+◌, ◌^◌, Bool, true, false, nat_lt, List, [], find, Option, Some, None, option_and_then, option_map}
+use Rattle.std.specs.Prelude.{ℕ, zero, suc, ◌+◌, ◌^◌, Bool, true, false, nat_lt, List, [], find}
+use Rattle.std.specs.Prelude.{Option, Some, None, option_and_then, option_map}
 use Rattle.geo_terms.specs.Numbers.{place_at}
 use Rattle.geo_terms.specs.PlaceForm.{PlaceParts, same_text}
 use Rattle.geo_terms.specs.SlotOrder.{placed}
@@ -20,7 +21,8 @@ abbrev pub v6_in : Option Count → ℕ
 v6_in None = 0
 v6_in (Some n) = n.v6
 
--- the counts with this many addresses more of a country; they stand in the order of the countries' bytes
+-- the counts with this many addresses more of a country; they stand in the order of the countries'
+-- bytes
 abbrev pub added : List ℕ → ℕ → ℕ → List Count → List Count
 added country v4 v6 counts = placed (λ n. n.country) (record {
   country = country;
@@ -37,7 +39,8 @@ with_address (Some country) false counts = added country 0 1 counts
 -- the counts of the first n addresses, one address after another
 unfoldable pub counts_below : (ℕ → Option (List ℕ)) → ℕ → List Count
 counts_below country_at zero = []
-counts_below country_at (suc a) = with_address (country_at a) (nat_lt a (2 ^ 32)) (counts_below country_at a)
+counts_below country_at (suc a) =
+    with_address (country_at a) (nat_lt a (2 ^ 32)) (counts_below country_at a)
 
 -- the country of the place that a leaf is
 abbrev pub country_of : List PlaceParts → Option ℕ → Option (List ℕ)

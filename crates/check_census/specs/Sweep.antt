@@ -1,4 +1,5 @@
--- How the first address of each line is found: one pass over the places at which speakers and entries can change.
+-- How the first address of each line is found: one pass over the places at which speakers and
+-- entries can change.
 use Rattle.std.specs.Prelude.{ℕ, ◌-◌, ◌*◌, ◌^◌, List, [], ◌∷◌, ◌++◌, map, Option, None}
 use Rattle.geo_addr.specs.Ranges.{Ends, range_of_block}
 use Rattle.geo_terms.specs.Sources.{InForce, references}
@@ -24,9 +25,11 @@ fixed_ranges = v4_range ∷ mapped_range ∷ six_to_four_range ∷ []
 
 -- the ranges at whose ends the line that is heard can change
 abbrev pub hearing_ranges : InForce → List Entry → List Ends
-hearing_ranges s es = map (λ r. r.range) (references s) ++ (map (λ e. range_of_block e.block) es ++ fixed_ranges)
+hearing_ranges s es = map (λ r. r.range) (references s)
+    ++ (map (λ e. range_of_block e.block) es ++ fixed_ranges)
 
--- the first addresses of lines, after a line is heard at a place: where it has none yet, it is this one
+-- the first addresses of lines, after a line is heard at a place: where it has none yet, it is this
+-- one
 abbrev pub marked : Option ℕ → ℕ → List ℕ → List (Option ℕ) → List (Option ℕ)
 marked heard at [] fs = []
 marked heard at (l ∷ ls) [] = []

@@ -1,5 +1,6 @@
 -- How many addresses come to the leaves of a tree that pass a test.
-use Rattle.std.specs.Prelude.{◌≡◌, ℕ, zero, suc, ◌+◌, ◌*◌, ◌/◌, ◌^◌, Bool, false, true, if◌then◌else◌, Option, Some, None}
+use Rattle.std.specs.Prelude.{◌≡◌, ℕ, zero, suc, ◌+◌, ◌*◌, ◌/◌, ◌^◌, Bool, false, true}
+use Rattle.std.specs.Prelude.{if◌then◌else◌, Option, Some, None}
 use Rattle.trie_core.specs.Tree.{Tree, leaf, node}
 use Rattle.trie_core.specs.Graft.{half}
 
@@ -32,7 +33,9 @@ unfoldable pub low_part : ℕ → Tree ℕ → Tree ℕ
 low_part zero t = t
 low_part (suc k) t = low_part k (half false t)
 
--- the addresses of a tree of n + k bits that do not begin with k zeros: how many end at leaves that pass
+-- the addresses of a tree of n + k bits that do not begin with k zeros: how many end at leaves that
+-- pass
 unfoldable pub tally_beyond : (ℕ → Bool) → ℕ → ℕ → Tree ℕ → ℕ
 tally_beyond test n zero t = 0
-tally_beyond test n (suc k) t = tally_beyond test n k (half false t) + tally test (2 ^ (n + k)) (half true t)
+tally_beyond test n (suc k) t =
+    tally_beyond test n k (half false t) + tally test (2 ^ (n + k)) (half true t)

@@ -3,7 +3,8 @@ use Rattle.std.specs.Prelude.{ℕ, List, [], ◌∷◌, ◌++◌, flat_map, leng
 use Rattle.geo_terms.specs.NoteText.{code_of}
 use Rattle.check_census.specs.declared.count.Count.{Count}
 use Rattle.check_census.specs.declared.verdict.Ruling.{Ruling}
-use Rattle.check_census.specs.declared.verdict.Ruling.TheVariants.{Speaks, Shadowed, Uncovered, Refused}
+use Rattle.check_census.specs.declared.verdict.Ruling.TheVariants.{Speaks, Shadowed, Uncovered}
+use Rattle.check_census.specs.declared.verdict.Ruling.TheVariants.{Refused}
 use Rattle.check_census.specs.declared.verdict.Verdict.{Verdict}
 
 -- what is said of a line, after its number
@@ -18,7 +19,8 @@ verdict_line v = decimal v.line ++ (32 ∷ (ruling_words v.ruling ++ (10 ∷ [])
 
 -- a line for each verdict, and how many there are
 unfoldable pub verdict_lines : List Verdict → List ℕ
-verdict_lines vs = flat_map verdict_line vs ++ (codes "lines " ++ (decimal (length vs) ++ (10 ∷ [])))
+verdict_lines vs = flat_map verdict_line vs
+    ++ (codes "lines " ++ (decimal (length vs) ++ (10 ∷ [])))
 
 -- a country, or a dash where there is none
 abbrev pub country_word : List ℕ → List ℕ
@@ -30,4 +32,5 @@ count_line n = country_word n.country ++ (32 ∷ (decimal n.v4 ++ (32 ∷ (decim
 
 -- a line for each country, and how many there are
 unfoldable pub count_lines : List Count → List ℕ
-count_lines ns = flat_map count_line ns ++ (codes "countries " ++ (decimal (length ns) ++ (10 ∷ [])))
+count_lines ns = flat_map count_line ns
+    ++ (codes "countries " ++ (decimal (length ns) ++ (10 ∷ [])))

@@ -1,5 +1,7 @@
--- What becomes of the lines of a feed (RFC 8805): an entry speaks at some address, is shadowed, or is covered by no reference (RFC 9632, section 5), and a noted line is refused.
-use Rattle.std.specs.Prelude.{ℕ, zero, suc, ◌^◌, Bool, false, nat_eq, nat_lt, if◌then◌else◌, List, [], ◌∷◌, ◌++◌, map, Option, Some, None, option_and_then, option_map}
+-- What becomes of the lines of a feed (RFC 8805): an entry speaks at some address, is shadowed, or
+-- is covered by no reference (RFC 9632, section 5), and a noted line is refused.
+use Rattle.std.specs.Prelude.{ℕ, zero, suc, ◌^◌, Bool, false, nat_eq, nat_lt, if◌then◌else◌, List}
+use Rattle.std.specs.Prelude.{[], ◌∷◌, ◌++◌, map, Option, Some, None, option_and_then, option_map}
 use Rattle.geo_terms.specs.Covering.{covering}
 use Rattle.geo_terms.specs.PlaceForm.{same_text}
 use Rattle.geo_terms.specs.Precedence.{reasons_at}
@@ -9,7 +11,8 @@ use Rattle.geo_terms.specs.declared.note.Note.{Note}
 use Rattle.geo_terms.specs.declared.statement.Entry.{Entry}
 use Rattle.geo_terms.specs.declared.statement.Reference.{Reference}
 use Rattle.check_census.specs.declared.verdict.Ruling.{Ruling}
-use Rattle.check_census.specs.declared.verdict.Ruling.TheVariants.{Speaks, Shadowed, Uncovered, Refused}
+use Rattle.check_census.specs.declared.verdict.Ruling.TheVariants.{Speaks, Shadowed, Uncovered}
+use Rattle.check_census.specs.declared.verdict.Ruling.TheVariants.{Refused}
 use Rattle.check_census.specs.declared.verdict.Verdict.{Verdict}
 
 -- the line of an entry that speaks, where it speaks for a reference to this URL
@@ -58,7 +61,11 @@ ruling (Some c) (Some r) = Speaks r.slot r.line
 ruling (Some c) None = Shadowed c.slot c.line
 
 abbrev pub entry_verdict : InForce → List ℕ → Entry → Verdict
-entry_verdict s url e = record { line = e.line; ruling = ruling (covering (references s) url e.block) (speaker_there s (first_heard s url e.line)) }
+entry_verdict s url e = record {
+  line = e.line;
+  ruling = ruling (covering (references s) url e.block)
+      (speaker_there s (first_heard s url e.line));
+}
 
 abbrev pub note_verdict : Note → Verdict
 note_verdict n = record { line = n.line; ruling = Refused n.rule }
@@ -73,10 +80,12 @@ abbrev pub behind : ℕ → List Note → List Note
 behind line [] = []
 behind line (n ∷ ns) = if nat_lt n.line line then behind line ns else n ∷ ns
 
--- a verdict on each entry and on each noted line, in line order: before that on an entry stand those on the noted lines before it
+-- a verdict on each entry and on each noted line, in line order: before that on an entry stand
+-- those on the noted lines before it
 abbrev pub merged : InForce → List ℕ → List Entry → List Note → List Verdict
 merged s url [] ns = map note_verdict ns
-merged s url (e ∷ es) ns = map note_verdict (before e.line ns) ++ (entry_verdict s url e ∷ merged s url es (behind e.line ns))
+merged s url (e ∷ es) ns = map note_verdict (before e.line ns)
+    ++ (entry_verdict s url e ∷ merged s url es (behind e.line ns))
 
 -- the verdicts on the lines of a feed
 abbrev pub verdicts : InForce → FeedParts → List Verdict

@@ -1,4 +1,5 @@
--- What an index answers is what the references that it was made of say, in whatever order they stand.
+-- What an index answers is what the references that it was made of say, in whatever order they
+-- stand.
 use Rattle.std.specs.Prelude.{◌≡◌, ℕ, List}
 use Rattle.std.specs.List.Sorted.{IsPermutation}
 use Rattle.geo_addr.specs.Ranges.{Prefix}
@@ -11,6 +12,7 @@ use Rattle.geo_terms.specs.declared.statement.Reference.{Reference}
 -- two lists of references that answer alike
 pub record AnswerAlike (given held : List Reference) : Type 0 where
   pub same : IsPermutation given held
-  pub best : (a : ℕ) → first_at reference_before (λ r. r.range) given a ≡ first_at reference_before (λ r. r.range) held a
+  pub best : (a : ℕ) → first_at reference_before (λ r. r.range) given a ≡ first_at reference_before
+      (λ r. r.range) held a
   pub covering : (url : List ℕ) (b : Prefix) → covering given url b ≡ covering held url b
   pub covered : (url : List ℕ) (b : Prefix) → is_covered given url b ≡ is_covered held url b

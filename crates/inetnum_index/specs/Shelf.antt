@@ -21,7 +21,8 @@ abbrev pub key_of : Reference → Key
 key_of r = record { url = r.url; family = family r.range; first = r.range.first }
 
 unfoldable pub key_cmp : Key → Key → Ordering
-key_cmp x y = ordering_then (text_cmp x.url y.url) (ordering_then (nat_cmp x.family y.family) (nat_cmp x.first y.first))
+key_cmp x y = ordering_then (text_cmp x.url y.url)
+    (ordering_then (nat_cmp x.family y.family) (nat_cmp x.first y.first))
 
 -- by URL, by family, by first address, and the largest first
 unfoldable pub shelf_cmp : Reference → Reference → Ordering

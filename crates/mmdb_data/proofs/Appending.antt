@@ -1,5 +1,7 @@
 -- The steps of a packer, seen as what is appended.
-use Rattle.std.proofs.Common.{◌≡◌, ℕ, ◌-◌, ◌≤◌, Bool, true, false, cond, List, [], ◌∷◌, ◌++◌, length, take, drop, map as map_list, Option, Some, None, Result, Ok, Err, refl, sym, ap, ◌∙◌, subst, All}
+use Rattle.std.proofs.Common.{◌≡◌, ℕ, ◌-◌, ◌≤◌, Bool, true, false, cond, List, [], ◌∷◌, ◌++◌}
+use Rattle.std.proofs.Common.{length, take, drop, map as map_list, Option, Some, None, Result, Ok}
+use Rattle.std.proofs.Common.{Err, refl, sym, ap, ◌∙◌, subst, All}
 use Rattle.std.specs.Prelude.{OnOk, OnErr, is_some, nat_eq}
 use Rattle.std.specs.Cmp.Lexicographic.{pointwise}
 use Rattle.std.specs.Global.{Vec}
@@ -8,10 +10,12 @@ use Rattle.std.specs.Map.{lookup}
 use Rattle.std.proofs.lemmas.List.{take_at, take-map}
 use Rattle.indexmap.specs.IndexMap.{insert_entry}
 use Rattle.byteorder.proofs.Bytes.{between-bytes_high_first}
-use Rattle.mmdb_data.specs.Tree.{Tree, Members, Items, map, list, members_len, items_len, CanBePacked, IsWithinLimits}
+use Rattle.mmdb_data.specs.Tree.{Tree, Members, Items, map, list, members_len, items_len}
+use Rattle.mmdb_data.specs.Tree.{CanBePacked, IsWithinLimits}
 use Rattle.mmdb_data.specs.Reading.{reads}
 use Rattle.mmdb_data.specs.Spelling.{head, spelling}
-use Rattle.mmdb_data.specs.Packing.{Packed, nothing_packed, offset_of, with_bytes, noted, content_in, members_in, items_in, in_full, all_in_full, IsKept}
+use Rattle.mmdb_data.specs.Packing.{Packed, nothing_packed, offset_of, with_bytes, noted}
+use Rattle.mmdb_data.specs.Packing.{content_in, members_in, items_in, in_full, all_in_full, IsKept}
 use Rattle.mmdb_data.specs.Section.{entry_view}
 use Rattle.mmdb_data.proofs.Packs.{kept_trans, noted_kept}
 use Rattle.mmdb_data.proofs.Keeps.{own_offset}
@@ -23,76 +27,119 @@ packed_is bytes full = record { bytes = bytes; full = full }
 -- ---- the table
 
 -- a look-up by bytes, in the table and as it is seen
-pub lookup_viewed : (spelled : List ℕ) (entries : List (Vec ℕ × ℕ)) → lookup (λ (k : Vec ℕ). pointwise nat_eq spelled k.items) entries ≡ lookup (pointwise nat_eq spelled) (map_list entry_view entries)
+pub lookup_viewed : (spelled : List ℕ) (entries : List (Vec ℕ × ℕ))
+    → lookup (λ (k : Vec ℕ). pointwise nat_eq spelled k.items) entries ≡ lookup
+    (pointwise nat_eq spelled) (map_list entry_view entries)
 lookup_viewed spelled [] = refl
-lookup_viewed spelled (e ∷ entries) = ap (λ (r : Option ℕ). cond (pointwise nat_eq spelled e.0.items) (Some e.1) r) (lookup_viewed spelled entries)
+lookup_viewed spelled (e ∷ entries) =
+    ap (λ (r : Option ℕ). cond (pointwise nat_eq spelled e.0.items) (Some e.1) r)
+    (lookup_viewed spelled entries)
 
 abbrev same_bytes : Vec ℕ → Vec ℕ → Bool
 same_bytes a b = pointwise nat_eq a.items b.items
 
-insert_by : (k : Vec ℕ) (v : ℕ) (e : Vec ℕ × ℕ) (entries : List (Vec ℕ × ℕ)) (b : Bool) → cond b (Some e.1) (lookup (pointwise nat_eq k.items) (map_list entry_view entries)) ≡ None
-    → (lookup (pointwise nat_eq k.items) (map_list entry_view entries) ≡ None → map_list entry_view (insert_entry same_bytes entries k v) ≡ map_list entry_view entries ++ (k.items, v) ∷ [])
-    → map_list entry_view (cond b ((e.0, v) ∷ entries) (e ∷ insert_entry same_bytes entries k v)) ≡ entry_view e ∷ (map_list entry_view entries ++ (k.items, v) ∷ [])
+insert_by : (k : Vec ℕ) (v : ℕ) (e : Vec ℕ × ℕ) (entries : List (Vec ℕ × ℕ)) (b : Bool)
+    → cond b (Some e.1) (lookup (pointwise nat_eq k.items) (map_list entry_view entries)) ≡ None
+    → (lookup (pointwise nat_eq k.items) (map_list entry_view entries) ≡ None
+    → map_list entry_view (insert_entry same_bytes entries k v) ≡ map_list entry_view entries
+    ++ (k.items, v) ∷ [])
+    → map_list entry_view (cond b ((e.0, v) ∷ entries) (e ∷ insert_entry same_bytes entries k v))
+    ≡ entry_view e ∷ (map_list entry_view entries ++ (k.items, v) ∷ [])
 insert_by k v e entries true none inner = absurd cc
-insert_by k v e entries false none inner = ap (λ (es : List (List ℕ × ℕ)). entry_view e ∷ es) (inner none)
+insert_by k v e entries false none inner =
+    ap (λ (es : List (List ℕ × ℕ)). entry_view e ∷ es) (inner none)
 
-insert_viewed : (k : Vec ℕ) (v : ℕ) (entries : List (Vec ℕ × ℕ)) → lookup (pointwise nat_eq k.items) (map_list entry_view entries) ≡ None
-    → map_list entry_view (insert_entry same_bytes entries k v) ≡ map_list entry_view entries ++ (k.items, v) ∷ []
+insert_viewed : (k : Vec ℕ) (v : ℕ) (entries : List (Vec ℕ × ℕ))
+    → lookup (pointwise nat_eq k.items) (map_list entry_view entries) ≡ None
+    → map_list entry_view (insert_entry same_bytes entries k v) ≡ map_list entry_view entries
+    ++ (k.items, v) ∷ []
 insert_viewed k v [] none = refl
-insert_viewed k v (e ∷ entries) none = insert_by k v e entries (pointwise nat_eq k.items e.0.items) none (λ h. insert_viewed k v entries h)
+insert_viewed k v (e ∷ entries) none =
+    insert_by k v e entries (pointwise nat_eq k.items e.0.items) none
+    (λ h. insert_viewed k v entries h)
 
-pub noted_is : (bytes : List ℕ) (entries later : List (Vec ℕ × ℕ)) (spelled : Vec ℕ) (at : ℕ) → lookup (pointwise nat_eq spelled.items) (map_list entry_view entries) ≡ None
-    → later ≡ insert_entry same_bytes entries spelled at → packed_is bytes (map_list entry_view later) ≡ noted spelled.items at (packed_is bytes (map_list entry_view entries))
+pub noted_is : (bytes : List ℕ) (entries later : List (Vec ℕ × ℕ)) (spelled : Vec ℕ) (at : ℕ)
+    → lookup (pointwise nat_eq spelled.items) (map_list entry_view entries) ≡ None
+    → later ≡ insert_entry same_bytes entries spelled at
+    → packed_is bytes (map_list entry_view later) ≡ noted spelled.items at
+    (packed_is bytes (map_list entry_view entries))
 noted_is bytes entries later spelled at none is =
-    ap (λ (es : List (Vec ℕ × ℕ)). packed_is bytes (map_list entry_view es)) is ∙ ap (packed_is bytes) (insert_viewed spelled at entries none) ∙ sym (rw none refl)
+    ap (λ (es : List (Vec ℕ × ℕ)). packed_is bytes (map_list entry_view es)) is
+    ∙ ap (packed_is bytes) (insert_viewed spelled at entries none) ∙ sym (rw none refl)
 
 -- what was put is taken off again
-pub cut_back : (old new : Packed) (more : List (Vec ℕ × ℕ)) (n m : ℕ) → IsKept old new → new.full ≡ map_list entry_view more → n ≡ length old.bytes → m ≡ length old.full
+pub cut_back : (old new : Packed) (more : List (Vec ℕ × ℕ)) (n m : ℕ) → IsKept old new
+    → new.full ≡ map_list entry_view more → n ≡ length old.bytes → m ≡ length old.full
     → packed_is (take n new.bytes) (map_list entry_view (take m more)) ≡ old
 cut_back old new more n m kept full n_is m_is =
-    let bytes : take n new.bytes ≡ old.bytes = ap (take n) kept.bytes.1 ∙ take_at old.bytes kept.bytes.0 n (sym n_is) in
-    let entries : map_list entry_view (take m more) ≡ old.full = sym (take-map entry_view m more) ∙ ap (take m) (sym full ∙ kept.full.1) ∙ take_at old.full kept.full.0 m (sym m_is) in
+    let bytes : take n new.bytes ≡ old.bytes =
+    ap (take n) kept.bytes.1 ∙ take_at old.bytes kept.bytes.0 n (sym n_is) in
+    let entries : map_list entry_view (take m more) ≡ old.full =
+    sym (take-map entry_view m more) ∙ ap (take m) (sym full ∙ kept.full.1)
+    ∙ take_at old.full kept.full.0 m (sym m_is) in
     rw (bytes, entries) refl
 
 -- ---- values
 
-pub map_packed : {T E : Type 0} (r : Result T E) (new mid old : Packed) (len : ℕ) (members : Members) → len ≡ members_len members → mid ≡ with_bytes (head 7 len) old
+pub map_packed : {T E : Type 0} (r : Result T E) (new mid old : Packed) (len : ℕ)
+    (members : Members) → len ≡ members_len members → mid ≡ with_bytes (head 7 len) old
     → OnOk r (new ≡ members_in members mid) → OnOk r (new ≡ content_in (map members) old)
-map_packed (Ok x) new mid old len pairs is_len first second = second ∙ ap (members_in pairs) (first ∙ ap (λ (k : ℕ). with_bytes (head 7 k) old) is_len)
+map_packed (Ok x) new mid old len pairs is_len first second =
+    second ∙ ap (members_in pairs) (first ∙ ap (λ (k : ℕ). with_bytes (head 7 k) old) is_len)
 map_packed (Err e) new mid old len pairs is_len first second = tt
 
-pub list_packed : {T E : Type 0} (r : Result T E) (new mid old : Packed) (len : ℕ) (items : Items) → len ≡ items_len items → mid ≡ with_bytes (head 11 len) old
+pub list_packed : {T E : Type 0} (r : Result T E) (new mid old : Packed) (len : ℕ) (items : Items)
+    → len ≡ items_len items → mid ≡ with_bytes (head 11 len) old
     → OnOk r (new ≡ items_in items mid) → OnOk r (new ≡ content_in (list items) old)
-list_packed (Ok x) new mid old len items is_len first second = second ∙ ap (items_in items) (first ∙ ap (λ (k : ℕ). with_bytes (head 11 k) old) is_len)
+list_packed (Ok x) new mid old len items is_len first second =
+    second ∙ ap (items_in items) (first ∙ ap (λ (k : ℕ). with_bytes (head 11 k) old) is_len)
 list_packed (Err e) new mid old len items is_len first second = tt
 
 -- a value that is known is not noted again
-pub known_full : {T E : Type 0} (r : Result T E) (value : Tree) (new old : Packed) → is_some (offset_of (spelling value) old) ≡ true → OnOk r (new ≡ content_in value old) → OnOk r (new ≡ in_full value old)
+pub known_full : {T E : Type 0} (r : Result T E) (value : Tree) (new old : Packed)
+    → is_some (offset_of (spelling value) old) ≡ true → OnOk r (new ≡ content_in value old)
+    → OnOk r (new ≡ in_full value old)
 known_full (Ok x) value new old known is =
-    is ∙ sym (ap (λ (b : Bool). cond b (content_in value old) (packed_is (content_in value old).bytes ((content_in value old).full ++ (spelling value, length old.bytes) ∷ []))) (ap is_some (own_offset value old) ∙ known))
+    is ∙ sym (ap (λ (b : Bool). cond b (content_in value old)
+    (packed_is (content_in value old).bytes
+    ((content_in value old).full ++ (spelling value, length old.bytes) ∷ [])))
+    (ap is_some (own_offset value old) ∙ known))
 known_full (Err e) value new old known is = tt
 
 none_from : (r : Option ℕ) → is_some r ≡ false → r ≡ None
 none_from None h = refl
 none_from (Some at) h = absurd cc
 
-pub still_unknown : (value : Tree) (old mid : Packed) (spelled : List ℕ) → spelled ≡ spelling value → mid ≡ content_in value old → is_some (offset_of (spelling value) old) ≡ false → offset_of spelled mid ≡ None
-still_unknown value old mid spelled is mid_is unknown = rw (is, mid_is) (own_offset value old ∙ none_from (offset_of (spelling value) old) unknown)
+pub still_unknown : (value : Tree) (old mid : Packed) (spelled : List ℕ) → spelled ≡ spelling value
+    → mid ≡ content_in value old → is_some (offset_of (spelling value) old) ≡ false
+    → offset_of spelled mid ≡ None
+still_unknown value old mid spelled is mid_is unknown =
+    rw (is, mid_is) (own_offset value old ∙ none_from (offset_of (spelling value) old) unknown)
 
-pub new_full : {T E : Type 0} (r : Result T E) (value : Tree) (new mid old : Packed) (spelled : List ℕ) (at : ℕ) → spelled ≡ spelling value → at ≡ length old.bytes → mid ≡ content_in value old
+pub new_full : {T E : Type 0} (r : Result T E) (value : Tree) (new mid old : Packed)
+    (spelled : List ℕ) (at : ℕ) → spelled ≡ spelling value → at ≡ length old.bytes
+    → mid ≡ content_in value old
     → OnOk r (new ≡ noted spelled at mid) → OnOk r (new ≡ in_full value old)
 new_full (Ok x) value new mid old spelled at is at_is mid_is h = h ∙ rw (is, at_is, mid_is) refl
 new_full (Err e) value new mid old spelled at is at_is mid_is h = tt
 
-pub kept_either : {T E : Type 0} (r : Result T E) (old mid new : Packed) (spelled : List ℕ) (at : ℕ) → IsKept old mid → OnOk r (new ≡ noted spelled at mid) → OnErr r (new ≡ mid) → IsKept old new
-kept_either (Ok x) old mid new spelled at kept ok err = subst (IsKept old) (sym ok) (kept_trans old mid (noted spelled at mid) kept (noted_kept spelled at mid))
+pub kept_either : {T E : Type 0} (r : Result T E) (old mid new : Packed) (spelled : List ℕ) (at : ℕ)
+    → IsKept old mid → OnOk r (new ≡ noted spelled at mid) → OnErr r (new ≡ mid) → IsKept old new
+kept_either (Ok x) old mid new spelled at kept ok err =
+    subst (IsKept old) (sym ok) (kept_trans old mid (noted spelled at mid) kept
+    (noted_kept spelled at mid))
 kept_either (Err e) old mid new spelled at kept ok err = subst (IsKept old) (sym err) kept
 
 -- the low bytes of four
-pub low_bytes : (n len : ℕ) → len ≤ 4 → take (4 - (4 - len)) (drop (4 - len) (bytes_high_first 4 n)) ≡ bytes_high_first len n
+pub low_bytes : (n len : ℕ) → len ≤ 4
+    → take (4 - (4 - len)) (drop (4 - len) (bytes_high_first 4 n)) ≡ bytes_high_first len n
 low_bytes n len few = between-bytes_high_first 4 len n few
 
 -- reading where a value was put
-pub put_reads : (value : Tree) (old new : Packed) (at : ℕ) → new ≡ in_full value old → at ≡ length old.bytes → CanBePacked value
-    → (before : List Tree) (later : List ℕ) → All CanBePacked before → old ≡ all_in_full before nothing_packed → IsWithinLimits value → reads (new.bytes ++ later) at ≡ Ok value
-put_reads value old new at new_is at_is can before later all old_is within = rw (at_is, new_is, old_is) (put_is_read before value later all can within)
+pub put_reads : (value : Tree) (old new : Packed) (at : ℕ) → new ≡ in_full value old
+    → at ≡ length old.bytes → CanBePacked value
+    → (before : List Tree) (later : List ℕ) → All CanBePacked before
+    → old ≡ all_in_full before nothing_packed → IsWithinLimits value
+    → reads (new.bytes ++ later) at ≡ Ok value
+put_reads value old new at new_is at_is can before later all old_is within =
+    rw (at_is, new_is, old_is) (put_is_read before value later all can within)

@@ -1,10 +1,12 @@
 -- Reading members and items one after the other, as a loop does.
-use Rattle.std.proofs.Common.{◌≡◌, ℕ, suc, ◌-◌, ◌+◌, ◌≤◌, ◌<◌, true, false, List, [], ◌∷◌, ◌++◌, Ok, Err, refl, sym, ap, ◌∙◌, arith}
+use Rattle.std.proofs.Common.{◌≡◌, ℕ, suc, ◌-◌, ◌+◌, ◌≤◌, ◌<◌, true, false, List, [], ◌∷◌, ◌++◌, Ok}
+use Rattle.std.proofs.Common.{Err, refl, sym, ap, ◌∙◌, arith}
 use Rattle.mmdb_data.specs.declared.fault.DataFault.{DataFault}
 use Rattle.mmdb_data.specs.declared.fault.DataFault.TheVariants as faults
 use Rattle.mmdb_data.specs.declared.value.Value.{Value}
 use Rattle.mmdb_data.specs.Tree.{Tree, Members, Items, no_members, member, no_items, item}
-use Rattle.mmdb_data.specs.Reading.{◌>>=◌, Budget, Found, Read, Fails, key_of, members_from, items_from}
+use Rattle.mmdb_data.specs.Reading.{◌>>=◌, Budget, Found, Read, Fails, key_of, members_from}
+use Rattle.mmdb_data.specs.Reading.{items_from}
 use Rattle.mmdb_data.specs.View.{tree, items_view, members_view}
 
 -- the one and then the other
@@ -32,11 +34,14 @@ chained-none : (a : Items) → chained a no_items ≡ a
 chained-none no_items = refl
 chained-none (item value a) = ap (item value) (chained-none a)
 
-pub members_view-push : (pairs : List (List ℕ × Value)) (pair : List ℕ × Value) → members_view (pairs ++ pair ∷ []) ≡ joined (members_view pairs) (member pair.0 (tree pair.1) no_members)
+pub members_view-push : (pairs : List (List ℕ × Value)) (pair : List ℕ × Value)
+    → members_view (pairs ++ pair ∷ []) ≡ joined (members_view pairs)
+    (member pair.0 (tree pair.1) no_members)
 members_view-push [] pair = refl
 members_view-push (p ∷ pairs) pair = ap (member p.0 (tree p.1)) (members_view-push pairs pair)
 
-pub items_view-push : (values : List Value) (value : Value) → items_view (values ++ value ∷ []) ≡ chained (items_view values) (item (tree value) no_items)
+pub items_view-push : (values : List Value) (value : Value)
+    → items_view (values ++ value ∷ []) ≡ chained (items_view values) (item (tree value) no_items)
 items_view-push [] value = refl
 items_view-push (v ∷ values) value = ap (item (tree v)) (items_view-push values value)
 
@@ -54,48 +59,75 @@ members_start (Ok x) = refl
 members_start (Err e) = refl
 
 regroup_members : (front : Members) (key : List ℕ) (value : Tree) (read : Found Members)
-    → after_members front (read >>= λ x. Ok (member key value x.0, x.1, x.2)) ≡ after_members (joined front (member key value no_members)) read
-regroup_members front key value (Ok x) = ap (λ (m : Members). Ok (m, x.1, x.2)) (sym (joined-assoc front (member key value no_members) x.0))
+    → after_members front (read >>= λ x. Ok (member key value x.0, x.1, x.2)) ≡ after_members
+    (joined front (member key value no_members)) read
+regroup_members front key value (Ok x) =
+    ap (λ (m : Members). Ok (m, x.1, x.2))
+    (sym (joined-assoc front (member key value no_members) x.0))
 regroup_members front key value (Err e) = refl
 
-pub members_go_on : (read : Read) (front : Members) (count i place : ℕ) (left : Budget) (key : Tree × ℕ × Budget) (name : List ℕ) (value : Tree × ℕ × Budget) (total : Found Members) → i < count
-    → read true place left ≡ Ok key → key_of place key.0 ≡ Ok name → read false key.1 key.2 ≡ Ok value → after_members front (members_from read (count - i) place left) ≡ total
-    → after_members (joined front (member name value.0 no_members)) (members_from read (count - (i + 1)) value.1 value.2) ≡ total
+pub members_go_on : (read : Read) (front : Members) (count i place : ℕ) (left : Budget)
+    (key : Tree × ℕ × Budget) (name : List ℕ) (value : Tree × ℕ × Budget) (total : Found Members)
+    → i < count
+    → read true place left ≡ Ok key → key_of place key.0 ≡ Ok name
+    → read false key.1 key.2 ≡ Ok value
+    → after_members front (members_from read (count - i) place left) ≡ total
+    → after_members (joined front (member name value.0 no_members))
+    (members_from read (count - (i + 1)) value.1 value.2) ≡ total
 members_go_on read front count i place left key name value total lt first named second so_far =
     let k : count - i ≡ suc (count - (i + 1)) = omega arith in
-    let one : after_members front (members_from read (count - i) place left) ≡ after_members (joined front (member name value.0 no_members)) (members_from read (count - (i + 1)) value.1 value.2) =
-    rw (k, first, named, second) (regroup_members front name value.0 (members_from read (count - (i + 1)) value.1 value.2)) in
+    let one : after_members front (members_from read (count - i) place left) ≡ after_members
+    (joined front (member name value.0 no_members))
+    (members_from read (count - (i + 1)) value.1 value.2) =
+    rw (k, first, named, second) (regroup_members front name value.0
+    (members_from read (count - (i + 1)) value.1 value.2)) in
     sym one ∙ so_far
 
-pub key_ends : (read : Read) (fault : DataFault) (front : Members) (count i place : ℕ) (left : Budget) (total : Found Members) → i < count
-    → Fails fault (read true place left) → after_members front (members_from read (count - i) place left) ≡ total → Fails fault total
+pub key_ends : (read : Read) (fault : DataFault) (front : Members) (count i place : ℕ)
+    (left : Budget) (total : Found Members) → i < count
+    → Fails fault (read true place left)
+    → after_members front (members_from read (count - i) place left) ≡ total → Fails fault total
 key_ends read faults.Memory front count i place left total lt first so_far = tt
 key_ends read (faults.Bad at cause) front count i place left total lt first so_far =
     let k : count - i ≡ suc (count - (i + 1)) = omega arith in
-    let one : after_members front (members_from read (count - i) place left) ≡ Err (at, cause) = rw (k, first) refl in
+    let one : after_members front (members_from read (count - i) place left) ≡ Err (at, cause) =
+    rw (k, first) refl in
     sym so_far ∙ one
 
-pub name_ends : (read : Read) (fault : DataFault) (front : Members) (count i place : ℕ) (left : Budget) (key : Tree × ℕ × Budget) (total : Found Members) → i < count
-    → read true place left ≡ Ok key → Fails fault (key_of place key.0) → after_members front (members_from read (count - i) place left) ≡ total → Fails fault total
+pub name_ends : (read : Read) (fault : DataFault) (front : Members) (count i place : ℕ)
+    (left : Budget) (key : Tree × ℕ × Budget) (total : Found Members) → i < count
+    → read true place left ≡ Ok key → Fails fault (key_of place key.0)
+    → after_members front (members_from read (count - i) place left) ≡ total → Fails fault total
 name_ends read faults.Memory front count i place left key total lt first named so_far = tt
 name_ends read (faults.Bad at cause) front count i place left key total lt first named so_far =
     let k : count - i ≡ suc (count - (i + 1)) = omega arith in
-    let one : after_members front (members_from read (count - i) place left) ≡ Err (at, cause) = rw (k, first, named) refl in
+    let one : after_members front (members_from read (count - i) place left) ≡ Err (at, cause) =
+    rw (k, first, named) refl in
     sym so_far ∙ one
 
-pub value_ends : (read : Read) (fault : DataFault) (front : Members) (count i place : ℕ) (left : Budget) (key : Tree × ℕ × Budget) (name : List ℕ) (total : Found Members) → i < count
-    → read true place left ≡ Ok key → key_of place key.0 ≡ Ok name → Fails fault (read false key.1 key.2) → after_members front (members_from read (count - i) place left) ≡ total → Fails fault total
-value_ends read faults.Memory front count i place left key name total lt first named second so_far = tt
-value_ends read (faults.Bad at cause) front count i place left key name total lt first named second so_far =
+pub value_ends : (read : Read) (fault : DataFault) (front : Members) (count i place : ℕ)
+    (left : Budget) (key : Tree × ℕ × Budget) (name : List ℕ) (total : Found Members) → i < count
+    → read true place left ≡ Ok key → key_of place key.0 ≡ Ok name
+    → Fails fault (read false key.1 key.2)
+    → after_members front (members_from read (count - i) place left) ≡ total → Fails fault total
+value_ends read faults.Memory front count i place left key name total lt first named second so_far =
+    tt
+value_ends read (faults.Bad at cause) front count i place left key name total lt first named second
+    so_far =
     let k : count - i ≡ suc (count - (i + 1)) = omega arith in
-    let one : after_members front (members_from read (count - i) place left) ≡ Err (at, cause) = rw (k, first, named, second) refl in
+    let one : after_members front (members_from read (count - i) place left) ≡ Err (at, cause) =
+    rw (k, first, named, second) refl in
     sym so_far ∙ one
 
-pub members_are_done : (read : Read) (front : Members) (count i place : ℕ) (left : Budget) (total : Found Members) → count ≤ i
-    → after_members front (members_from read (count - i) place left) ≡ total → total ≡ Ok (front, place, left)
+pub members_are_done : (read : Read) (front : Members) (count i place : ℕ) (left : Budget)
+    (total : Found Members) → count ≤ i
+    → after_members front (members_from read (count - i) place left) ≡ total
+    → total ≡ Ok (front, place, left)
 members_are_done read front count i place left total le so_far =
     let k : count - i ≡ 0 = omega arith in
-    let one : after_members front (members_from read (count - i) place left) ≡ Ok (front, place, left) = rw k (ap (λ (m : Members). Ok (m, place, left)) (joined-none front)) in
+    let one : after_members front (members_from read (count - i) place left) ≡ Ok
+    (front, place, left) = rw k (ap (λ (m : Members). Ok (m, place, left)) (joined-none front))
+    in
     sym so_far ∙ one
 
 -- ---- items
@@ -105,30 +137,44 @@ items_start (Ok x) = refl
 items_start (Err e) = refl
 
 regroup_items : (front : Items) (value : Tree) (read : Found Items)
-    → after_items front (read >>= λ x. Ok (item value x.0, x.1, x.2)) ≡ after_items (chained front (item value no_items)) read
-regroup_items front value (Ok x) = ap (λ (m : Items). Ok (m, x.1, x.2)) (sym (chained-assoc front (item value no_items) x.0))
+    → after_items front (read >>= λ x. Ok (item value x.0, x.1, x.2)) ≡ after_items
+    (chained front (item value no_items)) read
+regroup_items front value (Ok x) =
+    ap (λ (m : Items). Ok (m, x.1, x.2)) (sym (chained-assoc front (item value no_items) x.0))
 regroup_items front value (Err e) = refl
 
-pub items_go_on : (read : Read) (front : Items) (count i place : ℕ) (left : Budget) (value : Tree × ℕ × Budget) (total : Found Items) → i < count
-    → read false place left ≡ Ok value → after_items front (items_from read (count - i) place left) ≡ total
-    → after_items (chained front (item value.0 no_items)) (items_from read (count - (i + 1)) value.1 value.2) ≡ total
+pub items_go_on : (read : Read) (front : Items) (count i place : ℕ) (left : Budget)
+    (value : Tree × ℕ × Budget) (total : Found Items) → i < count
+    → read false place left ≡ Ok value
+    → after_items front (items_from read (count - i) place left) ≡ total
+    → after_items (chained front (item value.0 no_items))
+    (items_from read (count - (i + 1)) value.1 value.2) ≡ total
 items_go_on read front count i place left value total lt first so_far =
     let k : count - i ≡ suc (count - (i + 1)) = omega arith in
-    let one : after_items front (items_from read (count - i) place left) ≡ after_items (chained front (item value.0 no_items)) (items_from read (count - (i + 1)) value.1 value.2) =
-    rw (k, first) (regroup_items front value.0 (items_from read (count - (i + 1)) value.1 value.2)) in
+    let one : after_items front (items_from read (count - i) place left) ≡ after_items
+    (chained front (item value.0 no_items))
+    (items_from read (count - (i + 1)) value.1 value.2) =
+    rw (k, first) (regroup_items front value.0 (items_from read (count - (i + 1)) value.1 value.2))
+    in
     sym one ∙ so_far
 
-pub item_ends : (read : Read) (fault : DataFault) (front : Items) (count i place : ℕ) (left : Budget) (total : Found Items) → i < count
-    → Fails fault (read false place left) → after_items front (items_from read (count - i) place left) ≡ total → Fails fault total
+pub item_ends : (read : Read) (fault : DataFault) (front : Items) (count i place : ℕ)
+    (left : Budget) (total : Found Items) → i < count
+    → Fails fault (read false place left)
+    → after_items front (items_from read (count - i) place left) ≡ total → Fails fault total
 item_ends read faults.Memory front count i place left total lt first so_far = tt
 item_ends read (faults.Bad at cause) front count i place left total lt first so_far =
     let k : count - i ≡ suc (count - (i + 1)) = omega arith in
-    let one : after_items front (items_from read (count - i) place left) ≡ Err (at, cause) = rw (k, first) refl in
+    let one : after_items front (items_from read (count - i) place left) ≡ Err (at, cause) =
+    rw (k, first) refl in
     sym so_far ∙ one
 
-pub items_are_done : (read : Read) (front : Items) (count i place : ℕ) (left : Budget) (total : Found Items) → count ≤ i
-    → after_items front (items_from read (count - i) place left) ≡ total → total ≡ Ok (front, place, left)
+pub items_are_done : (read : Read) (front : Items) (count i place : ℕ) (left : Budget)
+    (total : Found Items) → count ≤ i
+    → after_items front (items_from read (count - i) place left) ≡ total
+    → total ≡ Ok (front, place, left)
 items_are_done read front count i place left total le so_far =
     let k : count - i ≡ 0 = omega arith in
-    let one : after_items front (items_from read (count - i) place left) ≡ Ok (front, place, left) = rw k (ap (λ (m : Items). Ok (m, place, left)) (chained-none front)) in
+    let one : after_items front (items_from read (count - i) place left) ≡ Ok (front, place, left) =
+    rw k (ap (λ (m : Items). Ok (m, place, left)) (chained-none front)) in
     sym so_far ∙ one

@@ -1,9 +1,12 @@
--- A data section that holds values one after another, where a part that stands in full already is a pointer if that is shorter.
-use Rattle.std.specs.Prelude.{◌≡◌, ℕ, ◌+◌, ◌-◌, ◌/◌, ◌^◌, nat_lt, nat_eq, ◌&&◌, if◌then◌else◌, List, [], ◌∷◌, ◌++◌, length, Option, Some, None, is_some}
+-- A data section that holds values one after another, where a part that stands in full already is a
+-- pointer if that is shorter.
+use Rattle.std.specs.Prelude.{◌≡◌, ℕ, ◌+◌, ◌-◌, ◌/◌, ◌^◌, nat_lt, nat_eq, ◌&&◌, if◌then◌else◌, List}
+use Rattle.std.specs.Prelude.{[], ◌∷◌, ◌++◌, length, Option, Some, None, is_some}
 use Rattle.std.specs.Cmp.Lexicographic.{pointwise}
 use Rattle.std.specs.Int.{bytes_high_first}
 use Rattle.std.specs.Map.{lookup}
-use Rattle.mmdb_data.specs.Tree.{Tree, Members, Items, map, list, no_members, member, no_items, item, members_len, items_len}
+use Rattle.mmdb_data.specs.Tree.{Tree, Members, Items, map, list, no_members, member, no_items}
+use Rattle.mmdb_data.specs.Tree.{item, members_len, items_len}
 use Rattle.mmdb_data.specs.Spelling.{head, sized, spelling}
 
 -- the pointer to an offset below 2^32, in the fewest bytes
@@ -11,10 +14,12 @@ unfoldable pub pointer : ℕ → List ℕ
 pointer to =
     if nat_lt to 2048 then (32 + to / 2 ^ 8) ∷ bytes_high_first 1 to
     else if nat_lt to 526336 then (40 + (to - 2048) / 2 ^ 16) ∷ bytes_high_first 2 (to - 2048)
-    else if nat_lt to 134744064 then (48 + (to - 526336) / 2 ^ 24) ∷ bytes_high_first 3 (to - 526336)
+    else if nat_lt to 134744064 then
+    (48 + (to - 526336) / 2 ^ 24) ∷ bytes_high_first 3 (to - 526336)
     else 56 ∷ bytes_high_first 4 to
 
--- what was written: the bytes, and of each value that stands in full its spelling and its first offset, in the order in which they ended
+-- what was written: the bytes, and of each value that stands in full its spelling and its first
+-- offset, in the order in which they ended
 pub record Packed : Type 0 where
   pub bytes : List ℕ
   pub full : List (List ℕ × ℕ)
@@ -32,7 +37,8 @@ with_bytes more section = record { bytes = section.bytes ++ more; full = section
 -- only the first of equal values is noted
 abbrev pub noted : List ℕ → ℕ → Packed → Packed
 noted spelled at section =
-    if is_some (offset_of spelled section) then section else record { bytes = section.bytes; full = section.full ++ (spelled, at) ∷ [] }
+    if is_some (offset_of spelled section) then section
+    else record { bytes = section.bytes; full = section.full ++ (spelled, at) ∷ [] }
 
 -- a value in full, by what appends its head and its content; it is noted once it has ended
 abbrev pub full_by : List ℕ → (Packed → Packed) → Packed → Packed
@@ -41,7 +47,9 @@ full_by spelled content section = noted spelled (length section.bytes) (content 
 -- the pointer to the offset, if it is in reach and shorter than the spelling
 abbrev pub shorter_pointer : List ℕ → Option ℕ → Option (List ℕ)
 shorter_pointer spelled None = None
-shorter_pointer spelled (Some to) = if nat_lt to (2 ^ 32) && nat_lt (length (pointer to)) (length spelled) then Some (pointer to) else None
+shorter_pointer spelled (Some to) =
+    if nat_lt to (2 ^ 32) && nat_lt (length (pointer to)) (length spelled) then Some (pointer to)
+    else None
 
 abbrev pub pointed_or : Option (List ℕ) → (Packed → Packed) → Packed → Packed
 pointed_or (Some to) in_full section = with_bytes to section
@@ -49,7 +57,9 @@ pointed_or None in_full section = in_full section
 
 -- a key, or a part of a value
 abbrev pub part_by : List ℕ → (Packed → Packed) → Packed → Packed
-part_by spelled content section = pointed_or (shorter_pointer spelled (offset_of spelled section)) (full_by spelled content) section
+part_by spelled content section =
+    pointed_or (shorter_pointer spelled (offset_of spelled section))
+    (full_by spelled content) section
 
 abbrev pub key_part : List ℕ → Packed → Packed
 key_part key = part_by (sized 2 key) (with_bytes (sized 2 key))
@@ -57,17 +67,20 @@ key_part key = part_by (sized 2 key) (with_bytes (sized 2 key))
 -- the head and the content of a value, in which each part is on its own a pointer or in full
 abbrev mutual
   pub content_in : Tree → Packed → Packed
-  content_in (map members) section = members_in members (with_bytes (head 7 (members_len members)) section)
+  content_in (map members) section =
+      members_in members (with_bytes (head 7 (members_len members)) section)
   content_in (list items) section = items_in items (with_bytes (head 11 (items_len items)) section)
   content_in value section = with_bytes (spelling value) section
 
   pub members_in : Members → Packed → Packed
   members_in no_members section = section
-  members_in (member key value members) section = members_in members (part_by (spelling value) (content_in value) (key_part key section))
+  members_in (member key value members) section =
+      members_in members (part_by (spelling value) (content_in value) (key_part key section))
 
   pub items_in : Items → Packed → Packed
   items_in no_items section = section
-  items_in (item value items) section = items_in items (part_by (spelling value) (content_in value) section)
+  items_in (item value items) section =
+      items_in items (part_by (spelling value) (content_in value) section)
 
 abbrev pub in_full : Tree → Packed → Packed
 in_full value section = full_by (spelling value) (content_in value) section
@@ -82,7 +95,8 @@ packed values = (all_in_full values nothing_packed).bytes
 
 abbrev pub offsets_in : List Tree → Packed → List ℕ
 offsets_in [] section = []
-offsets_in (value ∷ values) section = length section.bytes ∷ offsets_in values (in_full value section)
+offsets_in (value ∷ values) section =
+    length section.bytes ∷ offsets_in values (in_full value section)
 
 abbrev pub packed_offsets : List Tree → List ℕ
 packed_offsets values = offsets_in values nothing_packed

@@ -1,14 +1,20 @@
--- Reading the value at an offset of a data section (MaxMind DB 2.0, "Output Data Section"), from left to right,
+-- Reading the value at an offset of a data section (MaxMind DB 2.0, "Output Data Section"), from
+-- left to right,
 -- pointers followed, with the first fault that is met.
-use Rattle.std.specs.Prelude.{◌≡◌, ℕ, zero, suc, ◌+◌, ◌-◌, ◌*◌, ◌/◌, ◌%◌, ◌^◌, nat_lt, ◌==◌, ◌||◌, if◌then◌else◌, Bool, true, false, List, length, take, drop, slice_index, Option, Some, None, Result, Ok, Err}
+use Rattle.std.specs.Prelude.{◌≡◌, ℕ, zero, suc, ◌+◌, ◌-◌, ◌*◌, ◌/◌, ◌%◌, ◌^◌, nat_lt, ◌==◌, ◌||◌}
+use Rattle.std.specs.Prelude.{if◌then◌else◌, Bool, true, false, List, length, take, drop}
+use Rattle.std.specs.Prelude.{slice_index, Option, Some, None, Result, Ok, Err}
 use Rattle.std.specs.Int.{w32, cast_signed}
 use Rattle.std.specs.Str.{is_utf8}
 use Rattle.byteorder.specs.Endian.{big_number}
 use Rattle.mmdb_data.specs.declared.fault.DataCause.{DataCause}
-use Rattle.mmdb_data.specs.declared.fault.DataCause.TheVariants.{Truncated, Kind, PointerToPointer, OutOfSection, Utf8, Key, Deep, Many, Size, Big}
+use Rattle.mmdb_data.specs.declared.fault.DataCause.TheVariants.{Truncated, Kind, PointerToPointer}
+use Rattle.mmdb_data.specs.declared.fault.DataCause.TheVariants.{OutOfSection, Utf8, Key, Deep}
+use Rattle.mmdb_data.specs.declared.fault.DataCause.TheVariants.{Many, Size, Big}
 use Rattle.mmdb_data.specs.declared.fault.DataFault.{DataFault}
 use Rattle.mmdb_data.specs.declared.fault.DataFault.TheVariants as faults
-use Rattle.mmdb_data.specs.Tree.{Tree, Members, Items, map, list, text, bytes, u16, u32, i32, u64, u128, bool, double, float, no_members, member, no_items, item}
+use Rattle.mmdb_data.specs.Tree.{Tree, Members, Items, map, list, text, bytes, u16, u32, i32, u64}
+use Rattle.mmdb_data.specs.Tree.{u128, bool, double, float, no_members, member, no_items, item}
 
 -- the offset of the control byte of the value at fault, and its cause
 abbrev pub Fault : Type 0
@@ -32,30 +38,38 @@ abbrev pub ◌>>=◌ : {A B : Type 0} → Result A Fault → (A → Result B Fau
 (Err e) >>= f = Err e
 
 unfoldable pub byte_from : List ℕ → ℕ → Fault → Result ℕ Fault
-byte_from section place fault = if nat_lt place (length section) then Ok (slice_index section place) else Err fault
+byte_from section place fault = if nat_lt place (length section) then Ok (slice_index section place)
+    else Err fault
 
 unfoldable pub bytes_from : List ℕ → ℕ → ℕ → Fault → Result (List ℕ) Fault
-bytes_from section place size fault = if nat_lt (length section - place) size then Err fault else Ok (take size (drop place section))
+bytes_from section place size fault = if nat_lt (length section - place) size then Err fault
+    else Ok (take size (drop place section))
 
 unfoldable pub number_from : List ℕ → ℕ → ℕ → Fault → Result ℕ Fault
-number_from section place size fault = bytes_from section place size fault >>= λ found. Ok (big_number size found)
+number_from section place size fault =
+    bytes_from section place size fault >>= λ found. Ok (big_number size found)
 
 -- one more value
 unfoldable pub one_less : Budget → Fault → Result Budget Fault
-one_less left fault = if nat_lt 0 left.values then Ok (left_of (left.values - 1) left.bytes) else Err fault
+one_less left fault = if nat_lt 0 left.values then Ok (left_of (left.values - 1) left.bytes)
+    else Err fault
 
--- the type, and the place after the byte that tells it: the top three bits, where 0 says that the next byte plus 7 does
+-- the type, and the place after the byte that tells it: the top three bits, where 0 says that the
+-- next byte plus 7 does
 unfoldable pub kind_from : List ℕ → ℕ → ℕ → Result (ℕ × ℕ) Fault
 kind_from section at control =
-    if control / 32 == 0 then (byte_from section (at + 1) (at, Truncated) >>= λ extended. Ok (extended + 7, at + 2))
+    if control / 32 == 0 then (byte_from section (at + 1) (at, Truncated) >>= λ extended. Ok
+    (extended + 7, at + 2))
     else Ok (control / 32, at + 1)
 
 -- the size, and the place after its bytes, from the low five bits
 unfoldable pub size_from : List ℕ → ℕ → ℕ → ℕ → Result (ℕ × ℕ) Fault
 size_from section at code place =
     if nat_lt code 29 then Ok (code, place)
-    else if code == 29 then (number_from section place 1 (at, Truncated) >>= λ more. Ok (29 + more, place + 1))
-    else if code == 30 then (number_from section place 2 (at, Truncated) >>= λ more. Ok (285 + more, place + 2))
+    else if code == 29 then (number_from section place 1 (at, Truncated) >>= λ more. Ok
+    (29 + more, place + 1))
+    else if code == 30 then (number_from section place 2 (at, Truncated) >>= λ more. Ok
+    (285 + more, place + 2))
     else (number_from section place 3 (at, Truncated) >>= λ more. Ok (65821 + more, place + 3))
 
 -- the type, the size and the place of the content
@@ -74,10 +88,20 @@ pub record Scalar : Type 0 where
 
 -- an unsigned number of at most so many bytes, the highest first
 abbrev pub unsigned : ℕ → (ℕ → Tree) → Scalar
-unsigned greatest value = record { least = 0; greatest = greatest; value = λ content. value (big_number (length content) content) }
+unsigned greatest value = record {
+  least = 0;
+  greatest = greatest;
+  value =
+      λ content. value (big_number (length content) content);
+}
 
 abbrev pub signed : Scalar
-signed = record { least = 0; greatest = 4; value = λ content. i32 (cast_signed w32 (big_number (length content) content)) }
+signed = record {
+  least = 0;
+  greatest = 4;
+  value =
+      λ content. i32 (cast_signed w32 (big_number (length content) content));
+}
 
 -- so many bytes, kept as they are
 abbrev pub kept : ℕ → ℕ → (List ℕ → Tree) → Scalar
@@ -98,12 +122,19 @@ scalar_of kind =
 abbrev pub is_pointer : ℕ → Bool
 is_pointer control = control / 32 == 1
 
--- where a pointer leads, by its control byte and the number in its further bytes, and the place after it
+-- where a pointer leads, by its control byte and the number in its further bytes, and the place
+-- after it
 unfoldable pub pointer_from : List ℕ → ℕ → ℕ → Result (ℕ × ℕ) Fault
 pointer_from section at control =
-    if control % 32 / 8 == 0 then (number_from section (at + 1) 1 (at, Truncated) >>= λ low. Ok (control % 8 * 2 ^ 8 + low, at + 2))
-    else if control % 32 / 8 == 1 then (number_from section (at + 1) 2 (at, Truncated) >>= λ low. Ok (control % 8 * 2 ^ 16 + low + 2048, at + 3))
-    else if control % 32 / 8 == 2 then (number_from section (at + 1) 3 (at, Truncated) >>= λ low. Ok (control % 8 * 2 ^ 24 + low + 526336, at + 4))
+    if control % 32 / 8 == 0 then
+    (number_from section (at + 1) 1 (at, Truncated) >>= λ low. Ok
+    (control % 8 * 2 ^ 8 + low, at + 2))
+    else if control % 32 / 8 == 1 then
+    (number_from section (at + 1) 2 (at, Truncated) >>= λ low. Ok
+    (control % 8 * 2 ^ 16 + low + 2048, at + 3))
+    else if control % 32 / 8 == 2 then
+    (number_from section (at + 1) 3 (at, Truncated) >>= λ low. Ok
+    (control % 8 * 2 ^ 24 + low + 526336, at + 4))
     else (number_from section (at + 1) 4 (at, Truncated) >>= λ low. Ok (low, at + 5))
 
 -- how a value is read: as a key or not, from a place, with a budget
@@ -135,48 +166,61 @@ items_from read (suc n) place left = do
 unfoldable pub scalar_bytes_from : List ℕ → Bool → ℕ → ℕ → ℕ → ℕ → ℕ → Result (List ℕ) Fault
 scalar_bytes_from section is_key at least greatest size place =
     if nat_lt size least || nat_lt greatest size then Err (at, Size)
-    else (bytes_from section place size (at, Truncated) >>= λ content. if is_key then Err (at, Key) else Ok content)
+    else (bytes_from section place size (at, Truncated) >>= λ content. if is_key then Err (at, Key)
+    else Ok content)
 
 abbrev pub scalar_value_from : List ℕ → Bool → ℕ → Option Scalar → ℕ → ℕ → Result Tree Fault
 scalar_value_from section is_key at None size place = Err (at, Kind)
 scalar_value_from section is_key at (Some scalar) size place =
-    scalar_bytes_from section is_key at scalar.least scalar.greatest size place >>= λ content. Ok (scalar.value content)
+    scalar_bytes_from section is_key at scalar.least scalar.greatest size place >>= λ content. Ok
+    (scalar.value content)
 
 unfoldable pub scalar_from : List ℕ → Bool → ℕ → ℕ → ℕ → ℕ → Result Tree Fault
-scalar_from section is_key at kind size place = scalar_value_from section is_key at (scalar_of kind) size place
+scalar_from section is_key at kind size place =
+    scalar_value_from section is_key at (scalar_of kind) size place
 
 -- content that spends bytes of the budget, each time that it is met
 unfoldable pub content_bytes_from : List ℕ → ℕ → ℕ → ℕ → Budget → Result (List ℕ × Budget) Fault
 content_bytes_from section at size place left =
     bytes_from section place size (at, Truncated) >>= λ content.
-    if nat_lt left.bytes size then Err (at, Big) else Ok (content, left_of left.values (left.bytes - size))
+    if nat_lt left.bytes size then Err (at, Big)
+    else Ok (content, left_of left.values (left.bytes - size))
 
 unfoldable pub text_from : List ℕ → ℕ → ℕ → ℕ → Budget → Result (List ℕ × Budget) Fault
 text_from section at size place left =
-    content_bytes_from section at size place left >>= λ found. if is_utf8 found.0 then Ok found else Err (at, Utf8)
+    content_bytes_from section at size place left >>= λ found. if is_utf8 found.0 then Ok found
+    else Err (at, Utf8)
 
 -- it is no key
-unfoldable pub byte_string_from : List ℕ → Bool → ℕ → ℕ → ℕ → Budget → Result (List ℕ × Budget) Fault
+unfoldable pub byte_string_from : List ℕ → Bool → ℕ → ℕ → ℕ → Budget
+    → Result (List ℕ × Budget) Fault
 byte_string_from section is_key at size place left =
-    content_bytes_from section at size place left >>= λ found. if is_key then Err (at, Key) else Ok found
+    content_bytes_from section at size place left >>= λ found. if is_key then Err (at, Key)
+    else Ok found
 
 -- the size is the value
 unfoldable pub bool_from : Bool → ℕ → ℕ → Result Bool Fault
-bool_from is_key at size = if nat_lt 1 size then Err (at, Size) else if is_key then Err (at, Key) else Ok (size == 1)
+bool_from is_key at size = if nat_lt 1 size then Err (at, Size) else if is_key then Err (at, Key)
+    else Ok (size == 1)
 
 -- a value without parts
 unfoldable pub leaf_from : List ℕ → Bool → ℕ → ℕ → ℕ → ℕ → Budget → Found Tree
 leaf_from section is_key at kind size place left =
-    if kind == 2 then (text_from section at size place left >>= λ found. Ok (text found.0, place + size, found.1))
-    else if kind == 4 then (byte_string_from section is_key at size place left >>= λ found. Ok (bytes found.0, place + size, found.1))
+    if kind == 2 then (text_from section at size place left >>= λ found. Ok
+    (text found.0, place + size, found.1))
+    else if kind == 4 then (byte_string_from section is_key at size place left >>= λ found. Ok
+    (bytes found.0, place + size, found.1))
     else if kind == 14 then (bool_from is_key at size >>= λ b. Ok (bool b, place, left))
     else (scalar_from section is_key at kind size place >>= λ value. Ok (value, place + size, left))
 
--- the value at a place by its type, its size and the place of its content: 7 is a map, and 11 a list
+-- the value at a place by its type, its size and the place of its content: 7 is a map, and 11 a
+-- list
 unfoldable pub content_from : Read → List ℕ → Bool → ℕ → ℕ → ℕ → ℕ → Budget → Found Tree
 content_from read section is_key at kind size place left =
-    if kind == 7 then (if is_key then Err (at, Key) else (members_from read size place left >>= λ found. Ok (map found.0, found.1, found.2)))
-    else if kind == 11 then (if is_key then Err (at, Key) else (items_from read size place left >>= λ found. Ok (list found.0, found.1, found.2)))
+    if kind == 7 then (if is_key then Err (at, Key)
+    else (members_from read size place left >>= λ found. Ok (map found.0, found.1, found.2)))
+    else if kind == 11 then (if is_key then Err (at, Key)
+    else (items_from read size place left >>= λ found. Ok (list found.0, found.1, found.2)))
     else leaf_from section is_key at kind size place left
 
 -- the value at a place that is no pointer
@@ -191,7 +235,8 @@ target_from read section is_key at control left = do
   pointer ← pointer_from section at control
   first ← byte_from section pointer.0 (at, OutOfSection)
   if is_pointer first then Err (pointer.0, PointerToPointer)
-      else (plain_from read section is_key pointer.0 left >>= λ found. Ok (found.0, pointer.1, found.2))
+      else (plain_from read section is_key pointer.0 left >>= λ found. Ok
+      (found.0, pointer.1, found.2))
 
 -- the value at a place, with so many levels left; a pointer and its target are one value
 unfoldable pub value_from : List ℕ → ℕ → Bool → ℕ → Budget → Found Tree
@@ -202,10 +247,12 @@ value_from section (suc levels) is_key at left = do
   if is_pointer control then target_from (value_from section levels) section is_key at control rest
       else plain_from (value_from section levels) section is_key at rest
 
--- the value at an offset of a section: at most 32 levels, 100,000 values, keys counted, and 67,108,864 bytes of texts, keys and byte strings
+-- the value at an offset of a section: at most 32 levels, 100,000 values, keys counted, and
+-- 67,108,864 bytes of texts, keys and byte strings
 unfoldable pub reads : List ℕ → ℕ → Result Tree Fault
 reads section at =
-    if nat_lt at (length section) then (value_from section 32 false at (left_of 100000 67108864) >>= λ found. Ok found.0)
+    if nat_lt at (length section) then
+    (value_from section 32 false at (left_of 100000 67108864) >>= λ found. Ok found.0)
     else Err (at, OutOfSection)
 
 -- What a function returned, seen by view, is what reading gives, unless memory ran out.

@@ -8,4 +8,8 @@ abbrev pub entry_view : Vec ℕ × ℕ → List ℕ × ℕ
 entry_view entry = (entry.0.items, entry.1)
 
 abbrev pub packed_of : Section → Packed
-packed_of section = record { bytes = section.bytes.items; full = map_list entry_view section.full.entries }
+packed_of section = record {
+  bytes = section.bytes.items;
+  full =
+      map_list entry_view section.full.entries;
+}

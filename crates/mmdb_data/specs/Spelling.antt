@@ -1,17 +1,23 @@
--- How a value is written (MaxMind DB 2.0, "Output Data Section"): the fewest size bytes, the fewest bytes of a number, no pointers.
-use Rattle.std.specs.Prelude.{ℕ, zero, suc, ◌+◌, ◌-◌, ◌*◌, nat_lt, if◌then◌else◌, Bool, true, false, List, [], ◌∷◌, ◌++◌, length}
+-- How a value is written (MaxMind DB 2.0, "Output Data Section"): the fewest size bytes, the fewest
+-- bytes of a number, no pointers.
+use Rattle.std.specs.Prelude.{ℕ, zero, suc, ◌+◌, ◌-◌, ◌*◌, nat_lt, if◌then◌else◌, Bool, true, false}
+use Rattle.std.specs.Prelude.{List, [], ◌∷◌, ◌++◌, length}
 use Rattle.std.specs.Int.{w32, bytes_high_first, cast_unsigned}
-use Rattle.mmdb_data.specs.Tree.{Tree, Members, Items, map, list, text, bytes, u16, u32, i32, u64, u128, bool, double, float, no_members, member, no_items, item, members_len, items_len}
+use Rattle.mmdb_data.specs.Tree.{Tree, Members, Items, map, list, text, bytes, u16, u32, i32, u64}
+use Rattle.mmdb_data.specs.Tree.{u128, bool, double, float, no_members, member, no_items, item}
+use Rattle.mmdb_data.specs.Tree.{members_len, items_len}
 
 -- the low five bits of the control byte: the size, or how many size bytes follow
 unfoldable pub size_code : ℕ → ℕ
-size_code size = if nat_lt size 29 then size else if nat_lt size 285 then 29 else if nat_lt size 65821 then 30 else 31
+size_code size = if nat_lt size 29 then size else if nat_lt size 285 then 29
+    else if nat_lt size 65821 then 30 else 31
 
 -- the size bytes, the highest first
 unfoldable pub size_bytes : ℕ → List ℕ
 size_bytes size =
     if nat_lt size 29 then [] else if nat_lt size 285 then bytes_high_first 1 (size - 29)
-    else if nat_lt size 65821 then bytes_high_first 2 (size - 285) else bytes_high_first 3 (size - 65821)
+    else if nat_lt size 65821 then bytes_high_first 2 (size - 285)
+    else bytes_high_first 3 (size - 65821)
 
 -- the control byte, and for a type from 8 on the byte that tells it
 unfoldable pub kind_bytes : ℕ → ℕ → List ℕ
@@ -51,7 +57,8 @@ abbrev mutual
 
   pub members_spelling : Members → List ℕ
   members_spelling no_members = []
-  members_spelling (member key value members) = sized 2 key ++ (spelling value ++ members_spelling members)
+  members_spelling (member key value members) =
+      sized 2 key ++ (spelling value ++ members_spelling members)
 
   pub items_spelling : Items → List ℕ
   items_spelling no_items = []

@@ -1,5 +1,7 @@
--- What a value of the data section stands for (MaxMind DB 2.0, "Output Data Section"), with lists in place of the vectors.
-use Rattle.std.specs.Prelude.{◌≡◌, ◌≤◌, ◌<◌, ℕ, suc, ◌+◌, ◌^◌, max, ℤ, Bool, true, ◌&&◌, nat_lt, nat_le, ◌-◌, List, length, FitsSigned}
+-- What a value of the data section stands for (MaxMind DB 2.0, "Output Data Section"), with lists
+-- in place of the vectors.
+use Rattle.std.specs.Prelude.{◌≡◌, ◌≤◌, ◌<◌, ℕ, suc, ◌+◌, ◌^◌, max, ℤ, Bool, true, ◌&&◌, nat_lt}
+use Rattle.std.specs.Prelude.{nat_le, ◌-◌, List, length, FitsSigned}
 use Rattle.std.specs.Int.{w32}
 use Rattle.std.specs.Str.{IsUtf8}
 
@@ -59,7 +61,8 @@ abbrev mutual
   items_count no_items = 0
   items_count (item value items) = count value + items_count items
 
--- how deep values are nested: the outermost is 1, and keys and values of a map and members of a list are one deeper
+-- how deep values are nested: the outermost is 1, and keys and values of a map and members of a
+-- list are one deeper
 abbrev mutual
   pub depth : Tree → ℕ
   depth (map members) = suc (members_depth members)
@@ -133,7 +136,8 @@ abbrev mutual
 
   pub MembersAreNarrow : Members → Type 0
   MembersAreNarrow no_members = Unit {0}
-  MembersAreNarrow (member key value members) = (length key ≤ most) × IsNarrow value × MembersAreNarrow members
+  MembersAreNarrow (member key value members) =
+      (length key ≤ most) × IsNarrow value × MembersAreNarrow members
 
   pub ItemsAreNarrow : Items → Type 0
   ItemsAreNarrow no_items = Unit {0}
@@ -146,8 +150,10 @@ CanBeSpelled value = IsNarrow value × (depth value ≤ 32)
 -- the same as a test, with so many levels left
 abbrev mutual
   pub fits_in : Tree → ℕ → Bool
-  fits_in (map members) levels = nat_lt 0 levels && (nat_le (members_len members) most && members_fit members (levels - 1))
-  fits_in (list items) levels = nat_lt 0 levels && (nat_le (items_len items) most && items_fit items (levels - 1))
+  fits_in (map members) levels =
+      nat_lt 0 levels && (nat_le (members_len members) most && members_fit members (levels - 1))
+  fits_in (list items) levels =
+      nat_lt 0 levels && (nat_le (items_len items) most && items_fit items (levels - 1))
   fits_in (text content) levels = nat_lt 0 levels && nat_le (length content) most
   fits_in (bytes content) levels = nat_lt 0 levels && nat_le (length content) most
   fits_in (u16 n) levels = nat_lt 0 levels
@@ -161,7 +167,9 @@ abbrev mutual
 
   pub members_fit : Members → ℕ → Bool
   members_fit no_members levels = true
-  members_fit (member key value members) levels = nat_lt 0 levels && (nat_le (length key) most && (fits_in value levels && members_fit members levels))
+  members_fit (member key value members) levels =
+      nat_lt 0 levels && (nat_le (length key) most
+      && (fits_in value levels && members_fit members levels))
 
   pub items_fit : Items → ℕ → Bool
   items_fit no_items levels = true

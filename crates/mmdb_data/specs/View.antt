@@ -1,6 +1,7 @@
 -- The tree that a `Value` stands for, and what `Left` says may still be spent.
 use Rattle.std.specs.Prelude.{ℕ, List, [], ◌∷◌, map as map_list}
-use Rattle.mmdb_data.specs.Tree.{Tree, Members, Items, map, list, text, bytes, u16, u32, i32, u64, u128, bool, double, float, no_members, member, no_items, item}
+use Rattle.mmdb_data.specs.Tree.{Tree, Members, Items, map, list, text, bytes, u16, u32, i32, u64}
+use Rattle.mmdb_data.specs.Tree.{u128, bool, double, float, no_members, member, no_items, item}
 use Rattle.mmdb_data.specs.declared.value.Value.{Value, fold-Value}
 use Rattle.mmdb_data.specs.declared.value.Value.TheOpen.{Value-F}
 use Rattle.mmdb_data.specs.declared.budget.Left.{Left}

@@ -11,6 +11,13 @@ split_at-requires c =
 
 pub loop-place-preserved : goal.loop-place-preserved
 loop-place-preserved c =
-    merged_step c.args.sources.now c.args.url.now c.args.entries.now c.loop-place.left.now c.loop-place.place c.count_before.result c.index-entries-place.result c.loop-place.verdicts.items c.push_notes.new.verdicts.items
-    c.push.new.self.items _ c.split_at.result.0.now c.split_at.result.1.now c.in_ok-entry_verdict.field-0 (read_at c.args.entries.now c.loop-place.place c.index-entries-place.result c.loop-place-test.true c.index-entries-place.is) c.count_before.ensures c.split_at.ensures.front c.split_at.ensures.back
-    c.in_ok-push_notes.ensures c.in_ok-push.ensures.items c.in_ok-entry_verdict.ensures c.loop-place.invariant
+    merged_step c.args.sources.now c.args.url.now c.args.entries.now c.loop-place.left.now
+    c.loop-place.place c.count_before.result c.index-entries-place.result
+    c.loop-place.verdicts.items c.push_notes.new.verdicts.items
+    c.push.new.self.items _ c.split_at.result.0.now c.split_at.result.1.now
+    c.in_ok-entry_verdict.field-0
+    (read_at c.args.entries.now c.loop-place.place c.index-entries-place.result
+    c.loop-place-test.true c.index-entries-place.is) c.count_before.ensures
+    c.split_at.ensures.front c.split_at.ensures.back
+    c.in_ok-push_notes.ensures c.in_ok-push.ensures.items c.in_ok-entry_verdict.ensures
+    c.loop-place.invariant

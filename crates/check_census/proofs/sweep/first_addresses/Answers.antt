@@ -12,12 +12,18 @@ pub returns : goal.returns
 returns c =
     let s = c.args.sources.now in
     let f = c.args.feed.now in
-    let url : c.as_str-url.result.now ≡ c.args.feed.now.url = c.as_str-url.ensures ∙ ap (λ (g : FeedParts). g.url) c.feed.view_is in
-    let entries : c.as_slice-entries.result.now ≡ c.args.feed.now.entries = c.as_slice-entries.ensures ∙ ap (λ (g : FeedParts). g.entries) c.feed.view_is in
+    let url : c.as_str-url.result.now ≡ c.args.feed.now.url =
+    c.as_str-url.ensures ∙ ap (λ (g : FeedParts). g.url) c.feed.view_is in
+    let entries : c.as_slice-entries.result.now ≡ c.args.feed.now.entries =
+    c.as_slice-entries.ensures ∙ ap (λ (g : FeedParts). g.entries) c.feed.view_is in
     let lines : c.as_slice.result.now ≡ map (λ (e : Entry). e.line) c.args.feed.now.entries =
     c.as_slice.ensures.value ∙ c.in_ok-lines.ensures ∙ ap (map (λ (e : Entry). e.line)) entries in
-    c.in_ok-firsts.ensures ∙ ap (λ (u : List ℕ). swept s u c.as_slice.result.now c.as_slice-2.result.now) url ∙ ap (λ (ls : List ℕ). swept s f.url ls c.as_slice-2.result.now) lines
+    c.in_ok-firsts.ensures ∙ ap (λ
+    (u : List ℕ). swept s u c.as_slice.result.now c.as_slice-2.result.now) url
+    ∙ ap (λ (ls : List ℕ). swept s f.url ls c.as_slice-2.result.now) lines
     ∙ ap (swept s f.url (map (λ (e : Entry). e.line) f.entries)) c.as_slice-2.ensures.value
     ∙ swept_all s f c.requires (map (λ (e : Entry). e.line) f.entries) c.in_ok-places.places.items
-    (subst (λ (es : List Entry). AreCuts (hearing_ranges s es) all_addresses c.in_ok-places.places.items) entries c.in_ok-places.ensures.exact) c.in_ok-places.ensures.ascending
+    (subst (λ (es : List Entry). AreCuts
+    (hearing_ranges s es) all_addresses c.in_ok-places.places.items) entries
+    c.in_ok-places.ensures.exact) c.in_ok-places.ensures.ascending
     ∙ map_map (first_heard s f.url) (λ (e : Entry). e.line) f.entries

@@ -7,16 +7,23 @@ use Rattle.check_census.proofs.sweep.mark.Goals as goal
 
 pub returns-in_default : goal.returns-in_default
 returns-in_default c =
-    sym (ap (λ h. marked h c.args.at c.args.lines.now c.args.firsts.now.items) c.in_default.is ∙ marked_none c.args.at c.args.lines.now c.args.firsts.now.items c.requires.long)
+    sym (ap (λ h. marked h c.args.at c.args.lines.now c.args.firsts.now.items) c.in_default.is
+    ∙ marked_none c.args.at c.args.lines.now c.args.firsts.now.items c.requires.long)
 
 pub returns-in_default-binary_search : goal.returns-in_default-binary_search
 returns-in_default-binary_search c =
-    unmarked_by c.args.heard c.in-Some.line c.args.at c.in_default-binary_search.field-0 c.args.lines.now c.args.firsts.now.items c.requires.lines c.requires.long c.in-Some.is c.in_default-binary_search.ensures.position
+    unmarked_by c.args.heard c.in-Some.line c.args.at c.in_default-binary_search.field-0
+    c.args.lines.now c.args.firsts.now.items c.requires.lines c.requires.long c.in-Some.is
+    c.in_default-binary_search.ensures.position
 
 pub returns : goal.returns
 returns c =
-    let place = found_by c.args.lines.now c.requires.lines c.in-Some.line c.in-Ok.place c.in-Ok.ensures.position in
+    let place = found_by c.args.lines.now c.requires.lines c.in-Some.line c.in-Ok.place
+    c.in-Ok.ensures.position in
     let long = c.requires.long in
     let within = place.0 in
-    marked_by c.args.heard c.in-Some.line c.args.at c.in-Ok.place c.args.lines.now c.args.firsts.now.items c.index.result.now c.earlier.result c.requires.lines c.requires.long c.in-Some.is c.in-Ok.ensures.position
-    (read_at c.args.firsts.now.items c.in-Ok.place c.index.result.now (omega arith) c.index.ensures) c.earlier.ensures
+    marked_by c.args.heard c.in-Some.line c.args.at c.in-Ok.place c.args.lines.now
+    c.args.firsts.now.items c.index.result.now c.earlier.result c.requires.lines c.requires.long
+    c.in-Some.is c.in-Ok.ensures.position
+    (read_at c.args.firsts.now.items c.in-Ok.place c.index.result.now (omega arith) c.index.ensures)
+    c.earlier.ensures

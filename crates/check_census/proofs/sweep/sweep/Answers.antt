@@ -8,6 +8,11 @@ use Rattle.check_census.proofs.sweep.sweep.Goals as goal
 
 pub loop-place-preserved : goal.loop-place-preserved
 loop-place-preserved c =
-    sweep_step c.args.sources.now c.args.url.now c.args.lines.now c.args.places.now c.loop-place.place-index c.loop-place.firsts.items c.mark.new.firsts.items c.heard_line-heard.result
-    (swept c.args.sources.now c.args.url.now c.args.lines.now c.args.places.now) c.loop-place-test.true
-    (c.heard_line-heard.ensures ∙ ap (λ (w : Reasons). line_for c.args.url.now w.speaker w.entry) c.why_at.ensures) c.mark.ensures c.loop-place.invariant
+    sweep_step c.args.sources.now c.args.url.now c.args.lines.now c.args.places.now
+    c.loop-place.place-index c.loop-place.firsts.items c.mark.new.firsts.items
+    c.heard_line-heard.result
+    (swept c.args.sources.now c.args.url.now c.args.lines.now c.args.places.now)
+    c.loop-place-test.true
+    (c.heard_line-heard.ensures ∙ ap
+    (λ (w : Reasons). line_for c.args.url.now w.speaker w.entry) c.why_at.ensures)
+    c.mark.ensures c.loop-place.invariant

@@ -10,5 +10,7 @@ pub returns-clause-end : goal.returns-clause-end
 returns-clause-end c =
     let key : Key = record { url = c.args.url.now; family = c.args.family; first = c.args.first } in
     end_found c.args.refs.now key c.partition_point.result c.partition_point.ensures.bound
-    (IsPartitionPoint-from_clause (λ (r : Reference). not (is_lt (key_cmp key (key_of r)))) c.args.refs.now c.partition_point.result c.partition_point.ensures.partitioned
+    (IsPartitionPoint-from_clause
+    (λ (r : Reference). not (is_lt (key_cmp key (key_of r)))) c.args.refs.now
+    c.partition_point.result c.partition_point.ensures.partitioned
     (parted c.args.refs.now key c.requires) (λ a r q k. search rules))

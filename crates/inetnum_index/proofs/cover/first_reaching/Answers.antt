@@ -12,6 +12,11 @@ loop-place-preserved c =
     let within : c.in-Some.place < length c.args.refs.now = omega arith in
     record {
       within = omega arith;
-      first = first_step c.args.url.now c.args.family c.args.last c.args.refs.now (option_copied c.loop-place.first) c.index-refs-place.result c.better.result.now c.args.end c.loop-place.left c.in-Some.place c.loop-place.invariant.first c.in-Some.ensures.near left
-          (slice_get_read c.args.refs.now (length c.args.refs.now) c.in-Some.place c.index-refs-place.result refl within c.index-refs-place.is) c.better.ensures;
+      first = first_step c.args.url.now c.args.family c.args.last c.args.refs.now
+          (option_copied c.loop-place.first) c.index-refs-place.result c.better.result.now
+          c.args.end c.loop-place.left c.in-Some.place c.loop-place.invariant.first
+          c.in-Some.ensures.near left
+          (slice_get_read c.args.refs.now
+          (length c.args.refs.now) c.in-Some.place c.index-refs-place.result refl within
+          c.index-refs-place.is) c.better.ensures;
     }

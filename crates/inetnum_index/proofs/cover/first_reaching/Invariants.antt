@@ -4,7 +4,11 @@ use Rattle.inetnum_index.specs.Links.{IsFirstReaching}
 use Rattle.inetnum_index.proofs.cover.first_reaching.Given as goal
 
 abbrev pub invariant-loop-place : goal.invariant-loop-place
-invariant-loop-place l = record { within : l.left ≤ l.end; first : IsFirstReaching l.url l.family l.last l.refs l.left l.end (option_copied l.first) }
+invariant-loop-place l = record {
+  within : l.left ≤ l.end;
+  first : IsFirstReaching l.url l.family l.last l.refs l.left l.end
+      (option_copied l.first);
+}
 
 abbrev pub decreases-loop-place : goal.decreases-loop-place
 decreases-loop-place l = l.left

@@ -20,8 +20,14 @@ loop-place-preserved c =
     let m : c.min-left.result ≡ min l.outer c.in-Some.place = c.min-left.ensures in
     record {
       within = omega arith;
-      none = subst (λ n. NoneReaches c.args.url.now c.args.family c.args.last c.args.refs.now n c.args.end) (sym m)
-          (nearest_step c.args.url.now c.args.family c.args.last c.args.refs.now c.args.links.now c.index-refs-place.result l c.args.end c.loop-place.left c.in-Some.place c.requires.links c.loop-place.invariant.none next
-          (slice_get_read c.args.refs.now (length c.args.refs.now) c.in-Some.place c.index-refs-place.result refl within c.index-refs-place.is) (slice_get-get_or c.args.links.now c.in-Some.place (record { reach = 0; outer = 0 }) in_links)
+      none = subst (λ n. NoneReaches c.args.url.now c.args.family c.args.last c.args.refs.now n
+          c.args.end) (sym m)
+          (nearest_step c.args.url.now c.args.family c.args.last c.args.refs.now c.args.links.now
+          c.index-refs-place.result l c.args.end c.loop-place.left c.in-Some.place
+          c.requires.links c.loop-place.invariant.none next
+          (slice_get_read c.args.refs.now
+          (length c.args.refs.now) c.in-Some.place c.index-refs-place.result refl within
+          c.index-refs-place.is) (slice_get-get_or c.args.links.now c.in-Some.place
+          (record { reach = 0; outer = 0 }) in_links)
           (sym c.if-not-is_of.ensures) lt);
     }

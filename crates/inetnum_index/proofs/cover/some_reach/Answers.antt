@@ -1,4 +1,5 @@
-use Rattle.std.proofs.Common.{◌≡◌, ◌<◌, ◌≤◌, ◌∙◌, ◌+◌, ◌&&◌, Bool, false, leb, arith, get_or, length, refl, sym, ap}
+use Rattle.std.proofs.Common.{◌≡◌, ◌<◌, ◌≤◌, ◌∙◌, ◌+◌, ◌&&◌, Bool, false, leb, arith, get_or}
+use Rattle.std.proofs.Common.{length, refl, sym, ap}
 use Rattle.std.proofs.lemmas.Bool.Decides.{nat_tests}
 use Rattle.std.proofs.lemmas.Option.{slice_get_read, slice_get-get_or}
 use Rattle.inetnum_index.specs.declared.links.Link.{Link}
@@ -13,8 +14,13 @@ returns-then-is_of c =
     let linked : length c.args.links.now ≡ length c.args.refs.now = c.requires.linked in
     let in_links : c.in-Some.place < length c.args.links.now = omega arith in
     let l : Link = get_or c.args.links.now c.in-Some.place (record { reach = 0; outer = 0 }) in
-    tells_some c.args.url.now c.args.family c.args.last c.args.refs.now c.args.links.now c.index-refs-place.result l c.args.end c.in-Some.place (leb c.args.last l.reach) c.requires.links c.requires.grouped next
-    (slice_get_read c.args.refs.now (length c.args.refs.now) c.in-Some.place c.index-refs-place.result refl within c.index-refs-place.is) (slice_get-get_or c.args.links.now c.in-Some.place (record { reach = 0; outer = 0 }) in_links)
+    tells_some c.args.url.now c.args.family c.args.last c.args.refs.now c.args.links.now
+    c.index-refs-place.result l c.args.end c.in-Some.place
+    (leb c.args.last l.reach) c.requires.links c.requires.grouped next
+    (slice_get_read c.args.refs.now
+    (length c.args.refs.now) c.in-Some.place c.index-refs-place.result refl within
+    c.index-refs-place.is) (slice_get-get_or c.args.links.now c.in-Some.place
+    (record { reach = 0; outer = 0 }) in_links)
     (ap (λ (b : Bool). b && leb c.args.last l.reach) c.if-is_of.ensures)
 
 pub returns-else-is_of : goal.returns-else-is_of
@@ -26,6 +32,11 @@ returns-else-is_of c =
     let in_links : c.in-Some.place < length c.args.links.now = omega arith in
     let l : Link = get_or c.args.links.now c.in-Some.place (record { reach = 0; outer = 0 }) in
     let none : c.is_of.result ≡ false = c.is_of.ensures ∙ sym c.if-is_of.ensures in
-    tells_some c.args.url.now c.args.family c.args.last c.args.refs.now c.args.links.now c.index-refs-place.result l c.args.end c.in-Some.place c.is_of.result c.requires.links c.requires.grouped next
-    (slice_get_read c.args.refs.now (length c.args.refs.now) c.in-Some.place c.index-refs-place.result refl within c.index-refs-place.is) (slice_get-get_or c.args.links.now c.in-Some.place (record { reach = 0; outer = 0 }) in_links)
+    tells_some c.args.url.now c.args.family c.args.last c.args.refs.now c.args.links.now
+    c.index-refs-place.result l c.args.end c.in-Some.place c.is_of.result c.requires.links
+    c.requires.grouped next
+    (slice_get_read c.args.refs.now
+    (length c.args.refs.now) c.in-Some.place c.index-refs-place.result refl within
+    c.index-refs-place.is) (slice_get-get_or c.args.links.now c.in-Some.place
+    (record { reach = 0; outer = 0 }) in_links)
     (none ∙ ap (λ (b : Bool). b && leb c.args.last l.reach) c.if-is_of.ensures)

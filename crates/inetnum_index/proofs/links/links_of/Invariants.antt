@@ -3,4 +3,5 @@ use Rattle.inetnum_index.specs.Links.{AreLinks}
 use Rattle.inetnum_index.proofs.links.links_of.Given as goal
 
 abbrev pub invariant-loop-place : goal.invariant-loop-place
-invariant-loop-place l = record { made : length l.links.items ≡ l.place; links : AreLinks l.refs l.links.items }
+invariant-loop-place l = record
+    { made : length l.links.items ≡ l.place; links : AreLinks l.refs l.links.items }

@@ -10,7 +10,8 @@ unfolding reads
 returns-clause-shallow c =
     let section = c.args.section.now in
     let inside = lt-ltb c.args.at (length section) (omega arith) in
-    let found : reads section c.args.at ≡ Ok (tree c.in_ok-value.value) = rw (inside, c.in_ok-value.ensures.gives) refl in
+    let found : reads section c.args.at ≡ Ok (tree c.in_ok-value.value) =
+    rw (inside, c.in_ok-value.ensures.gives) refl in
     (are_bounded section c.args.at (tree c.in_ok-value.value) found).0
 
 pub returns-clause-few : goal.returns-clause-few
@@ -18,7 +19,8 @@ unfolding reads
 returns-clause-few c =
     let section = c.args.section.now in
     let inside = lt-ltb c.args.at (length section) (omega arith) in
-    let found : reads section c.args.at ≡ Ok (tree c.in_ok-value.value) = rw (inside, c.in_ok-value.ensures.gives) refl in
+    let found : reads section c.args.at ≡ Ok (tree c.in_ok-value.value) =
+    rw (inside, c.in_ok-value.ensures.gives) refl in
     (are_bounded section c.args.at (tree c.in_ok-value.value) found).1
 
 pub returns-clause-light : goal.returns-clause-light
@@ -26,5 +28,6 @@ unfolding reads
 returns-clause-light c =
     let section = c.args.section.now in
     let inside = lt-ltb c.args.at (length section) (omega arith) in
-    let found : reads section c.args.at ≡ Ok (tree c.in_ok-value.value) = rw (inside, c.in_ok-value.ensures.gives) refl in
+    let found : reads section c.args.at ≡ Ok (tree c.in_ok-value.value) =
+    rw (inside, c.in_ok-value.ensures.gives) refl in
     (are_bounded section c.args.at (tree c.in_ok-value.value) found).2

@@ -11,11 +11,15 @@ unfolding text_from
 returns-in_ok-of-in-Ok-clause-gives c =
     let content = c.in_ok-content.content.now in
     let found = c.in-Ok.ensures.cases in
-    rw (c.in_ok-content.ensures.gives, is_utf8-from_IsUtf8 content found.1) (ap (λ (x : List ℕ). Ok (x, budget c.in_ok-content.left)) (sym found.0 ∙ sym c.in_ok-of-in-Ok.ensures))
+    rw (c.in_ok-content.ensures.gives, is_utf8-from_IsUtf8 content found.1)
+    (ap (λ (x : List ℕ). Ok (x, budget c.in_ok-content.left))
+    (sym found.0 ∙ sym c.in_ok-of-in-Ok.ensures))
 
 pub returns-in-Err-clause-gives : goal.returns-in-Err-clause-gives
 unfolding text_from
 returns-in-Err-clause-gives c =
     let content = c.in_ok-content.content.now in
-    let fails : is_utf8 content ≡ false = false_from_ne_true (is_utf8 content) (λ e. c.in-Err.ensures.cases.0 (IsUtf8-from_is_utf8 content e)) in
+    let fails : is_utf8 content ≡ false =
+    false_from_ne_true (is_utf8 content)
+    (λ e. c.in-Err.ensures.cases.0 (IsUtf8-from_is_utf8 content e)) in
     rw (c.bad.ensures, c.in_ok-content.ensures.gives, fails) refl

@@ -4,53 +4,74 @@ use Rattle.mmdb_data.specs.Tree.{IsNarrow}
 use Rattle.mmdb_data.specs.View.{tree, items_view, members_view}
 use Rattle.mmdb_data.specs.Section.{packed_of}
 use Rattle.mmdb_data.proofs.Views.{tree-Map, tree-List, len-members_view, len-items_view}
-use Rattle.mmdb_data.proofs.Appending.{map_packed, list_packed, known_full, still_unknown, new_full, kept_either}
+use Rattle.mmdb_data.proofs.Appending.{map_packed, list_packed, known_full, still_unknown, new_full}
+use Rattle.mmdb_data.proofs.Appending.{kept_either}
 use Rattle.mmdb_data.proofs.packing.+packing.Goals as goal
 
-pub append_content-append_head-requires-clause-narrow : goal.append_content-append_head-requires-clause-narrow
+pub append_content-append_head-requires-clause-narrow
+    : goal.append_content-append_head-requires-clause-narrow
 append_content-append_head-requires-clause-narrow t c =
     let pairs = c.in-Map.pairs in
     let narrow = subst IsNarrow (ap tree c.in-Map.is ∙ tree-Map pairs) c.requires.narrow in
     omega (arith, narrow.0, len-members_view pairs.items, pairs.ok.0)
 
-pub append_content-append_head-requires-in-List-clause-narrow : goal.append_content-append_head-requires-in-List-clause-narrow
+pub append_content-append_head-requires-in-List-clause-narrow
+    : goal.append_content-append_head-requires-in-List-clause-narrow
 append_content-append_head-requires-in-List-clause-narrow t c =
     let values = c.in-List.values in
     let narrow = subst IsNarrow (ap tree c.in-List.is ∙ tree-List values) c.requires.narrow in
     omega (arith, narrow.0, len-items_view values.items, values.ok.0)
 
-pub append_content-returns-in_ok-append_head-in-Map-clause-appended : goal.append_content-returns-in_ok-append_head-in-Map-clause-appended
+pub append_content-returns-in_ok-append_head-in-Map-clause-appended
+    : goal.append_content-returns-in_ok-append_head-in-Map-clause-appended
 append_content-returns-in_ok-append_head-in-Map-clause-appended t c =
     let pairs = c.in-Map.pairs in
-    rw (c.in-Map.is, tree-Map pairs) (map_packed c.append_members.result _ (packed_of c.append_head.new.self) _ c.len.result (members_view pairs.items) (c.len.ensures ∙ pairs.ok.0 ∙ sym (len-members_view pairs.items)) c.in_ok-append_head-in-Map.ensures.appended
+    rw (c.in-Map.is, tree-Map pairs)
+    (map_packed c.append_members.result _ (packed_of c.append_head.new.self) _ c.len.result
+    (members_view pairs.items) (c.len.ensures ∙ pairs.ok.0 ∙ sym (len-members_view pairs.items))
+    c.in_ok-append_head-in-Map.ensures.appended
     (rw c.deref.ensures.value at c.append_members.ensures.appended))
 
-pub append_content-returns-in_ok-append_head-in-List-clause-appended : goal.append_content-returns-in_ok-append_head-in-List-clause-appended
+pub append_content-returns-in_ok-append_head-in-List-clause-appended
+    : goal.append_content-returns-in_ok-append_head-in-List-clause-appended
 append_content-returns-in_ok-append_head-in-List-clause-appended t c =
     let values = c.in-List.values in
-    rw (c.in-List.is, tree-List values) (list_packed c.append_items.result _ (packed_of c.append_head-in-List.new.self) _ c.len-in-List.result (items_view values.items) (c.len-in-List.ensures ∙ values.ok.0 ∙ sym (len-items_view values.items)) c.in_ok-append_head-in-List.ensures.appended
+    rw (c.in-List.is, tree-List values)
+    (list_packed c.append_items.result _
+    (packed_of c.append_head-in-List.new.self) _ c.len-in-List.result (items_view values.items)
+    (c.len-in-List.ensures ∙ values.ok.0 ∙ sym (len-items_view values.items))
+    c.in_ok-append_head-in-List.ensures.appended
     (rw c.deref-in-List.ensures.value at c.append_items.ensures.appended))
 
-pub append_full-returns-then-is_known-clause-appended : goal.append_full-returns-then-is_known-clause-appended
+pub append_full-returns-then-is_known-clause-appended
+    : goal.append_full-returns-then-is_known-clause-appended
 append_full-returns-then-is_known-clause-appended t c =
-    known_full c.append_content.result (tree c.args.value.now) _ _ (sym c.requires.known ∙ c.if-is_known.true) c.append_content.ensures.appended
+    known_full c.append_content.result (tree c.args.value.now) _ _
+    (sym c.requires.known ∙ c.if-is_known.true) c.append_content.ensures.appended
 
 pub append_full-note-requires : goal.append_full-note-requires
 append_full-note-requires t c =
-    still_unknown (tree c.args.value.now) (packed_of c.args.section.now) (packed_of c.append_content-2.new.section) c.in_ok-spelled.spelled.items
-    (each_same c.args.section.now.piece.items c.in_ok-spelled.spelled.items c.in_ok-spelled.ensures.cases.0 ∙ c.requires.spelled)
+    still_unknown (tree c.args.value.now) (packed_of c.args.section.now)
+    (packed_of c.append_content-2.new.section) c.in_ok-spelled.spelled.items
+    (each_same c.args.section.now.piece.items c.in_ok-spelled.spelled.items
+    c.in_ok-spelled.ensures.cases.0 ∙ c.requires.spelled)
     c.in_ok-append_content.ensures.appended
     (sym c.requires.known ∙ c.if-is_known.false)
 
 pub append_full-returns-clause-appended : goal.append_full-returns-clause-appended
 append_full-returns-clause-appended t c =
-    new_full c.note.result (tree c.args.value.now) (packed_of c.note.new.self) (packed_of c.append_content-2.new.section) (packed_of c.args.section.now) c.in_ok-spelled.spelled.items c.len-at.result
-    (each_same c.args.section.now.piece.items c.in_ok-spelled.spelled.items c.in_ok-spelled.ensures.cases.0 ∙ c.requires.spelled)
+    new_full c.note.result (tree c.args.value.now) (packed_of c.note.new.self)
+    (packed_of c.append_content-2.new.section)
+    (packed_of c.args.section.now) c.in_ok-spelled.spelled.items c.len-at.result
+    (each_same c.args.section.now.piece.items c.in_ok-spelled.spelled.items
+    c.in_ok-spelled.ensures.cases.0 ∙ c.requires.spelled)
     (c.len-at.ensures ∙ c.args.section.now.bytes.ok.0)
     c.in_ok-append_content.ensures.appended
     c.note.ensures.noted
 
 pub append_full-returns-clause-kept : goal.append_full-returns-clause-kept
 append_full-returns-clause-kept t c =
-    kept_either c.note.result (packed_of c.args.section.now) (packed_of c.append_content-2.new.section) (packed_of c.note.new.self) c.in_ok-spelled.spelled.items c.len-at.result
+    kept_either c.note.result (packed_of c.args.section.now)
+    (packed_of c.append_content-2.new.section)
+    (packed_of c.note.new.self) c.in_ok-spelled.spelled.items c.len-at.result
     c.in_ok-append_content.ensures.kept c.note.ensures.noted c.note.ensures.refused

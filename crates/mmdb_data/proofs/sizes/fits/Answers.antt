@@ -4,4 +4,7 @@ use Rattle.mmdb_data.proofs.Fine.{fits_means, fits_when}
 use Rattle.mmdb_data.proofs.sizes.fits.Goals as goal
 
 pub returns : goal.returns
-returns c = (λ e. fits_means (tree c.args.value.now) (sym c.fits_within.ensures ∙ e), λ can. c.fits_within.ensures ∙ fits_when (tree c.args.value.now) can)
+returns c = (
+  λ e. fits_means (tree c.args.value.now) (sym c.fits_within.ensures ∙ e),
+  λ can. c.fits_within.ensures ∙ fits_when (tree c.args.value.now) can,
+)

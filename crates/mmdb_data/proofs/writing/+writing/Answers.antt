@@ -11,20 +11,29 @@ put_value-put_head-requires-clause-narrow t c =
     let narrow = subst IsNarrow (ap tree c.in-Map.is ∙ tree-Map pairs) c.requires in
     omega (arith, narrow.0, len-members_view pairs.items, pairs.ok.0)
 
-pub put_value-put_head-requires-in-List-clause-narrow : goal.put_value-put_head-requires-in-List-clause-narrow
+pub put_value-put_head-requires-in-List-clause-narrow
+    : goal.put_value-put_head-requires-in-List-clause-narrow
 put_value-put_head-requires-in-List-clause-narrow t c =
     let values = c.in-List.values in
     let narrow = subst IsNarrow (ap tree c.in-List.is ∙ tree-List values) c.requires in
     omega (arith, narrow.0, len-items_view values.items, values.ok.0)
 
-pub put_value-returns-in_ok-put_head-in-Map-clause-spelled : goal.put_value-returns-in_ok-put_head-in-Map-clause-spelled
+pub put_value-returns-in_ok-put_head-in-Map-clause-spelled
+    : goal.put_value-returns-in_ok-put_head-in-Map-clause-spelled
 put_value-returns-in_ok-put_head-in-Map-clause-spelled t c =
     let pairs = c.in-Map.pairs in
-    rw (c.in-Map.is, tree-Map pairs) (map_written c.put_members.result _ c.put_head.new.out.items _ c.len.result (members_view pairs.items) (c.len.ensures ∙ pairs.ok.0 ∙ sym (len-members_view pairs.items)) c.in_ok-put_head-in-Map.ensures
+    rw (c.in-Map.is, tree-Map pairs)
+    (map_written c.put_members.result _ c.put_head.new.out.items _ c.len.result
+    (members_view pairs.items) (c.len.ensures ∙ pairs.ok.0 ∙ sym (len-members_view pairs.items))
+    c.in_ok-put_head-in-Map.ensures
     (rw c.deref.ensures.value at c.put_members.ensures.spelled))
 
-pub put_value-returns-in_ok-put_head-in-List-clause-spelled : goal.put_value-returns-in_ok-put_head-in-List-clause-spelled
+pub put_value-returns-in_ok-put_head-in-List-clause-spelled
+    : goal.put_value-returns-in_ok-put_head-in-List-clause-spelled
 put_value-returns-in_ok-put_head-in-List-clause-spelled t c =
     let values = c.in-List.values in
-    rw (c.in-List.is, tree-List values) (list_written c.put_items.result _ c.put_head-in-List.new.out.items _ c.len-in-List.result (items_view values.items) (c.len-in-List.ensures ∙ values.ok.0 ∙ sym (len-items_view values.items)) c.in_ok-put_head-in-List.ensures
+    rw (c.in-List.is, tree-List values)
+    (list_written c.put_items.result _ c.put_head-in-List.new.out.items _ c.len-in-List.result
+    (items_view values.items) (c.len-in-List.ensures ∙ values.ok.0
+    ∙ sym (len-items_view values.items)) c.in_ok-put_head-in-List.ensures
     (rw c.deref-in-List.ensures.value at c.put_items.ensures.spelled))

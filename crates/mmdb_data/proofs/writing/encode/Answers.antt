@@ -15,5 +15,9 @@ returns-clause-read_back c =
     let spelled = c.in_ok-put_value.ensures.spelled in
     let empty = c.in_ok-spelled.ensures.items in
     let typed = c.in_ok-put_value.ensures.typed in
-    let is : c.extend_from_slice.new.self.items ≡ before ++ spelling value = whole ∙ ap (λ (x : List ℕ). before ++ x) (from ∙ spelled ∙ ap (λ (x : List ℕ). x ++ spelling value) empty) in
-    ap (λ (x : List ℕ). reads (x ++ after) (length before)) is ∙ ap (λ (s : List ℕ). reads s (length before)) (append_assoc before (spelling value) after) ∙ is_read_again value before after c.requires typed within
+    let is : c.extend_from_slice.new.self.items ≡ before ++ spelling value =
+    whole ∙ ap (λ (x : List ℕ). before ++ x)
+    (from ∙ spelled ∙ ap (λ (x : List ℕ). x ++ spelling value) empty) in
+    ap (λ (x : List ℕ). reads (x ++ after) (length before)) is
+    ∙ ap (λ (s : List ℕ). reads s (length before)) (append_assoc before (spelling value) after)
+    ∙ is_read_again value before after c.requires typed within

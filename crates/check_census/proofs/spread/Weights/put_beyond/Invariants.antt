@@ -12,7 +12,8 @@ invariant-loop-depth l = record {
   low : height (meaning l.store l.rec) ≤ 128 - l.depth;
   weights : AreWeights l.store (length l.fn.self.ended.items) l.self;
   put : (test : ℕ → Bool) → IsPlain (length l.fn.self.ended.items) test
-      → sum_of test l.store l.self + tally_beyond test 32 (96 - l.depth) (meaning l.store l.rec) ≡ tally_beyond test 32 96 (meaning l.store l.fn.rec);
+      → sum_of test l.store l.self + tally_beyond test 32 (96 - l.depth)
+      (meaning l.store l.rec) ≡ tally_beyond test 32 96 (meaning l.store l.fn.rec);
   room : sum_of every l.store l.self + 2 ^ (128 - l.depth) ≡ 2 ^ 128;
   rest : low_part (96 - l.depth) (meaning l.store l.rec) ≡ low_part 96 (meaning l.store l.fn.rec);
 }

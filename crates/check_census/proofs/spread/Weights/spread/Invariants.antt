@@ -7,7 +7,8 @@ abbrev pub invariant-loop-number : goal.invariant-loop-number
 invariant-loop-number l = record {
   within : l.number ≤ length l.store;
   weights : AreWeights l.store (length l.fn.self.ended.items) l.self;
-  same : (test : ℕ → Bool) → IsPlain (length l.fn.self.ended.items) test → sum_of test l.store l.self ≡ sum_of test l.store l.fn.self;
+  same : (test : ℕ → Bool) → IsPlain (length l.fn.self.ended.items) test
+      → sum_of test l.store l.self ≡ sum_of test l.store l.fn.self;
   gone : (k : ℕ) → l.number ≤ k → get_or l.self.waiting.items k 0 ≡ 0;
 }
 

@@ -9,9 +9,11 @@ use Rattle.mmdb_data.proofs.packer.Packer.put.Goals as goal
 
 pub returns-in-Ok-clause-read : goal.returns-in-Ok-clause-read
 returns-in-Ok-clause-read c =
-    put_reads (tree c.args.value.now) c.args.self.now (packed_of c.append_top.new.section) c.len-len.result
+    put_reads (tree c.args.value.now) c.args.self.now
+    (packed_of c.append_top.new.section) c.len-len.result
     (c.in-Ok.ensures.appended ∙ ap (in_full (tree c.args.value.now)) c.self.view_is)
-    (c.len-len.ensures ∙ c.self.inside.section.bytes.ok.0 ∙ ap (λ (s : Packed). length s.bytes) c.self.view_is)
+    (c.len-len.ensures ∙ c.self.inside.section.bytes.ok.0
+    ∙ ap (λ (s : Packed). length s.bytes) c.self.view_is)
     (c.requires, c.in-Ok.ensures.typed)
 
 pub returns-in-Err-clause-refused : goal.returns-in-Err-clause-refused
@@ -20,8 +22,11 @@ returns-in-Err-clause-refused c =
     let new : Packed = packed_of c.append_top.new.section in
     let len = c.len-len.result in
     let count = c.len-count.result in
-    let back = cut_back old new c.append_top.new.section.full.entries len count c.in-Err.ensures.kept refl (c.len-len.ensures ∙ c.self.inside.section.bytes.ok.0)
+    let back = cut_back old new c.append_top.new.section.full.entries len count
+    c.in-Err.ensures.kept refl (c.len-len.ensures ∙ c.self.inside.section.bytes.ok.0)
     (c.len-count.ensures.len ∙ sym (length-map c.self.inside.section.full.entries entry_view)) in
-    ap (λ (x : List ℕ). packed_is x (map_list entry_view c.truncate-in-Err.new.self.entries)) c.truncate.ensures.items
-    ∙ ap (λ (es : List (Vec ℕ × ℕ)). packed_is (take len new.bytes) (map_list entry_view es)) c.truncate-in-Err.ensures.entries
+    ap (λ (x : List ℕ). packed_is x (map_list entry_view c.truncate-in-Err.new.self.entries))
+    c.truncate.ensures.items
+    ∙ ap (λ (es : List (Vec ℕ × ℕ)). packed_is (take len new.bytes) (map_list entry_view es))
+    c.truncate-in-Err.ensures.entries
     ∙ back ∙ c.self.view_is

@@ -8,5 +8,7 @@ use Rattle.mmdb_data.proofs.section.Section.found.Goals as goal
 
 pub returns : goal.returns
 returns c =
-    c.copied.ensures ∙ c.get.ensures.value ∙ ap (λ (x : List ℕ). lookup (λ (k : Vec ℕ). pointwise nat_eq x k.items) c.args.self.now.full.entries) c.as_slice.ensures.value
+    c.copied.ensures ∙ c.get.ensures.value
+    ∙ ap (λ (x : List ℕ). lookup (λ (k : Vec ℕ). pointwise nat_eq x k.items)
+    c.args.self.now.full.entries) c.as_slice.ensures.value
     ∙ lookup_viewed c.args.self.now.piece.items c.args.self.now.full.entries
