@@ -5,76 +5,39 @@ use geo_terms::{PlaceFault, PlacesFault, SourceFault};
 use mmdb_file::FileFault;
 use std::alloc::AllocError;
 use std::io;
+use thiserror::Error;
 use trie_core::StoreFault;
 use update_session::EmitFault;
 
 /// Why a case is not run to its end.
-#[derive(Debug, Drop)]
+#[derive(Debug, Drop, Error)]
 pub(crate) enum Fault {
     /// The first word is to be a case, and the second a size or a file.
+    #[error("the words are no case")]
     Words,
     /// A case takes no more than that.
+    #[error("the size is too large")]
     Size,
-    Source(SourceFault),
-    Place(PlaceFault),
-    Places(PlacesFault),
-    Store(StoreFault),
-    Emit(EmitFault),
-    File(FileFault),
-    Memory,
-    Io(io::Error),
-}
-
-impl From<SourceFault> for Fault {
-    fn from(why: SourceFault) -> Fault {
-        Fault::Source(why)
-    }
-}
-
-impl From<PlaceFault> for Fault {
-    fn from(why: PlaceFault) -> Fault {
-        Fault::Place(why)
-    }
-}
-
-impl From<PlacesFault> for Fault {
-    fn from(why: PlacesFault) -> Fault {
-        Fault::Places(why)
-    }
-}
-
-impl From<StoreFault> for Fault {
-    fn from(why: StoreFault) -> Fault {
-        Fault::Store(why)
-    }
-}
-
-impl From<EmitFault> for Fault {
-    fn from(why: EmitFault) -> Fault {
-        Fault::Emit(why)
-    }
-}
-
-impl From<FileFault> for Fault {
-    fn from(why: FileFault) -> Fault {
-        Fault::File(why)
-    }
-}
-
-impl From<Memory> for Fault {
-    fn from(_refused: Memory) -> Fault {
-        Fault::Memory
-    }
+    #[error(transparent)]
+    Source(#[from] SourceFault),
+    #[error(transparent)]
+    Place(#[from] PlaceFault),
+    #[error(transparent)]
+    Places(#[from] PlacesFault),
+    #[error(transparent)]
+    Store(#[from] StoreFault),
+    #[error(transparent)]
+    Emit(#[from] EmitFault),
+    #[error(transparent)]
+    File(#[from] FileFault),
+    #[error(transparent)]
+    Memory(#[from] Memory),
+    #[error(transparent)]
+    Io(#[from] io::Error),
 }
 
 impl From<AllocError> for Fault {
-    fn from(_refused: AllocError) -> Fault {
-        Fault::Memory
-    }
-}
-
-impl From<io::Error> for Fault {
-    fn from(why: io::Error) -> Fault {
-        Fault::Io(why)
+    fn from(refused: AllocError) -> Fault {
+        Fault::Memory(Memory::from(refused))
     }
 }

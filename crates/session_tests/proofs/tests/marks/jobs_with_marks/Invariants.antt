@@ -1,5 +1,0 @@
-use Rattle.session_tests.proofs.tests.marks.jobs_with_marks.Given as goal
-
--- the counter is that of the blank
-abbrev pub ghosts-first_wrong : goal.ghosts-first_wrong
-ghosts-first_wrong g a = record { name = a.blank.name; parts = a.blank.parts }
