@@ -113,9 +113,10 @@ fn mark_of(text: &[u8]) -> u64 {
     mixed(mark ^ short_word(left))
 }
 
-// The halves change places: the next word meets the one that is mixed better. A table takes both.
+// The halves of the product, one over the other, so that no text is found back from a mark with ease.
 fn mixed(mark: u64) -> u64 {
-    mark.wrapping_mul(0x9e37_79b9_7f4a_7c15).rotate_left(32)
+    let product = u128::from(mark) * 0x9e37_79b9_7f4a_7c15;
+    (product & 0xffff_ffff_ffff_ffff) as u64 ^ (product >> 64) as u64
 }
 
 // The number that the first eight bytes spell, the lowest first; 0 where there are fewer.
