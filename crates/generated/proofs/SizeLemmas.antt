@@ -1,10 +1,10 @@
 -- How long a generated feed is, and how many line feeds are in it.
-use Rattle.std.proofs.Common.{◌≡◌, ℕ, zero, suc, ◌+◌, ◌-◌, ◌*◌, ◌/◌, ◌%◌, ◌^◌, ◌<◌, ◌≤◌, ◌==◌, Bool, true, false, not, ◌&&◌, nat_lt, nat_le, nat_eq, List, [], ◌∷◌, ◌++◌, length, drop, codes, decimal, refl, sym, ap, subst, ◌∙◌, arith, lit≤, lit<, cond, length-append}
+use Rattle.std.proofs.Common.{◌≡◌, ℕ, zero, suc, ◌+◌, ◌-◌, ◌*◌, ◌/◌, ◌%◌, ◌^◌, ◌<◌, ◌≤◌, ◌==◌, Bool, true, false, not, ◌&&◌, nat_eq, List, [], ◌∷◌, ◌++◌, length, drop, codes, decimal, refl, sym, ap, subst, arith, lit≤, lit<, cond, length-append}
 use Rattle.std.proofs.lemmas.Bool.{lt-ltb, ne_eqb}
 use Rattle.std.proofs.lemmas.Fmt.{decimal_is_IsNumeral, length-decimal-le}
 use Rattle.std.proofs.lemmas.List.Sums.{sum_by-append, sum_by-cons, sum_by-take-drop}
 use Rattle.std.specs.Prelude.{if◌then◌else◌}
-use Rattle.std.specs.List.{count_by, enumerate_from, list_all, slice_split, starts_with}
+use Rattle.std.specs.List.{count_by, starts_with}
 use Rattle.std.proofs.lemmas.List.FromFn.{length-enumerate_from}
 use Rattle.std.proofs.lemmas.List.Splits.{length-slice_split}
 use Rattle.geo_addr.specs.Lines.{byte_order_mark, last_line, lines_of, lines_of_pieces, numbered_lines, pieces, without_mark}
@@ -56,13 +56,13 @@ unfolding text4 four_octets
 address n =
     dotted (n / 2 ^ 24 % 256) (n / 2 ^ 16 % 256) (n / 2 ^ 8 % 256) (n % 256) (omega arith) (omega arith) (omega arith) (omega arith)
 
-abbrev block_at : ℕ → Prefix
+abbrev pub block_at : ℕ → Prefix
 block_at i = record { first = 10 * 2 ^ 24 + 16 * i; len = 124 }
 
-is_low : (i : ℕ) → i < 1000000 → is_v4 (range_of_block (block_at i)) ≡ true
+pub is_low : (i : ℕ) → i < 1000000 → is_v4 (range_of_block (block_at i)) ≡ true
 is_low i small = lt-ltb (10 * 2 ^ 24 + 16 * i + 15) (2 ^ 32) (omega arith)
 
-length_is : (i : ℕ) → i < 1000000 → printed_length (block_at i) ≡ 28
+pub length_is : (i : ℕ) → i < 1000000 → printed_length (block_at i) ≡ 28
 unfolding printed_length
 length_is i small = ap (λ b. if b then 124 - 96 else 124) (is_low i small)
 
