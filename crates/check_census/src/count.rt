@@ -64,7 +64,7 @@ fn add_place(
     if v4 == 0 && v6 == 0 {
         return Ok(());
     }
-    add(counts, &place.country, v4, v6)
+    add(counts, place.country(), v4, v6)
 }
 
 // Adds addresses to the count of a country.

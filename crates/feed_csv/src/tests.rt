@@ -19,10 +19,10 @@ fn shown(alloc: Global, feed: &Feed) -> Result<String, Fail> {
                 "{} {} {},{},{},{}\n",
                 entry.line,
                 block.as_str(),
-                place.country.as_str(),
-                place.region.as_str(),
-                place.city.as_str(),
-                place.postal.as_str()
+                place.country().as_str(),
+                place.region().as_str(),
+                place.city().as_str(),
+                place.postal().as_str()
             )?
             .as_str())?,
         }

@@ -1,12 +1,14 @@
 -- Texts of a place in upper case are in form where they were in form before.
-use Rattle.std.proofs.Common.{◌≡◌, ℕ, ◌<◌, ◌≤◌, Bool, true, false, cond, ◌&&◌, ◌||◌, List, [], ◌∷◌, length, get_or, IsTrue, refl, sym, ap, ◌∙◌, subst, arith}
+use Rattle.std.proofs.Common.{◌≡◌, ℕ, ◌<◌, ◌≤◌, Bool, true, false, cond, not, Ok, ◌&&◌, ◌||◌, List, [], ◌∷◌, length, get_or, IsTrue, refl, sym, ap, ◌∙◌, subst, arith}
 use Rattle.std.specs.Char.{is_ascii_alphabetic, is_ascii_alphanumeric, is_ascii_lowercase, to_ascii_uppercase}
 use Rattle.std.specs.List.{list_all, list_any}
 use Rattle.std.specs.Prelude.{nat_eq}
 use Rattle.std.proofs.lemmas.Bool.Decides.{nat_tests}
 use Rattle.std.proofs.lemmas.List.{length-map}
 use Rattle.std.proofs.lemmas.Str.Ascii.{uppercase-uppercase}
-use Rattle.geo_terms.specs.PlaceForm.{IsPlace, is_empty, is_country, is_region, is_subdivision, upper, country_of_region, country_place, nowhere, same_text, country_fits, region_fits, lengths_fit, parts_of, says_nothing}
+use Rattle.geo_terms.specs.SaidOf.{said_by, said_of}
+use Rattle.geo_terms.specs.declared.place.Said.TheVariants.{At}
+use Rattle.geo_terms.specs.PlaceForm.{IsPlace, PlaceParts, is_empty, is_country, is_region, is_subdivision, upper, country_of_region, country_place, nowhere, same_text, country_fits, region_fits, lengths_fit, parts_of, says_nothing}
 
 alphabetic-upper : (b : ℕ) → is_ascii_alphabetic (to_ascii_uppercase b) ≡ is_ascii_alphabetic b
 alphabetic-upper b = grind (arith, nat_tests)
@@ -187,3 +189,24 @@ country_in_form a b country region city postal c r ci po first second somewhere 
     let same : record { country = country; region = region; city = city; postal = postal } ≡ country_place (a ∷ b ∷ []) =
     λ i. record { country = c i; region = r i; city = ci i; postal = po i } in
     subst IsPlace (sym same) made
+
+not_told : (b : Bool) → not b ≡ true → b ≡ false
+not_told false h = refl
+not_told true h = absurd (let e : false ≡ true = h in cc)
+
+own_country : (country region : List ℕ) → (country ≡ [] → region ≡ []) → cond (is_empty country) (country_of_region region) country ≡ country
+own_country [] region owned = ap country_of_region (owned refl)
+own_country (a ∷ bs) region owned = refl
+
+-- the texts of a place name that place
+parts_of_own : (p : PlaceParts) → IsPlace p → parts_of p.country p.region p.city p.postal ≡ p
+parts_of_own p form =
+    let country = ap upper (own_country p.country p.region form.owned) ∙ form.upper_country in
+    λ i. record { country = country i; region = form.upper_region i; city = p.city; postal = p.postal }
+
+-- and as fields they say it
+pub place_says_itself : (p : PlaceParts) → IsPlace p → said_of p.country p.region p.city p.postal ≡ Ok (At p)
+unfolding said_of
+place_says_itself p form =
+    let says : said_by p ≡ At p = rw (not_told (says_nothing p) form.says) refl in
+    rw (form.country, form.region, form.lengths) (ap Ok (ap said_by (parts_of_own p form) ∙ says))

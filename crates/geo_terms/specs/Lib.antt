@@ -12,6 +12,7 @@ pub mod MarkHash
 pub mod NoteText
 pub mod Numbers
 pub mod Orders
+pub mod PlaceEquality
 pub mod PlaceForm
 pub mod Precedence
 pub mod Report

@@ -1,9 +1,10 @@
 //! What four fields of a line say.
-ghost use Rattle.std.specs.Prelude.{◌≡◌, ◌<◌, ◌≤◌, ◌↔◌, length, IfOk, IfErr, OnOk, IsOkUnless, IsTrue, [], ◌∷◌, if◌then◌else◌};
+ghost use Rattle.std.specs.Prelude.{◌≡◌, ◌<◌, ◌≤◌, ◌↔◌, length, IfOk, IfErr, IfSome, Ok, OnOk, IsOkUnless, IsTrue, [], ◌∷◌, if◌then◌else◌};
 ghost use Rattle.std.specs.List.{list_all, list_any};
 ghost use Rattle.std.specs.Char.{is_ascii_alphanumeric, is_ascii_lowercase};
 ghost use Rattle.geo_terms.specs.PlaceForm.{country_fits, country_of_region, is_country, is_empty, is_region, is_subdivision, lengths_fit, longest, nowhere, parts_of, place_of_country, region_fits, same_text, says_nothing, upper};
 ghost use Rattle.geo_terms.specs.SaidOf.{said_of, said_by};
+ghost use Rattle.geo_terms.specs.declared.place.Said.TheVariants.{At};
 
 use crate::place::{Place, PlaceFault, Said};
 use crate::texts::Texts;
@@ -46,6 +47,10 @@ pub fn place_in(
     ensures refused { IfErr (said_of country.now region.now city.now postal.now) (λ fault. result ≡ Err fault) }
     ensures otherwise { OnOk (said_of country.now region.now city.now postal.now) (IsOkUnless result PlaceFault.Memory) }
 {
+    let (first, second) = (country.as_bytes(), region.as_bytes());
+    if let Some(place) = said_before(texts, first, second, city.as_bytes(), postal.as_bytes()) {
+        return Ok(Said::At(place.copied()?));
+    }
     if !country_fits(country) {
         return Err(PlaceFault::Country);
     }
@@ -56,6 +61,20 @@ pub fn place_in(
         return Err(PlaceFault::TooLong);
     }
     Ok(said_in_form(texts, country, region, city, postal)?)
+}
+
+// The place that fields say, where it came before.
+fn said_before<'a>(
+    texts: &'a Texts,
+    country: &[u8],
+    region: &[u8],
+    city: &[u8],
+    postal: &[u8],
+) -> Option<&'a Place>
+    ensures { IfSome result (λ place. said_of country.now region.now city.now postal.now ≡ Ok (At place.now)) }
+{
+    let place = texts.known_place(country, region, city, postal)?;
+    Some(place)
 }
 
 /// The place that a country code alone names, or `None` where it is not two letters, or is `ZZ`.
@@ -71,6 +90,10 @@ pub fn country_place(texts: &mut Texts, country: &[u8]) -> Result<Option<Place>,
     if !first.is_ascii_alphabetic() || !second.is_ascii_alphabetic() {
         return Ok(None);
     }
+    let pair = upper_pair(*first, *second);
+    if let Some(place) = texts.known_place(&pair, b"", b"", b"") {
+        return Ok(Some(place.copied()?));
+    }
     let country = pair_text(texts, *first, *second)?;
     if is_nowhere(&country) {
         return Ok(None);
@@ -78,12 +101,8 @@ pub fn country_place(texts: &mut Texts, country: &[u8]) -> Result<Option<Place>,
     let region = texts.blank()?;
     let city = texts.blank()?;
     let postal = texts.blank()?;
-    Ok(Some(Place {
-        country,
-        region,
-        city,
-        postal,
-    }))
+    let place = texts.place(country, region, city, postal)?;
+    Ok(Some(place))
 }
 
 // What fields that are in form say.
@@ -107,12 +126,8 @@ fn said_in_form(
     }
     let city = texts.shared(city)?;
     let postal = texts.shared(postal)?;
-    Ok(Said::At(Place {
-        country,
-        region,
-        city,
-        postal,
-    }))
+    let place = texts.place(country, region, city, postal)?;
+    Ok(Said::At(place))
 }
 
 // Whether these texts, in upper case, say nothing.
@@ -159,14 +174,22 @@ fn lettered<'a>(country: &'a str, region: &'a str) -> &'a [u8]
     }
 }
 
+// Two bytes in upper case.
+fn upper_pair(first: u8, second: u8) -> [u8; 2]
+    ensures { result ≡ upper (first ∷ second ∷ []) }
+{
+    let first = first.to_ascii_uppercase();
+    let second = second.to_ascii_uppercase();
+    [first, second]
+}
+
 // Two ASCII letters as a text in upper case.
 fn pair_text(texts: &mut Texts, first: u8, second: u8) -> Result<Text, Memory>
     requires first { first < 128 }
     requires second { second < 128 }
     ensures { IfOk result (λ text. text ≡ upper (first ∷ second ∷ [])) }
 {
-    let first = first.to_ascii_uppercase();
-    let second = second.to_ascii_uppercase();
+    let [first, second] = upper_pair(first, second);
     if let Some(found) = texts.known(&[first, second])? {
         return Ok(found);
     }

@@ -80,7 +80,7 @@ impl Statement for Delegation {
     fn order(&self, other: &Delegation) -> Ordering {
         (self.range.size().cmp(&other.range.size()))
             .then(self.range.first.cmp(&other.range.first))
-            .then_with(|| self.place.country.cmp(&other.place.country))
+            .then_with(|| self.place.country().cmp(other.place.country()))
             .then_with(|| self.slot.cmp(&other.slot))
             .then(self.line.cmp(&other.line))
     }

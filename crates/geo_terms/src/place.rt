@@ -1,44 +1,146 @@
+ghost use Rattle.std.specs.Prelude.{◌≡◌, ◌++◌, IfOk};
+ghost use Rattle.std.specs.Cmp.{partial_equiv_from_equiv};
+ghost use Rattle.std.specs.Cmp.Rules.{hashing};
+ghost use Rattle.std.specs.Hash as fed;
+ghost use Rattle.std.proofs.Common.{rules};
+ghost use Rattle.geo_terms.specs.PlaceForm.{IsPlace};
+ghost use Rattle.geo_terms.specs.Numbers.{same_place};
+ghost use Rattle.geo_terms.specs.PlaceEquality as equality;
+
 use geo_addr::{Memory, Text};
+use std::alloc::Global;
+use std::hash::{Hash, Hasher};
 use std::marker::Model;
+use std::sync::Arc;
 use thiserror::Error;
 
 /// A place: a country, a region, a city and a postal code, each of which may be empty, but not all.
 ///
 /// The country is a code of ISO 3166-1 and the region one of ISO 3166-2, both in upper case; no text
-/// is longer than 1,024 bytes. Whether the codes exist is not asked. A literal owes this form.
-#[derive(Debug, Drop, PartialEq, Eq, Hash)]
+/// is longer than 1,024 bytes. Whether the codes exist is not asked. Its copies share the four texts.
+#[derive(Debug, Drop)]
 pub struct Place {
-    pub country: Text,
-    pub region: Text,
-    pub city: Text,
-    pub postal: Text,
+    parts: Arc<Parts>,
+}
+
+/// The four texts of a place.
+#[derive(Debug, Drop)]
+struct Parts {
+    country: Text,
+    region: Text,
+    city: Text,
+    postal: Text,
 }
 
 impl Model for Place {
+    ghost use Rattle.std.specs.Arc.{arc_value};
     ghost use Rattle.geo_terms.specs.PlaceForm.{PlaceParts, IsPlace};
 
     ghost Value = { PlaceParts };
 
-    ghost view = { λ p. record { country = p.country; region = p.region; city = p.city; postal = p.postal } };
+    ghost view = { λ p. record { country = (arc_value p.parts).country; region = (arc_value p.parts).region; city = (arc_value p.parts).city; postal = (arc_value p.parts).postal } };
 
-    ghost invariant = { λ p. IsPlace (record { country = p.country; region = p.region; city = p.city; postal = p.postal }) };
-
-    ghost inverse = { λ v. record { country = v.country; region = v.region; city = v.city; postal = v.postal } };
+    ghost invariant = { λ p. IsPlace (record { country = (arc_value p.parts).country; region = (arc_value p.parts).region; city = (arc_value p.parts).city; postal = (arc_value p.parts).postal }) };
 }
 
 impl Place {
-    ghost use Rattle.std.specs.Prelude.{◌≡◌, IfOk};
+    /// The place of these texts.
+    pub(crate) fn of(
+        alloc: Global,
+        country: Text,
+        region: Text,
+        city: Text,
+        postal: Text,
+    ) -> Result<Place, Memory>
+        requires { IsPlace (record { country = country; region = region; city = city; postal = postal }) }
+        ensures { IfOk result (λ place. place ≡ record { country = country; region = region; city = city; postal = postal }) }
+    {
+        let parts = Parts {
+            country,
+            region,
+            city,
+            postal,
+        };
+        let parts = Arc::new(alloc, parts)?;
+        Ok(Place { parts })
+    }
 
-    /// A second place of the same four texts.
+    /// The country, or an empty text.
+    pub fn country(&self) -> &Text
+        ensures text { result.now ≡ self.now.country }
+        ensures form { IsPlace self.now }
+    {
+        &self.parts.country
+    }
+
+    /// The region, or an empty text.
+    pub fn region(&self) -> &Text
+        ensures { result.now ≡ self.now.region }
+    {
+        &self.parts.region
+    }
+
+    /// The city, or an empty text.
+    pub fn city(&self) -> &Text
+        ensures { result.now ≡ self.now.city }
+    {
+        &self.parts.city
+    }
+
+    /// The postal code, or an empty text.
+    pub fn postal(&self) -> &Text
+        ensures { result.now ≡ self.now.postal }
+    {
+        &self.parts.postal
+    }
+
+    /// A second owner of this place, which takes no bytes.
     pub fn copied(&self) -> Result<Place, Memory>
         ensures { IfOk result (λ place. place ≡ self.now) }
     {
-        Ok(Place {
-            country: self.country.copied()?,
-            region: self.region.copied()?,
-            city: self.city.copied()?,
-            postal: self.postal.copied()?,
-        })
+        let parts = self.parts.clone()?;
+        Ok(Place { parts })
+    }
+
+    /// Whether these are its four texts.
+    pub(crate) fn has(&self, country: &[u8], region: &[u8], city: &[u8], postal: &[u8]) -> bool
+        ensures form { IsPlace self.now }
+        ensures same { result ≡ same_place self.now (record { country = country.now; region = region.now; city = city.now; postal = postal.now }) }
+    {
+        self.country().as_str().as_bytes() == country
+            && self.region().as_str().as_bytes() == region
+            && self.city().as_str().as_bytes() == city
+            && self.postal().as_str().as_bytes() == postal
+    }
+}
+
+impl PartialEq for Place {
+    ghost eq = { same_place };
+
+    ghost laws = { partial_equiv_from_equiv equality.place_equiv };
+
+    fn eq(&self, other: &Place) -> bool {
+        self.country() == other.country()
+            && self.region() == other.region()
+            && self.city() == other.city()
+            && self.postal() == other.postal()
+    }
+}
+
+impl Eq for Place {
+    ghost laws = { equality.place_equiv };
+}
+
+impl Hash for Place {
+    ghost hash_input = { λ p. fed.str p.country ++ fed.str p.region ++ fed.str p.city ++ fed.str p.postal };
+
+    ghost respects_eq = { Prim.search (hashing, rules) };
+
+    fn hash<H: Hasher>(&self, state: &mut H) {
+        self.country().hash(state);
+        self.region().hash(state);
+        self.city().hash(state);
+        self.postal().hash(state);
     }
 }
 

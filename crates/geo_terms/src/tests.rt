@@ -23,7 +23,7 @@ fn letters(alloc: Global, count: usize) -> Result<String, Memory> {
 // The country and the region of what is said.
 fn shown(said: &Result<Said, PlaceFault>) -> (&str, &str) {
     match said {
-        Ok(Said::At(place)) => (place.country.as_str(), place.region.as_str()),
+        Ok(Said::At(place)) => (place.country().as_str(), place.region().as_str()),
         Ok(Said::Nothing) => ("nothing", ""),
         Err(PlaceFault::Country) => ("refused", "country"),
         Err(PlaceFault::Region) => ("refused", "region"),
@@ -88,7 +88,7 @@ fn number(texts: &mut Texts, places: &mut Places, country: &[u8]) -> Result<u32,
 // The country of the place with a number.
 fn country_at(places: &Places, number: u32) -> &str {
     match places.get(number) {
-        Some(place) => place.country.as_str(),
+        Some(place) => place.country().as_str(),
         None => "",
     }
 }

@@ -1,13 +1,16 @@
-//! Texts that stand in a source many times.
+//! Texts and places that stand in a source many times.
 ghost use Rattle.std.specs.Prelude.{◌≡◌, [], IfOk, IfSome};
 ghost use Rattle.geo_terms.specs.MarkHash as marks;
+ghost use Rattle.geo_terms.specs.PlaceForm.{IsPlace};
 
+use crate::place::Place;
 use geo_addr::{Memory, Text};
 use indexmap::IndexMap;
 use std::alloc::Global;
 use std::hash::{BuildHasherDefault, Hasher};
 
-/// The texts of one source so far: one that came before is given again, and takes no bytes.
+/// The texts and the places of one source so far: one that came before is given again, and takes no
+/// bytes.
 ///
 /// Which texts it holds changes what memory is taken, and never what a text says. Two texts with one
 /// mark, which strangers may make, stand beside one another without being shared.
@@ -16,6 +19,7 @@ pub struct Texts {
     alloc: Global,
     empty: Option<Text>,
     seen: IndexMap<u64, Text, BuildHasherDefault<MarkHasher>>,
+    places: IndexMap<u64, Place, BuildHasherDefault<MarkHasher>>,
 }
 
 /// A hasher of marks: a mark is mixed already, and is its own hash.
@@ -45,6 +49,7 @@ impl Texts {
             alloc,
             empty: None,
             seen: IndexMap::with_hasher(alloc, BuildHasherDefault::new()),
+            places: IndexMap::with_hasher(alloc, BuildHasherDefault::new()),
         }
     }
 
@@ -96,10 +101,59 @@ impl Texts {
         Ok(text)
     }
 
+    /// The place of four texts, where it came before.
+    pub(crate) fn known_place(
+        &self,
+        country: &[u8],
+        region: &[u8],
+        city: &[u8],
+        postal: &[u8],
+    ) -> Option<&Place>
+        ensures form { IfSome result (λ place. IsPlace place.now) }
+        ensures texts { IfSome result (λ place. place.now ≡ record { country = country.now; region = region.now; city = city.now; postal = postal.now }) }
+    {
+        match self
+            .places
+            .get(&mark_of_four(country, region, city, postal))
+        {
+            Some(place) if place.has(country, region, city, postal) => Some(place),
+            _ => None,
+        }
+    }
+
+    /// The place of four texts: the one that came before, or a new one, which from now on did.
+    pub(crate) fn place(
+        &mut self,
+        country: Text,
+        region: Text,
+        city: Text,
+        postal: Text,
+    ) -> Result<Place, Memory>
+        requires { IsPlace (record { country = country; region = region; city = city; postal = postal }) }
+        ensures { IfOk result (λ place. place ≡ record { country = country; region = region; city = city; postal = postal }) }
+    {
+        let (first, second) = (country.as_str().as_bytes(), region.as_str().as_bytes());
+        let (third, fourth) = (city.as_str().as_bytes(), postal.as_str().as_bytes());
+        if let Some(found) = self.known_place(first, second, third, fourth) {
+            return found.copied();
+        }
+        let mark = mark_of_four(first, second, third, fourth);
+        let place = Place::of(self.alloc, country, region, city, postal)?;
+        let copy = place.copied()?;
+        self.places.insert(mark, copy).map_err(Memory::from)?;
+        Ok(place)
+    }
+
     /// Where new texts take their memory.
     pub(crate) fn alloc(&self) -> Global {
         self.alloc
     }
+}
+
+// A number by which four texts are found again; other four may have it too.
+fn mark_of_four(first: &[u8], second: &[u8], third: &[u8], fourth: &[u8]) -> u64 {
+    let front = mixed(mark_of(first) ^ mark_of(second)).rotate_left(1);
+    mixed(front ^ mark_of(third)).rotate_left(1) ^ mark_of(fourth)
 }
 
 // A number by which a text is found again; other texts may have it too.

@@ -164,7 +164,7 @@ fn a_delegation_decides(rt: HostRuntime) -> Result<(), Fail> {
     let table = [(0x0A00_0000, "AT"), (0x0A00_01FF, "CH"), (0x0A00_0200, "")];
     for (address, wanted) in table {
         let found = match spoken_at(&sources, Addr(address)) {
-            Some(place) => place.country.as_str(),
+            Some(place) => place.country().as_str(),
             None => "",
         };
         assert!(rt; found == wanted);

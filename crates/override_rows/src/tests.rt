@@ -22,10 +22,10 @@ fn read(alloc: Global, file: &[u8]) -> Result<String, Fail> {
                 "{} {} {},{},{},{}\n",
                 row.line,
                 range.as_str(),
-                place.country.as_str(),
-                place.region.as_str(),
-                place.city.as_str(),
-                place.postal.as_str()
+                place.country().as_str(),
+                place.region().as_str(),
+                place.city().as_str(),
+                place.postal().as_str()
             )?
             .as_str())?,
         }

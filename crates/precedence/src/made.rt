@@ -51,10 +51,10 @@ fn country(alloc: Global, code: &str) -> Result<Place, Fail> {
 fn is_country_alone(place: &Place) -> bool
     ensures { result ≡ true → IsCountryAlone place.now }
 {
-    !place.country.as_str().is_empty()
-        && place.region.as_str().is_empty()
-        && place.city.as_str().is_empty()
-        && place.postal.as_str().is_empty()
+    !place.country().as_str().is_empty()
+        && place.region().as_str().is_empty()
+        && place.city().as_str().is_empty()
+        && place.postal().as_str().is_empty()
 }
 
 pub(crate) fn row(

@@ -70,12 +70,12 @@ fn push_place(text: &mut String, place: Option<&Place>) -> Result<(), Fail> {
         text.push_str("-")?;
         return Ok(());
     };
-    text.push_str(place.country.as_str())?;
-    if !place.city.as_str().is_empty() {
+    text.push_str(place.country().as_str())?;
+    if !place.city().as_str().is_empty() {
         text.push_str(" ")?;
-        text.push_str(place.region.as_str())?;
+        text.push_str(place.region().as_str())?;
         text.push_str(" ")?;
-        text.push_str(place.city.as_str())?;
+        text.push_str(place.city().as_str())?;
     }
     Ok(())
 }
@@ -265,7 +265,7 @@ fn set_file(sources: &mut Sources, file: Stats) -> Result<(), Fail> {
 
 fn country_of(place: Option<&Place>) -> &str {
     match place {
-        Some(place) => place.country.as_str(),
+        Some(place) => place.country().as_str(),
         None => "",
     }
 }

@@ -101,10 +101,10 @@ impl Compared for Override {
 fn compare_places(x: &Place, y: &Place) -> Ordering
     ensures { result ≡ place_cmp x.now y.now }
 {
-    (x.country.cmp(&y.country))
-        .then_with(|| x.region.cmp(&y.region))
-        .then_with(|| x.city.cmp(&y.city))
-        .then_with(|| x.postal.cmp(&y.postal))
+    (x.country().cmp(y.country()))
+        .then_with(|| x.region().cmp(y.region()))
+        .then_with(|| x.city().cmp(y.city()))
+        .then_with(|| x.postal().cmp(y.postal()))
 }
 
 fn compare_said(x: &Said, y: &Said) -> Ordering

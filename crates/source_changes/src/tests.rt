@@ -156,13 +156,13 @@ fn country(alloc: Global, code: &[u8]) -> Result<Place, Fail> {
 
 fn delegation_of(alloc: Global, line: u64, slot: &str, code: &[u8]) -> Result<Delegation, Fail> {
     let place = country(alloc, code)?;
-    if place.country.as_str().is_empty() {
+    if place.country().as_str().is_empty() {
         return Err(Fail::from("no country"));
     }
-    if !place.region.as_str().is_empty() {
+    if !place.region().as_str().is_empty() {
         return Err(Fail::from("a region"));
     }
-    if !place.city.as_str().is_empty() || !place.postal.as_str().is_empty() {
+    if !place.city().as_str().is_empty() || !place.postal().as_str().is_empty() {
         return Err(Fail::from("more than a country"));
     }
     let slot = Text::of(alloc, slot)?;

@@ -30,10 +30,10 @@ fn row(alloc: Global, slot: &str, range: Range, code: &str) -> Result<Delegation
     ensures { IfOk result (λ row. row.slot ≡ slot.now) }
 {
     let place = country(alloc, code)?;
-    if place.country.as_str().is_empty() || !place.region.as_str().is_empty() {
+    if place.country().as_str().is_empty() || !place.region().as_str().is_empty() {
         return Err(Fail::from("no country alone"));
     }
-    if !place.city.as_str().is_empty() || !place.postal.as_str().is_empty() {
+    if !place.city().as_str().is_empty() || !place.postal().as_str().is_empty() {
         return Err(Fail::from("more than a country"));
     }
     let slot = Text::of(alloc, slot)?;

@@ -11,10 +11,10 @@ fn push_place(alloc: Global, text: &mut String, place: Option<&Place>) -> Result
         text.push_str("-")?;
         return Ok(());
     };
-    let country = place.country.as_str();
-    let region = place.region.as_str();
-    let city = place.city.as_str();
-    let postal = place.postal.as_str();
+    let country = place.country().as_str();
+    let region = place.region().as_str();
+    let city = place.city().as_str();
+    let postal = place.postal().as_str();
     let fields = format!(in alloc; "{country},{region},{city},{postal}")?;
     text.push_str(fields.as_str())?;
     Ok(())

@@ -4,8 +4,8 @@ use Rattle.geo_terms.specs.PlaceForm.{IsPlace, parts_of, says_nothing}
 use Rattle.geo_terms.proofs.PlaceLemmas.{place_in_form}
 use Rattle.geo_terms.proofs.fields.said_in_form.Goals as goal
 
-pub invariant_of-result : goal.invariant_of-result
-invariant_of-result c =
+pub place-requires : goal.place-requires
+place-requires c =
     let country = c.in_ok-country.ensures in
     let region = c.in_ok-region.ensures in
     let whole = parts_of c.args.country.now c.args.region.now c.args.city.now c.args.postal.now in
