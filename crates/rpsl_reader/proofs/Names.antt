@@ -1,20 +1,19 @@
 -- A name is ASCII, so it is a text; and a name that is found is the one that was sought.
-use Rattle.std.proofs.Common.{◌≡◌, ℕ, ◌<◌, Bool, true, false, ◌&&◌, List, [], ◌∷◌, length, IsTrue, Option, Some, None, refl, sym, subst, arith, nat_eq, nat_le}
+use Rattle.std.proofs.Common.{◌≡◌, ℕ, ◌<◌, Bool, true, false, ◌&&◌, List, [], ◌∷◌, length, IsTrue, refl, arith, nat_eq, nat_le}
 use Rattle.std.proofs.lemmas.Bool.Decides.{nat_tests}
 use Rattle.std.proofs.lemmas.Str.{IsUtf8-from_ascii}
 use Rattle.std.proofs.lemmas.Str.Ascii.{IsAscii-cons, IsAscii-nil}
 use Rattle.std.specs.Char.{is_ascii_alphabetic}
 use Rattle.std.specs.List.{list_all}
 use Rattle.std.specs.Str.{IsAscii, IsUtf8}
-use Rattle.geo_addr.specs.Prefixes.{cut_first}
 use Rattle.geo_terms.specs.PlaceForm.{same_text}
-use Rattle.rpsl_reader.specs.Attributes.{is_attribute, is_name, is_name_byte, is_named}
+use Rattle.rpsl_reader.specs.Attributes.{is_name, is_name_byte}
 
-and_left : (a b : Bool) → (a && b) ≡ true → a ≡ true
+pub and_left : (a b : Bool) → (a && b) ≡ true → a ≡ true
 and_left true b e = refl
 and_left false b e = absurd (let f : false ≡ true = e in cc)
 
-and_right : (a b : Bool) → (a && b) ≡ true → b ≡ true
+pub and_right : (a b : Bool) → (a && b) ≡ true → b ≡ true
 and_right true b e = e
 and_right false b e = absurd (let f : false ≡ true = e in cc)
 
@@ -35,15 +34,6 @@ name_is_text (b ∷ bs) h =
     let front : (is_ascii_alphabetic b && nat_le (length bs) 63) ≡ true = and_left (is_ascii_alphabetic b && nat_le (length bs) 63) (list_all is_name_byte bs) h in
     IsUtf8-from_ascii (b ∷ bs) (IsAscii-cons b bs (letter_is_ascii b (and_left (is_ascii_alphabetic b) (nat_le (length bs) 63) front))
     (bytes_are_ascii bs (and_right (is_ascii_alphabetic b && nat_le (length bs) 63) (list_all is_name_byte bs) h)))
-
-named_is : (sides : List ℕ × Option (List ℕ)) → IsTrue (is_named sides) → IsTrue (is_name sides.0)
-named_is (name, None) h = absurd (let f : false ≡ true = h in cc)
-named_is (name, Some rest) h = h
-
--- the name of a line that begins an attribute
-pub attribute_is_named : (line name : List ℕ) → name ≡ (cut_first 58 line).0 → IsTrue (is_attribute line) → IsTrue (is_name name)
-unfolding is_attribute
-attribute_is_named line name e h = subst (λ (n : List ℕ). IsTrue (is_name n)) (sym e) (named_is (cut_first 58 line) h)
 
 pub same_is : (xs ys : List ℕ) → same_text xs ys ≡ true → xs ≡ ys
 same_is [] [] e = refl

@@ -1,6 +1,6 @@
 -- The lines of an object, and the attributes that they make (RFC 2622, section 2).
 -- A byte is its number: 35 is `#`, 37 is `%`, 43 is `+`, 45 is `-`, 58 is `:`, 95 is `_`.
-use Rattle.std.specs.Prelude.{ℕ, Bool, false, not, ◌&&◌, ◌||◌, ◌==◌, nat_le, if◌then◌else◌, List, [], ◌∷◌, ◌++◌, length, map, drop, Option, None, Some}
+use Rattle.std.specs.Prelude.{◌≡◌, ℕ, Bool, true, false, not, ◌&&◌, ◌||◌, ◌==◌, nat_le, if◌then◌else◌, List, [], ◌∷◌, ◌++◌, length, map, drop, Option, None, Some}
 use Rattle.std.specs.Char.{is_ascii_alphabetic, is_ascii_alphanumeric, to_ascii_lowercase}
 use Rattle.std.specs.List.{list_all}
 use Rattle.geo_addr.specs.Lines.{is_blank, trimmed}
@@ -34,6 +34,11 @@ abbrev pub is_name : List ℕ → Bool
 is_name [] = false
 is_name (b ∷ bs) = is_ascii_alphabetic b && nat_le (length bs) 63 && list_all is_name_byte bs
 
+-- whether bytes that may all stand in a name are one
+abbrev pub may_begin : List ℕ → Bool
+may_begin [] = false
+may_begin (b ∷ bs) = is_ascii_alphabetic b && nat_le (length bs) 63
+
 -- whether what stands before the first colon of a line is a name, if there is a colon
 abbrev pub is_named : List ℕ × Option (List ℕ) → Bool
 is_named (name, None) = false
@@ -42,6 +47,11 @@ is_named (name, Some rest) = is_name name
 -- a line that begins an attribute: a name and a colon
 unfoldable pub is_attribute : List ℕ → Bool
 is_attribute line = is_named (cut_first 58 line)
+
+-- a line that begins an attribute, and what stands on both sides of its first colon
+pub record HasSides (line name value : List ℕ) : Type 0 where
+  pub begins : is_attribute line ≡ true
+  pub sides : cut_first 58 line ≡ (name, Some value)
 
 -- a line that is neither
 abbrev pub is_stray : List ℕ → Bool
@@ -78,6 +88,10 @@ value_of line ls = continued (said_of (behind (cut_first 58 line))) ls
 -- the attribute that a line begins, before the lines that follow
 abbrev pub attribute : Numbered → List Numbered → Attribute
 attribute l ls = record { name = name_of l.1; value = value_of l.1 ls; line = l.0 }
+
+-- the attribute that a line begins, if it begins one
+abbrev pub attribute_in : Numbered → List Numbered → List Attribute
+attribute_in l ls = if is_attribute l.1 then attribute l ls ∷ [] else []
 
 -- the attributes of some lines, in order
 unfoldable pub attributes : List Numbered → List Attribute

@@ -1,9 +1,8 @@
-ghost use Rattle.std.specs.Prelude.{◌≡◌, ◌∷◌, ◌++◌, [], map, IfOk, OnOk, IsTrue, filter};
+ghost use Rattle.std.specs.Prelude.{◌≡◌, ◌≤◌, ◌∷◌, ◌++◌, [], false, not, length, map, IfOk, OnOk, IsTrue, MatchOption, filter};
 ghost use Rattle.std.specs.Char.{to_ascii_lowercase};
-ghost use Rattle.std.specs.List.{list_all};
-ghost use Rattle.rpsl_reader.specs.Attributes.{attribute, attributes, behind, continued, is_attribute, is_name, is_name_byte, is_stray, joined, said_of, value_of};
+ghost use Rattle.std.specs.List.{list_any, position, position_or_len};
+ghost use Rattle.rpsl_reader.specs.Attributes.{HasSides, attribute, attribute_in, attributes, continued, is_attribute, is_name, is_name_byte, is_stray, joined, may_begin, said_of};
 ghost use Rattle.rpsl_reader.specs.Selections.{wants_name};
-ghost use Rattle.geo_addr.specs.Prefixes.{cut_first};
 
 use crate::item::Attribute;
 use crate::line::{GroupLine, continues, cut_first, without_first};
@@ -14,39 +13,53 @@ use std::alloc::Global;
 /// The most bytes of a name behind its first letter.
 const LONGEST_NAME: usize = 63;
 
-/// Whether a line begins an attribute: a name and a colon.
-#[tactic(auto, unfolding(crate::specs::Attributes::is_attribute))]
-pub(crate) fn is_attribute(line: &[u8]) -> bool
-    ensures { result ≡ is_attribute line.now }
+/// The two sides of the first colon of a line that begins an attribute.
+#[derive(Clone, Copy)]
+pub(crate) struct Sides<'a> {
+    pub name: &'a [u8],
+    pub value: &'a [u8],
+}
+
+/// The sides of a line that begins an attribute, and none of another line.
+pub(crate) fn sides_of(line: &[u8]) -> Option<Sides<'_>>
+    ensures { MatchOption result (is_attribute line.now ≡ false) (λ sides. HasSides line.now sides.name.now sides.value.now) }
 {
-    match cut_first(line, b':') {
-        (name, Some(_)) => is_name(name),
-        (_, None) => false,
+    let (name, rest) = line.split_at(name_end(line));
+    let [stop, value @ ..] = rest else {
+        return None;
+    };
+    if *stop != b':' || !may_begin(name) {
+        return None;
+    }
+    Some(Sides { name, value })
+}
+
+// Where the bytes of a name end. They are looked at one by one, since names are short.
+fn name_end(line: &[u8]) -> usize
+    ensures end { result ≡ position_or_len (λ b. not (is_name_byte b)) line.now }
+    ensures within { result ≤ length line.now }
+{
+    match other_byte(line) {
+        Some(end) => end,
+        None => line.len(),
     }
 }
 
-/// Whether a line neither begins an attribute nor continues one.
-pub(crate) fn is_stray(line: &[u8]) -> bool
-    ensures { result ≡ is_stray line.now }
+// The place of the first byte that may not stand in a name.
+fn other_byte(line: &[u8]) -> Option<usize>
+    ensures { result ≡ position (λ b. not (is_name_byte b)) line.now }
 {
-    !is_attribute(line) && !continues(line)
+    line.iter().position(|byte| !is_name_byte(*byte))
 }
 
-fn is_name(name: &[u8]) -> bool
-    ensures { result ≡ is_name name.now }
+// Whether bytes that may all stand in a name are one.
+fn may_begin(name: &[u8]) -> bool
+    ensures { result ≡ may_begin name.now }
 {
     match name {
-        [first, rest @ ..] => {
-            first.is_ascii_alphabetic() && rest.len() <= LONGEST_NAME && are_name_bytes(rest)
-        }
+        [first, rest @ ..] => first.is_ascii_alphabetic() && rest.len() <= LONGEST_NAME,
         [] => false,
     }
-}
-
-fn are_name_bytes(bytes: &[u8]) -> bool
-    ensures { result ≡ list_all is_name_byte bytes.now }
-{
-    bytes.iter().all(|byte| is_name_byte(*byte))
 }
 
 fn is_name_byte(byte: u8) -> bool
@@ -55,12 +68,11 @@ fn is_name_byte(byte: u8) -> bool
     byte.is_ascii_alphanumeric() || byte == b'-' || byte == b'_'
 }
 
-/// The text before the first colon of a line.
-pub(crate) fn name_in(line: &[u8]) -> &[u8]
-    ensures { result.now ≡ (cut_first 58 line.now).0 }
+/// Whether a line neither begins an attribute nor continues one.
+pub(crate) fn is_stray(line: &[u8]) -> bool
+    ensures { result ≡ is_stray line.now }
 {
-    let (name, _) = cut_first(line, b':');
-    name
+    !continues(line) && sides_of(line).is_none()
 }
 
 /// A name in lower case.
@@ -78,23 +90,13 @@ pub(crate) fn lower_name(alloc: Global, name: &[u8]) -> Result<Text, Memory>
     }
 }
 
-/// The value of the attribute that a line begins, before the lines that follow.
-pub(crate) fn value_of(alloc: Global, line: &[u8], lines: &[GroupLine]) -> Result<Bytes, Memory>
-    ensures { IfOk result (λ value. value ≡ value_of line.now lines.now) }
+/// The value that begins behind a colon, with the lines that continue it.
+pub(crate) fn value_of(alloc: Global, first: &[u8], lines: &[GroupLine]) -> Result<Bytes, Memory>
+    ensures { IfOk result (λ value. value ≡ continued (said_of first.now) lines.now) }
 {
-    let mut value = Vec::from_slice(alloc, said_of(behind_colon(line)))?;
+    let mut value = Vec::from_slice(alloc, said_of(first))?;
     continue_value(&mut value, lines)?;
     Ok(Bytes::from_vec(value))
-}
-
-// What stands behind the first colon of a line.
-fn behind_colon(line: &[u8]) -> &[u8]
-    ensures { result.now ≡ behind (cut_first 58 line.now) }
-{
-    match cut_first(line, b':') {
-        (_, Some(rest)) => rest,
-        (_, None) => &[],
-    }
 }
 
 // What a text says before its first `#`.
@@ -113,11 +115,10 @@ fn continue_value(value: &mut Vec<u8>, lines: &[GroupLine]) -> Result<(), Memory
 {
     let mut left = lines;
     while let [line, rest @ ..] = left {
-        if is_attribute(line.text) {
-            return Ok(());
-        }
         if continues(line.text) {
             join(value, said_of(without_first(line.text)))?;
+        } else if sides_of(line.text).is_some() {
+            return Ok(());
         }
         left = rest;
     }
@@ -138,42 +139,64 @@ fn join(value: &mut Vec<u8>, said: &[u8]) -> Result<(), Memory>
     Ok(())
 }
 
-/// Adds the attributes of some lines, as far as they are wanted.
+/// Adds the attributes of some lines, as far as they are wanted, and says whether a line is stray.
 #[tactic(auto, unfolding(crate::specs::Attributes::attributes))]
 pub(crate) fn push_attributes(
     alloc: Global,
     selection: &Selection,
     lines: &[GroupLine],
     parts: &mut Vec<Attribute>,
-) -> Result<(), Memory>
-    ensures { OnOk result (parts.new.items ≡ parts.old.items ++ filter (λ a. wants_name selection.now a.name) (attributes lines.now)) }
+) -> Result<bool, Memory>
+    ensures parts { OnOk result (parts.new.items ≡ parts.old.items ++ filter (λ a. wants_name selection.now a.name) (attributes lines.now)) }
+    ensures strays { IfOk result (λ strays. strays ≡ list_any (λ l. is_stray l.1) lines.now) }
 {
     let mut left = lines;
+    let mut strays = false;
     while let [line, rest @ ..] = left {
-        if is_attribute(line.text) {
-            push_attribute(alloc, selection, line, rest, parts)?;
+        if push_line(alloc, selection, line, rest, parts)? {
+            strays = true;
         }
         left = rest;
     }
-    Ok(())
+    Ok(strays)
 }
 
-// Adds the attribute that a line begins, where it is wanted.
-#[tactic(auto, unfolding(crate::specs::Attributes::is_attribute))]
-fn push_attribute(
+// Adds the attribute that a line begins, where it is wanted, or says whether the line is stray.
+fn push_line(
     alloc: Global,
     selection: &Selection,
     line: &GroupLine,
     lines: &[GroupLine],
     parts: &mut Vec<Attribute>,
+) -> Result<bool, Memory>
+    ensures parts { OnOk result (parts.new.items ≡ parts.old.items ++ filter (λ a. wants_name selection.now a.name) (attribute_in line.now lines.now)) }
+    ensures stray { IfOk result (λ stray. stray ≡ is_stray line.now.1) }
+{
+    match sides_of(line.text) {
+        Some(sides) => {
+            push_attribute(alloc, selection, line, sides, lines, parts)?;
+            Ok(false)
+        }
+        None => Ok(!continues(line.text)),
+    }
+}
+
+// Adds the attribute that a line begins, where it is wanted.
+fn push_attribute(
+    alloc: Global,
+    selection: &Selection,
+    line: &GroupLine,
+    sides: Sides,
+    lines: &[GroupLine],
+    parts: &mut Vec<Attribute>,
 ) -> Result<(), Memory>
-    requires { IsTrue (is_attribute line.now.1) }
+    requires { HasSides line.now.1 sides.name.now sides.value.now }
     ensures { OnOk result (parts.new.items ≡ parts.old.items ++ filter (λ a. wants_name selection.now a.name) (attribute line.now lines.now ∷ [])) }
 {
-    let Some(name) = selection.attribute_name(alloc, line.text)? else {
+    let Some(name) = selection.attribute_name(alloc, sides.name)? else {
         return Ok(());
     };
-    let value = value_of(alloc, line.text, lines)?;
+    let value = value_of(alloc, sides.value, lines)?;
     let line = line.number;
     parts.push(Attribute { name, value, line })?;
     Ok(())

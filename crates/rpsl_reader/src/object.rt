@@ -1,10 +1,11 @@
-ghost use Rattle.std.specs.Prelude.{◌≡◌, ◌∷◌, ◌++◌, [], IfOk, OnOk, IsTrue, filter};
-ghost use Rattle.rpsl_reader.specs.Attributes.{attribute, attributes, is_attribute, value_of};
+ghost use Rattle.std.specs.Prelude.{◌≡◌, ◌∷◌, ◌++◌, [], false, IfOk, OnOk, filter};
+ghost use Rattle.std.specs.List.{list_any};
+ghost use Rattle.rpsl_reader.specs.Attributes.{HasSides, attribute, attributes, continued, is_stray, said_of};
 ghost use Rattle.rpsl_reader.specs.Objects.{items, strays};
 ghost use Rattle.rpsl_reader.specs.Selections.{wanted, wants_name};
 ghost use Rattle.rpsl_reader.specs.declared.item.Item.TheVariants.{Passed, Whole};
 
-use crate::attribute::{is_attribute, is_stray, push_attributes, value_of};
+use crate::attribute::{Sides, is_stray, push_attributes, sides_of, value_of};
 use crate::item::{Attribute, Item, Object};
 use crate::line::GroupLine;
 use crate::selection::Selection;
@@ -23,9 +24,8 @@ pub(crate) fn push_items(
 {
     let mut left = lines;
     while let [line, rest @ ..] = left {
-        if is_attribute(line.text) {
-            push_object(alloc, selection, line, rest, found)?;
-            push_strays(rest, found)?;
+        if let Some(sides) = sides_of(line.text) {
+            push_first(alloc, selection, line, sides, rest, found)?;
             return Ok(());
         }
         push_stray(line, found)?;
@@ -34,49 +34,65 @@ pub(crate) fn push_items(
     Ok(())
 }
 
-// Adds the object that begins with a line, where it is wanted.
+// Adds the object that begins with a line, where it is wanted, and the notes on later lines.
+fn push_first(
+    alloc: Global,
+    selection: &Selection,
+    line: &GroupLine,
+    sides: Sides,
+    lines: &[GroupLine],
+    found: &mut Vec<Item>,
+) -> Result<(), Memory>
+    requires { HasSides line.now.1 sides.name.now sides.value.now }
+    ensures { OnOk result (found.new.items ≡ found.old.items ++ (wanted selection.now (Whole (record { line = line.now.0; parts = attribute line.now lines.now ∷ attributes lines.now }) ∷ []) ++ strays lines.now)) }
+{
+    if push_object(alloc, selection, line, sides, lines, found)? {
+        push_strays(lines, found)?;
+    }
+    Ok(())
+}
+
+// Adds the same object alone, and says whether a line behind its first one may be stray.
 fn push_object(
     alloc: Global,
     selection: &Selection,
     line: &GroupLine,
+    sides: Sides,
     lines: &[GroupLine],
     found: &mut Vec<Item>,
-) -> Result<(), Memory>
-    requires { IsTrue (is_attribute line.now.1) }
-    ensures { OnOk result (found.new.items ≡ found.old.items ++ wanted selection.now (Whole (record { line = line.now.0; parts = attribute line.now lines.now ∷ attributes lines.now }) ∷ [])) }
+) -> Result<bool, Memory>
+    requires { HasSides line.now.1 sides.name.now sides.value.now }
+    ensures found { OnOk result (found.new.items ≡ found.old.items ++ wanted selection.now (Whole (record { line = line.now.0; parts = attribute line.now lines.now ∷ attributes lines.now }) ∷ [])) }
+    ensures strays { IfOk result (λ may. may ≡ false → strays lines.now ≡ []) }
 {
-    let Some(name) = selection.class_name(alloc, line.text)? else {
-        return Ok(());
+    let Some(name) = selection.class_name(alloc, sides.name)? else {
+        return Ok(true);
     };
-    let object = object_of(alloc, selection, name, line, lines)?;
+    let (object, strays) = object_of(alloc, selection, name, line, sides.value, lines)?;
     found.push(Item::Whole(object))?;
-    Ok(())
+    Ok(strays)
 }
 
-// The object of a class that begins with a line, with the attributes that are wanted.
+// The object of a class with its wanted attributes, and whether a line behind its first one is
+// stray.
 fn object_of(
     alloc: Global,
     selection: &Selection,
     name: Text,
     line: &GroupLine,
+    first: &[u8],
     lines: &[GroupLine],
-) -> Result<Object, Memory>
-    ensures { IfOk result (λ object. object ≡ record { line = line.now.0; parts = record { name = name; value = value_of line.now.1 lines.now; line = line.now.0 } ∷ filter (λ a. wants_name selection.now a.name) (attributes lines.now) }) }
+) -> Result<(Object, bool), Memory>
+    ensures object { IfOk result (λ made. made.0 ≡ record { line = line.now.0; parts = record { name = name; value = continued (said_of first.now) lines.now; line = line.now.0 } ∷ filter (λ a. wants_name selection.now a.name) (attributes lines.now) }) }
+    ensures strays { IfOk result (λ made. made.1 ≡ list_any (λ l. is_stray l.1) lines.now) }
 {
-    let value = value_of(alloc, line.text, lines)?;
-    let number = line.number;
+    let value = value_of(alloc, first, lines)?;
+    let line = line.number;
     let mut parts = Vec::new(alloc);
-    parts.push(Attribute {
-        name,
-        value,
-        line: number,
-    })?;
-    push_attributes(alloc, selection, lines, &mut parts)?;
+    parts.push(Attribute { name, value, line })?;
+    let strays = push_attributes(alloc, selection, lines, &mut parts)?;
     let parts = List::of(parts);
-    Ok(Object {
-        line: number,
-        parts,
-    })
+    Ok((Object { line, parts }, strays))
 }
 
 // Adds a note on each line that is neither an attribute nor a continuation.

@@ -2,10 +2,10 @@ ghost use Rattle.std.specs.Prelude.{◌≡◌, ◌∷◌, ◌++◌, [], true, fa
 ghost use Rattle.std.specs.Char.{to_ascii_lowercase};
 ghost use Rattle.std.specs.Option.{option_copied};
 ghost use Rattle.geo_terms.specs.PlaceForm.{same_text};
-ghost use Rattle.rpsl_reader.specs.Attributes.{is_attribute, name_of};
+ghost use Rattle.rpsl_reader.specs.Attributes.{is_name};
 ghost use Rattle.rpsl_reader.specs.Selections.{is_among, wants_class, wants_name};
 
-use crate::attribute::{lower_name, name_in};
+use crate::attribute::lower_name;
 use geo_addr::{Memory, Text};
 use std::alloc::Global;
 use std::marker::Model;
@@ -66,24 +66,22 @@ impl Selection {
         self.names.push(name).map_err(Memory::from)
     }
 
-    /// The name of the class of an object that begins with a line, where such objects are wanted.
-    pub(crate) fn class_name(&self, alloc: Global, line: &[u8]) -> Result<Option<Text>, Memory>
-        requires { IsTrue (is_attribute line.now) }
-        ensures { IfOk result (λ found. found ≡ (if wants_class self.now (name_of line.now) then Some (name_of line.now) else None)) }
+    /// The name of a class in lower case, where its objects are wanted.
+    pub(crate) fn class_name(&self, alloc: Global, name: &[u8]) -> Result<Option<Text>, Memory>
+        requires { IsTrue (is_name name.now) }
+        ensures { IfOk result (λ found. found ≡ (if wants_class self.now (map to_ascii_lowercase name.now) then Some (map to_ascii_lowercase name.now) else None)) }
     {
-        let name = name_in(line);
         if self.everything {
             return Ok(Some(lower_name(alloc, name)?));
         }
         copy_of(find(self.classes.as_slice(), name))
     }
 
-    /// The name of the attribute that a line begins, where it is wanted.
-    pub(crate) fn attribute_name(&self, alloc: Global, line: &[u8]) -> Result<Option<Text>, Memory>
-        requires { IsTrue (is_attribute line.now) }
-        ensures { IfOk result (λ found. found ≡ (if wants_name self.now (name_of line.now) then Some (name_of line.now) else None)) }
+    /// The name of an attribute in lower case, where it is wanted.
+    pub(crate) fn attribute_name(&self, alloc: Global, name: &[u8]) -> Result<Option<Text>, Memory>
+        requires { IsTrue (is_name name.now) }
+        ensures { IfOk result (λ found. found ≡ (if wants_name self.now (map to_ascii_lowercase name.now) then Some (map to_ascii_lowercase name.now) else None)) }
     {
-        let name = name_in(line);
         if self.everything {
             return Ok(Some(lower_name(alloc, name)?));
         }

@@ -1,18 +1,21 @@
-use Rattle.std.proofs.Common.{◌++◌, ◌∷◌, [], cond, Some, None, ap, ◌∙◌}
-use Rattle.rpsl_reader.specs.Attributes.{name_of}
-use Rattle.rpsl_reader.specs.Selections.{wants_class}
+use Rattle.std.proofs.Common.{◌++◌, ◌∷◌, [], ap, sym, ◌∙◌}
 use Rattle.rpsl_reader.specs.declared.item.Item.TheVariants.{Whole}
-use Rattle.rpsl_reader.proofs.Wanted.{object_in, object_out}
+use Rattle.rpsl_reader.proofs.Sides.{sides_named}
+use Rattle.rpsl_reader.proofs.Wanted.{none_stray, sides_in, sides_out}
 use Rattle.rpsl_reader.proofs.object.push_object.Goals as goal
 
-pub returns-in_default : goal.returns-in_default
-returns-in_default c =
-    object_out c.args.selection.now c.args.line.now c.args.lines.now c.args.found.now.items _
-    (c.in_ok-name.ensures ∙ ap (λ l. cond (wants_class c.args.selection.now (name_of l.1)) (Some (name_of l.1)) None) c.line.view_is) c.in_default.is
+pub returns-in_default-clause-found : goal.returns-in_default-clause-found
+returns-in_default-clause-found c =
+    sides_out c.args.selection.now c.args.line.now c.args.lines.now c.args.sides.name.now c.args.sides.value.now c.args.found.now.items _ c.requires c.in_ok-name.ensures c.in_default.is
 
-pub returns : goal.returns
-returns c =
+pub class_name-requires : goal.class_name-requires
+class_name-requires c = sides_named c.args.line.now.1 c.args.sides.name.now c.args.sides.value.now c.requires
+
+pub returns-clause-found : goal.returns-clause-found
+returns-clause-found c =
     c.in_ok-push.ensures.items
-    ∙ ap (λ o. c.args.found.now.items ++ (Whole o ∷ [])) c.in_ok-object.ensures
-    ∙ object_in c.args.selection.now c.args.line.now c.args.lines.now c.args.found.now.items _ _
-    (c.in_ok-name.ensures ∙ ap (λ l. cond (wants_class c.args.selection.now (name_of l.1)) (Some (name_of l.1)) None) c.line.view_is) c.in-Some.is
+    ∙ ap (λ o. c.args.found.now.items ++ (Whole o ∷ [])) c.in_ok-object.ensures.object
+    ∙ sides_in c.args.selection.now c.args.line.now c.args.lines.now c.args.sides.name.now c.args.sides.value.now c.args.found.now.items _ _ c.requires c.in_ok-name.ensures c.in-Some.is
+
+pub returns-clause-strays : goal.returns-clause-strays
+returns-clause-strays c = λ no. none_stray c.args.lines.now (sym c.in_ok-object.ensures.strays ∙ no)
