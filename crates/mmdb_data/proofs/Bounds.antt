@@ -82,27 +82,27 @@ scalars_are_one kind =
     (either_one (eqb kind 10) _ _ (λ content. one refl refl refl)
     (either_one (eqb kind 15) _ _ (λ content. one refl refl refl) tt))))))
 
-value_is_one : (section : List ℕ) (is_key : Bool) (at : ℕ) (scalar : Option Scalar) (size place : ℕ)
+value_is_one : (section : List ℕ) (is_key : Bool) (at : ℕ) (scalar : Option Scalar) (size offset : ℕ)
     (value : Tree) → AreOne scalar
-    → scalar_value_from section is_key at scalar size place ≡ Ok value → IsOne value
-value_is_one section is_key at None size place value h e = absurd cc
-value_is_one section is_key at (Some scalar) size place value h e =
-    let b = bind_ok (scalar_bytes_from section is_key at scalar.least scalar.greatest size place)
+    → scalar_value_from section is_key at scalar size offset ≡ Ok value → IsOne value
+value_is_one section is_key at None size offset value h e = absurd cc
+value_is_one section is_key at (Some scalar) size offset value h e =
+    let b = bind_ok (scalar_bytes_from section is_key at scalar.least scalar.greatest size offset)
     (λ content. Ok (scalar.value content)) value e in
     subst IsOne (ok_is (scalar.value b.0) value b.2) (h b.0)
 
 -- ---- one value and the budget after it
 
-bytes_len : (section : List ℕ) (place size : ℕ) (fault : Fault) (content : List ℕ)
-    → bytes_from section place size fault ≡ Ok content → length content ≡ size
+bytes_len : (section : List ℕ) (offset size : ℕ) (fault : Fault) (content : List ℕ)
+    → bytes_from section offset size fault ≡ Ok content → length content ≡ size
 unfolding bytes_from
-bytes_len section place size fault content e =
-    elim (chosen (ltb (length section - place) size) _ _ (Ok content) e) [
+bytes_len section offset size fault content e =
+    elim (chosen (ltb (length section - offset) size) _ _ (Ok content) e) [
       | inl a ↦ absurd cc
-      | inr a ↦ let enough = ltb-false (length section - place) size a.0 in
-          let is = ok_is (take size (drop place section)) content a.1 in
-          sym (ap length is) ∙ length-take-le size (drop place section)
-          (omega (arith, length-drop place section))
+      | inr a ↦ let enough = ltb-false (length section - offset) size a.0 in
+          let is = ok_is (take size (drop offset section)) content a.1 in
+          sym (ap length is) ∙ length-take-le size (drop offset section)
+          (omega (arith, length-drop offset section))
     ]
 
 -- bytes of the budget became bytes of the content
@@ -110,12 +110,12 @@ record AreSpent (content : List ℕ) (before after : Budget) : Type 0 where
   pub values_stay : after.values ≡ before.values
   pub bytes_spent : length content + after.bytes ≡ before.bytes
 
-content_spent : (section : List ℕ) (at size place : ℕ) (left : Budget) (found : List ℕ × Budget)
-    → content_bytes_from section at size place left ≡ Ok found → AreSpent found.0 left found.1
+content_spent : (section : List ℕ) (at size offset : ℕ) (left : Budget) (found : List ℕ × Budget)
+    → content_bytes_from section at size offset left ≡ Ok found → AreSpent found.0 left found.1
 unfolding content_bytes_from
-content_spent section at size place left found e =
-    let b = bind_ok (bytes_from section place size (at, Truncated)) _ found e in
-    let len = bytes_len section place size (at, Truncated) b.0 b.1 in
+content_spent section at size offset left found e =
+    let b = bind_ok (bytes_from section offset size (at, Truncated)) _ found e in
+    let len = bytes_len section offset size (at, Truncated) b.0 b.1 in
     elim (chosen (ltb left.bytes size) _ _ (Ok found) b.2) [
       | inl a ↦ absurd cc
       | inr a ↦ let enough = ltb-false left.bytes size a.0 in
@@ -124,24 +124,24 @@ content_spent section at size place left found e =
           (record { values_stay = refl; bytes_spent = omega (arith, len, enough) })
     ]
 
-text_spent : (section : List ℕ) (at size place : ℕ) (left : Budget) (found : List ℕ × Budget)
-    → text_from section at size place left ≡ Ok found → AreSpent found.0 left found.1
+text_spent : (section : List ℕ) (at size offset : ℕ) (left : Budget) (found : List ℕ × Budget)
+    → text_from section at size offset left ≡ Ok found → AreSpent found.0 left found.1
 unfolding text_from
-text_spent section at size place left found e =
-    let b = bind_ok (content_bytes_from section at size place left) _ found e in
+text_spent section at size offset left found e =
+    let b = bind_ok (content_bytes_from section at size offset left) _ found e in
     let same = ok_is b.0 found (held (is_utf8 b.0.0) (at, Utf8) (Ok b.0) found b.2) in
     subst (λ (x : List ℕ × Budget). AreSpent x.0 left x.1) same
-    (content_spent section at size place left b.0 b.1)
+    (content_spent section at size offset left b.0 b.1)
 
-byte_string_spent : (section : List ℕ) (is_key : Bool) (at size place : ℕ) (left : Budget)
-    (found : List ℕ × Budget) → byte_string_from section is_key at size place left ≡ Ok found
+byte_string_spent : (section : List ℕ) (is_key : Bool) (at size offset : ℕ) (left : Budget)
+    (found : List ℕ × Budget) → byte_string_from section is_key at size offset left ≡ Ok found
     → AreSpent found.0 left found.1
 unfolding byte_string_from
-byte_string_spent section is_key at size place left found e =
-    let b = bind_ok (content_bytes_from section at size place left) _ found e in
+byte_string_spent section is_key at size offset left found e =
+    let b = bind_ok (content_bytes_from section at size offset left) _ found e in
     let same = ok_is b.0 found (passed is_key (at, Key) (Ok b.0) found b.2) in
     subst (λ (x : List ℕ × Budget). AreSpent x.0 left x.1) same
-    (content_spent section at size place left b.0 b.1)
+    (content_spent section at size offset left b.0 b.1)
 
 -- one value, one level deep, and what it spent beside its place among the values
 record IsLeaf (value : Tree) (before after : Budget) : Type 0 where
@@ -162,17 +162,17 @@ leaf {before = before} h same =
           omega (arith, h.light, ap (λ (b : Budget). b.bytes) same);
     }
 
-leaf_is_one : (section : List ℕ) (is_key : Bool) (at kind size place : ℕ) (left : Budget)
-    (found : Tree × ℕ × Budget) → leaf_from section is_key at kind size place left ≡ Ok found
+leaf_is_one : (section : List ℕ) (is_key : Bool) (at kind size offset : ℕ) (left : Budget)
+    (found : Tree × ℕ × Budget) → leaf_from section is_key at kind size offset left ≡ Ok found
     → IsLeaf found.0 left found.2
 unfolding leaf_from scalar_from
-leaf_is_one section is_key at kind size place left found e =
+leaf_is_one section is_key at kind size offset left found e =
     elim (chosen (eqb kind 2) _ _ (Ok found) e) [
-      | inl a ↦ let b = bind_ok (text_from section at size place left)
-          (λ x. Ok (text x.0, place + size, x.1)) found a.1 in
-          let h = text_spent section at size place left b.0 b.1 in
+      | inl a ↦ let b = bind_ok (text_from section at size offset left)
+          (λ x. Ok (text x.0, offset + size, x.1)) found a.1 in
+          let h = text_spent section at size offset left b.0 b.1 in
           subst (λ (x : Tree × ℕ × Budget). IsLeaf x.0 left x.2)
-          (ok_is (text b.0.0, place + size, b.0.1) found b.2)
+          (ok_is (text b.0.0, offset + size, b.0.1) found b.2)
           (record {
             depth_is = refl;
             count_is = refl;
@@ -181,11 +181,11 @@ leaf_is_one section is_key at kind size place left found e =
                 h.bytes_spent;
           })
       | inr a ↦ elim (chosen (eqb kind 4) _ _ (Ok found) a.1) [
-        | inl b ↦ let c = bind_ok (byte_string_from section is_key at size place left)
-            (λ x. Ok (bytes x.0, place + size, x.1)) found b.1 in
-            let h = byte_string_spent section is_key at size place left c.0 c.1 in
+        | inl b ↦ let c = bind_ok (byte_string_from section is_key at size offset left)
+            (λ x. Ok (bytes x.0, offset + size, x.1)) found b.1 in
+            let h = byte_string_spent section is_key at size offset left c.0 c.1 in
             subst (λ (x : Tree × ℕ × Budget). IsLeaf x.0 left x.2)
-            (ok_is (bytes c.0.0, place + size, c.0.1) found c.2)
+            (ok_is (bytes c.0.0, offset + size, c.0.1) found c.2)
             (record {
               depth_is = refl;
               count_is = refl;
@@ -194,14 +194,14 @@ leaf_is_one section is_key at kind size place left found e =
             })
         | inr b ↦ elim (chosen (eqb kind 14) _ _ (Ok found) b.1) [
           | inl c ↦ let d = bind_ok (bool_from is_key at size)
-              (λ v. Ok (bool v, place, left)) found c.1 in
+              (λ v. Ok (bool v, offset, left)) found c.1 in
               subst (λ (x : Tree × ℕ × Budget). IsLeaf x.0 left x.2)
-              (ok_is (bool d.0, place, left) found d.2) (leaf (one refl refl refl) refl)
+              (ok_is (bool d.0, offset, left) found d.2) (leaf (one refl refl refl) refl)
           | inr c ↦ let d = bind_ok (scalar_value_from section is_key at
-              (scalar_of kind) size place) (λ v. Ok (v, place + size, left)) found c.1 in
+              (scalar_of kind) size offset) (λ v. Ok (v, offset + size, left)) found c.1 in
               subst (λ (x : Tree × ℕ × Budget). IsLeaf x.0 left x.2)
-              (ok_is (d.0, place + size, left) found d.2)
-              (leaf (value_is_one section is_key at (scalar_of kind) size place d.0
+              (ok_is (d.0, offset + size, left) found d.2)
+              (leaf (value_is_one section is_key at (scalar_of kind) size offset d.0
               (scalars_are_one kind) d.1) refl)
         ]
       ]
@@ -228,33 +228,33 @@ abbrev StaysWithin : ℕ → Read → Type 0
 StaysWithin levels read = (is_key : Bool) (at : ℕ) (left : Budget) (found : Tree × ℕ × Budget)
     → read is_key at left ≡ Ok found → IsWithin levels found.0 left found.2
 
-key_is : (place : ℕ) (key : Tree) (name : List ℕ) → key_of place key ≡ Ok name → key ≡ text name
-key_is place (text content) name e = ap text (ok_is content name e)
-key_is place (map pairs) name e = absurd cc
-key_is place (list values) name e = absurd cc
-key_is place (bytes content) name e = absurd cc
-key_is place (u16 n) name e = absurd cc
-key_is place (u32 n) name e = absurd cc
-key_is place (i32 n) name e = absurd cc
-key_is place (u64 n) name e = absurd cc
-key_is place (u128 n) name e = absurd cc
-key_is place (bool b) name e = absurd cc
-key_is place (double content) name e = absurd cc
-key_is place (float content) name e = absurd cc
+key_is : (offset : ℕ) (key : Tree) (name : List ℕ) → key_of offset key ≡ Ok name → key ≡ text name
+key_is offset (text content) name e = ap text (ok_is content name e)
+key_is offset (map pairs) name e = absurd cc
+key_is offset (list values) name e = absurd cc
+key_is offset (bytes content) name e = absurd cc
+key_is offset (u16 n) name e = absurd cc
+key_is offset (u32 n) name e = absurd cc
+key_is offset (i32 n) name e = absurd cc
+key_is offset (u64 n) name e = absurd cc
+key_is offset (u128 n) name e = absurd cc
+key_is offset (bool b) name e = absurd cc
+key_is offset (double content) name e = absurd cc
+key_is offset (float content) name e = absurd cc
 
 members_within : (levels : ℕ) (read : Read) → StaysWithin levels read
-    → (n place : ℕ) (left : Budget) (found : Members × ℕ × Budget)
-    → members_from read n place left ≡ Ok found → MembersAreWithin levels found.0 left found.2
-members_within levels read within zero place left found e =
+    → (n offset : ℕ) (left : Budget) (found : Members × ℕ × Budget)
+    → members_from read n offset left ≡ Ok found → MembersAreWithin levels found.0 left found.2
+members_within levels read within zero offset left found e =
     subst (λ (x : Members × ℕ × Budget). MembersAreWithin levels x.0 left x.2)
-    (ok_is (no_members, place, left) found e)
+    (ok_is (no_members, offset, left) found e)
     (record { deep = omega arith; spent = omega arith; bytes_spent = omega arith })
-members_within levels read within (suc n) place left found e =
-    let a = bind_ok (read true place left)
-    (λ key. key_of place key.0 >>= λ name. read false key.1 key.2 >>= λ value. members_from read
+members_within levels read within (suc n) offset left found e =
+    let a = bind_ok (read true offset left)
+    (λ key. key_of offset key.0 >>= λ name. read false key.1 key.2 >>= λ value. members_from read
     n value.1 value.2 >>= λ rest. Ok (member name value.0 rest.0, rest.1, rest.2)) found e in
     let key = a.0 in
-    let b = bind_ok (key_of place key.0)
+    let b = bind_ok (key_of offset key.0)
     (λ name. read false key.1 key.2 >>= λ value. members_from read n value.1 value.2 >>= λ rest.
     Ok (member name value.0 rest.0, rest.1, rest.2)) found a.2 in
     let name = b.0 in
@@ -266,8 +266,8 @@ members_within levels read within (suc n) place left found e =
     (λ rest. Ok (member name value.0 rest.0, rest.1, rest.2)) found c.2 in
     let rest = d.0 in
     let first : IsWithin levels (text name) left key.2 =
-    subst (λ (k : Tree). IsWithin levels k left key.2) (key_is place key.0 name b.1)
-    (within true place left key a.1) in
+    subst (λ (k : Tree). IsWithin levels k left key.2) (key_is offset key.0 name b.1)
+    (within true offset left key a.1) in
     let second = within false key.1 key.2 value c.1 in
     let others = members_within levels read within n value.1 value.2 rest d.1 in
     subst (λ (x : Members × ℕ × Budget). MembersAreWithin levels x.0 left x.2)
@@ -281,21 +281,21 @@ members_within levels read within (suc n) place left found e =
     })
 
 items_within : (levels : ℕ) (read : Read) → StaysWithin levels read
-    → (n place : ℕ) (left : Budget) (found : Items × ℕ × Budget)
-    → items_from read n place left ≡ Ok found → ItemsAreWithin levels found.0 left found.2
-items_within levels read within zero place left found e =
+    → (n offset : ℕ) (left : Budget) (found : Items × ℕ × Budget)
+    → items_from read n offset left ≡ Ok found → ItemsAreWithin levels found.0 left found.2
+items_within levels read within zero offset left found e =
     subst (λ (x : Items × ℕ × Budget). ItemsAreWithin levels x.0 left x.2)
-    (ok_is (no_items, place, left) found e)
+    (ok_is (no_items, offset, left) found e)
     (record { deep = omega arith; spent = omega arith; bytes_spent = omega arith })
-items_within levels read within (suc n) place left found e =
-    let c = bind_ok (read false place left)
+items_within levels read within (suc n) offset left found e =
+    let c = bind_ok (read false offset left)
     (λ value. items_from read n value.1 value.2 >>= λ rest. Ok
     (item value.0 rest.0, rest.1, rest.2)) found e in
     let value = c.0 in
     let d = bind_ok (items_from read n value.1 value.2)
     (λ rest. Ok (item value.0 rest.0, rest.1, rest.2)) found c.2 in
     let rest = d.0 in
-    let second = within false place left value c.1 in
+    let second = within false offset left value c.1 in
     let others = items_within levels read within n value.1 value.2 rest d.1 in
     subst (λ (x : Items × ℕ × Budget). ItemsAreWithin levels x.0 left x.2)
     (ok_is (item value.0 rest.0, rest.1, rest.2) found d.2)
@@ -314,17 +314,17 @@ record IsOneMore (levels : ℕ) (value : Tree) (before after : Budget) : Type 0 
   pub bytes_spent : bytes_in value + after.bytes ≡ before.bytes
 
 content_within : (levels : ℕ) (read : Read) → StaysWithin levels read
-    → (section : List ℕ) (is_key : Bool) (at kind size place : ℕ) (left : Budget)
+    → (section : List ℕ) (is_key : Bool) (at kind size offset : ℕ) (left : Budget)
     (found : Tree × ℕ × Budget)
-    → content_from read section is_key at kind size place left ≡ Ok found
+    → content_from read section is_key at kind size offset left ≡ Ok found
     → IsOneMore levels found.0 left found.2
 unfolding content_from
-content_within levels read within section is_key at kind size place left found e =
+content_within levels read within section is_key at kind size offset left found e =
     elim (chosen (eqb kind 7) _ _ (Ok found) e) [
       | inl a ↦ let p = passed is_key (at, Key) _ found a.1 in
-          let b = bind_ok (members_from read size place left)
+          let b = bind_ok (members_from read size offset left)
           (λ x. Ok (map x.0, x.1, x.2)) found p in
-          let h = members_within levels read within size place left b.0 b.1 in
+          let h = members_within levels read within size offset left b.0 b.1 in
           subst (λ (x : Tree × ℕ × Budget). IsOneMore levels x.0 left x.2)
           (ok_is (map b.0.0, b.0.1, b.0.2) found b.2)
           (record {
@@ -335,9 +335,9 @@ content_within levels read within section is_key at kind size place left found e
           })
       | inr a ↦ elim (chosen (eqb kind 11) _ _ (Ok found) a.1) [
         | inl c ↦ let p = passed is_key (at, Key) _ found c.1 in
-            let b = bind_ok (items_from read size place left)
+            let b = bind_ok (items_from read size offset left)
             (λ x. Ok (list x.0, x.1, x.2)) found p in
-            let h = items_within levels read within size place left b.0 b.1 in
+            let h = items_within levels read within size offset left b.0 b.1 in
             subst (λ (x : Tree × ℕ × Budget). IsOneMore levels x.0 left x.2)
             (ok_is (list b.0.0, b.0.1, b.0.2) found b.2)
             (record {
@@ -345,7 +345,7 @@ content_within levels read within section is_key at kind size place left found e
               spent = omega (arith, h.spent);
               bytes_spent = omega (arith, h.bytes_spent);
             })
-        | inr c ↦ let h = leaf_is_one section is_key at kind size place left found c.1 in
+        | inr c ↦ let h = leaf_is_one section is_key at kind size offset left found c.1 in
             record {
               deep = omega (arith, h.depth_is);
               spent =

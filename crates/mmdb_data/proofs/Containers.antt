@@ -57,26 +57,26 @@ item_stands section value later at one others levels n m b c deep few light =
     let rest_found = others levels n m n2 m2 (omega (arith, deep)) refl refl in
     rw (value_found, rest_found) refl
 
-map_in : (section : List ℕ) (members : Members) (at place after levels : ℕ) (is_key : Bool)
-    → MembersStand section members place after
+map_in : (section : List ℕ) (members : Members) (at offset after levels : ℕ) (is_key : Bool)
+    → MembersStand section members offset after
     → (n m b c : ℕ) → MayStand is_key (map members) → members_depth members ≤ levels
     → b ≡ members_count members + n → c ≡ members_bytes members + m
-    → content_from (value_from section levels) section is_key at 7 (members_len members) place
+    → content_from (value_from section levels) section is_key at 7 (members_len members) offset
     (left_of b c) ≡ Ok (map members, after, left_of n m)
 unfolding content_from
-map_in section members at place after levels true inner n m b c may deep few light = absurd may
-map_in section members at place after levels false inner n m b c may deep few light =
+map_in section members at offset after levels true inner n m b c may deep few light = absurd may
+map_in section members at offset after levels false inner n m b c may deep few light =
     rw (inner levels n m b c deep few light) refl
 
-list_in : (section : List ℕ) (items : Items) (at place after levels : ℕ) (is_key : Bool)
-    → ItemsStand section items place after
+list_in : (section : List ℕ) (items : Items) (at offset after levels : ℕ) (is_key : Bool)
+    → ItemsStand section items offset after
     → (n m b c : ℕ) → MayStand is_key (list items) → items_depth items ≤ levels
     → b ≡ items_count items + n → c ≡ items_bytes items + m
-    → content_from (value_from section levels) section is_key at 11 (items_len items) place
+    → content_from (value_from section levels) section is_key at 11 (items_len items) offset
     (left_of b c) ≡ Ok (list items, after, left_of n m)
 unfolding content_from
-list_in section items at place after levels true inner n m b c may deep few light = absurd may
-list_in section items at place after levels false inner n m b c may deep few light =
+list_in section items at offset after levels true inner n m b c may deep few light = absurd may
+list_in section items at offset after levels false inner n m b c may deep few light =
     rw (inner levels n m b c deep few light) refl
 
 pub map_stands : (section : List ℕ) (members : Members) (at after : ℕ) (y : List ℕ)
@@ -84,9 +84,9 @@ pub map_stands : (section : List ℕ) (members : Members) (at after : ℕ) (y : 
     → MembersStand section members (at + length (head 7 (members_len members))) after
     → StandsFull section (map members) at after
 map_stands section members at after y fits here inner =
-    let place = at + length (head 7 (members_len members)) in
+    let offset = at + length (head 7 (members_len members)) in
     full_from_head section (map members) at 7 (members_len members) after y (omega arith) fits here
-    (λ levels is_key n m b c may deep few light. map_in section members at place after levels is_key
+    (λ levels is_key n m b c may deep few light. map_in section members at offset after levels is_key
     inner n m b c may (omega (arith, deep)) (omega (arith, few)) light)
 
 pub list_stands : (section : List ℕ) (items : Items) (at after : ℕ) (y : List ℕ)
@@ -94,7 +94,7 @@ pub list_stands : (section : List ℕ) (items : Items) (at after : ℕ) (y : Lis
     → ItemsStand section items (at + length (head 11 (items_len items))) after
     → StandsFull section (list items) at after
 list_stands section items at after y fits here inner =
-    let place = at + length (head 11 (items_len items)) in
+    let offset = at + length (head 11 (items_len items)) in
     full_from_head section (list items) at 11 (items_len items) after y (omega arith) fits here
-    (λ levels is_key n m b c may deep few light. list_in section items at place after levels is_key
+    (λ levels is_key n m b c may deep few light. list_in section items at offset after levels is_key
     inner n m b c may (omega (arith, deep)) (omega (arith, few)) light)

@@ -1,4 +1,4 @@
--- What is written before the content of a value is read again: its type, its size and the place of
+-- What is written before the content of a value is read again: its type, its size and the offset of
 -- the content.
 use Rattle.std.proofs.Common.{◌≡◌, ℕ, ◌+◌, ◌-◌, ◌*◌, ◌/◌, ◌%◌, ◌<◌, ◌≤◌, false, List, [], ◌∷◌, ◌++◌}
 use Rattle.std.proofs.Common.{length, drop, Ok, refl, ap, ◌∙◌, append_assoc, arith, inl, inr}
@@ -8,18 +8,18 @@ use Rattle.mmdb_data.specs.declared.fault.DataCause.TheVariants.{Truncated}
 use Rattle.mmdb_data.specs.Tree.{most}
 use Rattle.mmdb_data.specs.Spelling.{size_code, size_bytes, kind_bytes, head}
 use Rattle.mmdb_data.specs.Reading.{Fault, byte_from, kind_from, size_from, head_from, is_pointer}
-use Rattle.mmdb_data.proofs.Places.{moved, byte_here, number_here}
+use Rattle.mmdb_data.proofs.Offsets.{moved, byte_here, number_here}
 
 -- the two parts of a size, and how they are read
-record SizeIs (section : List ℕ) (at place size : ℕ) : Type 0 where
+record SizeIs (section : List ℕ) (at offset size : ℕ) : Type 0 where
   pub small : size_code size < 32
-  pub read : size_from section at (size_code size) place ≡ Ok
-      (size, place + length (size_bytes size))
+  pub read : size_from section at (size_code size) offset ≡ Ok
+      (size, offset + length (size_bytes size))
 
-size_here : (section : List ℕ) (at place size : ℕ) (y : List ℕ) → size ≤ most
-    → drop place section ≡ size_bytes size ++ y → SizeIs section at place size
+size_here : (section : List ℕ) (at offset size : ℕ) (y : List ℕ) → size ≤ most
+    → drop offset section ≡ size_bytes size ++ y → SizeIs section at offset size
 unfolding size_code size_bytes size_from
-size_here section at place size y fits here =
+size_here section at offset size y fits here =
     elim (cases_lt size 29) [
       | inl a ↦ let a' = lt-ltb size 29 a in
           record {
@@ -30,30 +30,30 @@ size_here section at place size y fits here =
       | inr a ↦ let a' = le-ltb size 29 a in
           elim (cases_lt size 285) [
             | inl b ↦ let b' = lt-ltb size 285 b in
-                let one = number_here section place 1 (size - 29) y (at, Truncated)
+                let one = number_here section offset 1 (size - 29) y (at, Truncated)
                 (rw (a', b') at here) (omega arith) in
                 record {
                   small = rw (a', b') (omega arith);
                   read =
-                      rw (a', b', one) (ap (λ (n : ℕ). Ok (n, place + 1)) (omega arith));
+                      rw (a', b', one) (ap (λ (n : ℕ). Ok (n, offset + 1)) (omega arith));
                 }
             | inr b ↦ let b' = le-ltb size 285 b in
                 elim (cases_lt size 65821) [
                   | inl c ↦ let c' = lt-ltb size 65821 c in
-                      let two = number_here section place 2 (size - 285) y (at, Truncated)
+                      let two = number_here section offset 2 (size - 285) y (at, Truncated)
                       (rw (a', b', c') at here) (omega arith) in
                       record {
                         small = rw (a', b', c') (omega arith);
                         read =
-                            rw (a', b', c', two) (ap (λ (n : ℕ). Ok (n, place + 2)) (omega arith));
+                            rw (a', b', c', two) (ap (λ (n : ℕ). Ok (n, offset + 2)) (omega arith));
                       }
                   | inr c ↦ let c' = le-ltb size 65821 c in
-                      let three = number_here section place 3 (size - 65821) y (at, Truncated)
+                      let three = number_here section offset 3 (size - 65821) y (at, Truncated)
                       (rw (a', b', c') at here) (omega arith) in
                       record {
                         small = rw (a', b', c') (omega arith);
                         read =
-                            rw (a', b', c', three) (ap (λ (n : ℕ). Ok (n, place + 3))
+                            rw (a', b', c', three) (ap (λ (n : ℕ). Ok (n, offset + 3))
                             (omega arith));
                       }
                 ]
@@ -111,13 +111,13 @@ unfolding head head_from
 head_here section at kind size y low fits here =
     let parts : drop at section ≡ kind_bytes kind (size_code size) ++ (size_bytes size ++ y) =
     here ∙ append_assoc (kind_bytes kind (size_code size)) (size_bytes size) y in
-    let place = at + length (kind_bytes kind (size_code size)) in
-    let second = size_here section at place size y fits
+    let offset = at + length (kind_bytes kind (size_code size)) in
+    let second = size_here section at offset size y fits
     (moved section at (kind_bytes kind (size_code size))
-    (size_bytes size ++ y) place parts refl) in
+    (size_bytes size ++ y) offset parts refl) in
     let one = kind_here section at kind (size_code size)
     (size_bytes size ++ y) low second.small parts in
-    let whole : place + length (size_bytes size) ≡ at + length
+    let whole : offset + length (size_bytes size) ≡ at + length
     (kind_bytes kind (size_code size) ++ size_bytes size) =
     omega (arith, length-append (kind_bytes kind (size_code size)) (size_bytes size)) in
     record {

@@ -24,76 +24,76 @@ IsText value = (content : List ℕ) × (value ≡ text content) × IsUtf8 conten
 abbrev FindsText : Tree × ℕ × Budget → Type 0
 FindsText found = IsText found.0
 
-no_bytes : (section : List ℕ) (at size place : ℕ) (left : Budget) (found : List ℕ × Budget)
-    → byte_string_from section true at size place left ≡ Ok found → ⊥
+no_bytes : (section : List ℕ) (at size offset : ℕ) (left : Budget) (found : List ℕ × Budget)
+    → byte_string_from section true at size offset left ≡ Ok found → ⊥
 unfolding byte_string_from
-no_bytes section at size place left found e =
-    let b = bind_ok (content_bytes_from section at size place left) _ found e in
+no_bytes section at size offset left found e =
+    let b = bind_ok (content_bytes_from section at size offset left) _ found e in
     absurd (let never = b.2 in cc)
 
 no_bool : (at size : ℕ) (found : Bool) → bool_from true at size ≡ Ok found → ⊥
 unfolding bool_from
 no_bool at size found e = absurd (let never = passed (ltb 1 size) _ _ found e in cc)
 
-no_content : (section : List ℕ) (at least greatest size place : ℕ) (found : List ℕ)
-    → scalar_bytes_from section true at least greatest size place ≡ Ok found → ⊥
+no_content : (section : List ℕ) (at least greatest size offset : ℕ) (found : List ℕ)
+    → scalar_bytes_from section true at least greatest size offset ≡ Ok found → ⊥
 unfolding scalar_bytes_from
-no_content section at least greatest size place found e =
+no_content section at least greatest size offset found e =
     let rest : Result (List ℕ) Fault =
-    bytes_from section place size (at, Truncated) >>= λ content. Err (at, Key) in
+    bytes_from section offset size (at, Truncated) >>= λ content. Err (at, Key) in
     let p : rest ≡ Ok found =
     passed (nat_lt size least || nat_lt greatest size) (at, Size) rest found e in
-    let b = bind_ok (bytes_from section place size (at, Truncated)) (λ content. Err (at, Key)) found
+    let b = bind_ok (bytes_from section offset size (at, Truncated)) (λ content. Err (at, Key)) found
     p in
     absurd (let never = b.2 in cc)
 
-no_scalar : (section : List ℕ) (at : ℕ) (scalar : Option Scalar) (size place : ℕ) (found : Tree)
-    → scalar_value_from section true at scalar size place ≡ Ok found → ⊥
-no_scalar section at None size place found e = absurd cc
-no_scalar section at (Some scalar) size place found e =
-    let a = bind_ok (scalar_bytes_from section true at scalar.least scalar.greatest size place)
+no_scalar : (section : List ℕ) (at : ℕ) (scalar : Option Scalar) (size offset : ℕ) (found : Tree)
+    → scalar_value_from section true at scalar size offset ≡ Ok found → ⊥
+no_scalar section at None size offset found e = absurd cc
+no_scalar section at (Some scalar) size offset found e =
+    let a = bind_ok (scalar_bytes_from section true at scalar.least scalar.greatest size offset)
     (λ content. Ok (scalar.value content)) found e in
-    no_content section at scalar.least scalar.greatest size place a.0 a.1
+    no_content section at scalar.least scalar.greatest size offset a.0 a.1
 
-leaf_is_text : (section : List ℕ) (at kind size place : ℕ) (left : Budget)
-    (found : Tree × ℕ × Budget) → leaf_from section true at kind size place left ≡ Ok found
+leaf_is_text : (section : List ℕ) (at kind size offset : ℕ) (left : Budget)
+    (found : Tree × ℕ × Budget) → leaf_from section true at kind size offset left ≡ Ok found
     → FindsText found
 unfolding leaf_from scalar_from text_from
-leaf_is_text section at kind size place left found e =
+leaf_is_text section at kind size offset left found e =
     elim (chosen (eqb kind 2) _ _ (Ok found) e) [
-      | inl a ↦ let b = bind_ok (text_from section at size place left)
-          (λ x. Ok (text x.0, place + size, x.1)) found a.1 in
-          let c = bind_ok (content_bytes_from section at size place left) _ b.0 b.1 in
+      | inl a ↦ let b = bind_ok (text_from section at size offset left)
+          (λ x. Ok (text x.0, offset + size, x.1)) found a.1 in
+          let c = bind_ok (content_bytes_from section at size offset left) _ b.0 b.1 in
           let d = kept_if (is_utf8 c.0.0) (at, Utf8) (Ok c.0) b.0 c.2 in
           let same = ok_is c.0 b.0 d.1 in
           let utf8 : IsUtf8 b.0.0 =
           subst (λ (x : List ℕ × Budget). IsUtf8 x.0) same (IsUtf8-from_is_utf8 c.0.0 d.0) in
-          subst FindsText (ok_is (text b.0.0, place + size, b.0.1) found b.2) (b.0.0, refl, utf8)
+          subst FindsText (ok_is (text b.0.0, offset + size, b.0.1) found b.2) (b.0.0, refl, utf8)
       | inr a ↦ elim (chosen (eqb kind 4) _ _ (Ok found) a.1) [
-        | inl b ↦ let c = bind_ok (byte_string_from section true at size place left)
-            (λ x. Ok (bytes x.0, place + size, x.1)) found b.1 in
-            absurd (no_bytes section at size place left c.0 c.1)
+        | inl b ↦ let c = bind_ok (byte_string_from section true at size offset left)
+            (λ x. Ok (bytes x.0, offset + size, x.1)) found b.1 in
+            absurd (no_bytes section at size offset left c.0 c.1)
         | inr b ↦ elim (chosen (eqb kind 14) _ _ (Ok found) b.1) [
-          | inl c ↦ let d = bind_ok (bool_from true at size) (λ v. Ok (bool v, place, left)) found
+          | inl c ↦ let d = bind_ok (bool_from true at size) (λ v. Ok (bool v, offset, left)) found
               c.1 in
               absurd (no_bool at size d.0 d.1)
-          | inr c ↦ let d = bind_ok (scalar_value_from section true at (scalar_of kind) size place)
-              (λ v. Ok (v, place + size, left)) found c.1 in
-              absurd (no_scalar section at (scalar_of kind) size place d.0 d.1)
+          | inr c ↦ let d = bind_ok (scalar_value_from section true at (scalar_of kind) size offset)
+              (λ v. Ok (v, offset + size, left)) found c.1 in
+              absurd (no_scalar section at (scalar_of kind) size offset d.0 d.1)
         ]
       ]
     ]
 
-content_is_text : (read : Read) (section : List ℕ) (at kind size place : ℕ) (left : Budget)
+content_is_text : (read : Read) (section : List ℕ) (at kind size offset : ℕ) (left : Budget)
     (found : Tree × ℕ × Budget)
-    → content_from read section true at kind size place left ≡ Ok found → FindsText found
+    → content_from read section true at kind size offset left ≡ Ok found → FindsText found
 unfolding content_from
-content_is_text read section at kind size place left found e =
+content_is_text read section at kind size offset left found e =
     elim (chosen (eqb kind 7) _ _ (Ok found) e) [
       | inl a ↦ absurd (let never = a.1 in cc)
       | inr a ↦ elim (chosen (eqb kind 11) _ _ (Ok found) a.1) [
         | inl c ↦ absurd (let never = c.1 in cc)
-        | inr c ↦ leaf_is_text section at kind size place left found c.1
+        | inr c ↦ leaf_is_text section at kind size offset left found c.1
       ]
     ]
 

@@ -1,5 +1,5 @@
 mod Vectors
-mod Places
+mod Offsets
 mod Heads
 mod Values
 mod Containers

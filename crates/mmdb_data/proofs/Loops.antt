@@ -66,67 +66,67 @@ regroup_members front key value (Ok x) =
     (sym (joined-assoc front (member key value no_members) x.0))
 regroup_members front key value (Err e) = refl
 
-pub members_go_on : (read : Read) (front : Members) (count i place : ℕ) (left : Budget)
+pub members_go_on : (read : Read) (front : Members) (count i offset : ℕ) (left : Budget)
     (key : Tree × ℕ × Budget) (name : List ℕ) (value : Tree × ℕ × Budget) (total : Found Members)
     → i < count
-    → read true place left ≡ Ok key → key_of place key.0 ≡ Ok name
+    → read true offset left ≡ Ok key → key_of offset key.0 ≡ Ok name
     → read false key.1 key.2 ≡ Ok value
-    → after_members front (members_from read (count - i) place left) ≡ total
+    → after_members front (members_from read (count - i) offset left) ≡ total
     → after_members (joined front (member name value.0 no_members))
     (members_from read (count - (i + 1)) value.1 value.2) ≡ total
-members_go_on read front count i place left key name value total lt first named second so_far =
+members_go_on read front count i offset left key name value total lt first named second so_far =
     let k : count - i ≡ suc (count - (i + 1)) = omega arith in
-    let one : after_members front (members_from read (count - i) place left) ≡ after_members
+    let one : after_members front (members_from read (count - i) offset left) ≡ after_members
     (joined front (member name value.0 no_members))
     (members_from read (count - (i + 1)) value.1 value.2) =
     rw (k, first, named, second) (regroup_members front name value.0
     (members_from read (count - (i + 1)) value.1 value.2)) in
     sym one ∙ so_far
 
-pub key_ends : (read : Read) (fault : DataFault) (front : Members) (count i place : ℕ)
+pub key_ends : (read : Read) (fault : DataFault) (front : Members) (count i offset : ℕ)
     (left : Budget) (total : Found Members) → i < count
-    → Fails fault (read true place left)
-    → after_members front (members_from read (count - i) place left) ≡ total → Fails fault total
-key_ends read faults.Memory front count i place left total lt first so_far = tt
-key_ends read (faults.Bad at cause) front count i place left total lt first so_far =
+    → Fails fault (read true offset left)
+    → after_members front (members_from read (count - i) offset left) ≡ total → Fails fault total
+key_ends read faults.Memory front count i offset left total lt first so_far = tt
+key_ends read (faults.Bad at cause) front count i offset left total lt first so_far =
     let k : count - i ≡ suc (count - (i + 1)) = omega arith in
-    let one : after_members front (members_from read (count - i) place left) ≡ Err (at, cause) =
+    let one : after_members front (members_from read (count - i) offset left) ≡ Err (at, cause) =
     rw (k, first) refl in
     sym so_far ∙ one
 
-pub name_ends : (read : Read) (fault : DataFault) (front : Members) (count i place : ℕ)
+pub name_ends : (read : Read) (fault : DataFault) (front : Members) (count i offset : ℕ)
     (left : Budget) (key : Tree × ℕ × Budget) (total : Found Members) → i < count
-    → read true place left ≡ Ok key → Fails fault (key_of place key.0)
-    → after_members front (members_from read (count - i) place left) ≡ total → Fails fault total
-name_ends read faults.Memory front count i place left key total lt first named so_far = tt
-name_ends read (faults.Bad at cause) front count i place left key total lt first named so_far =
+    → read true offset left ≡ Ok key → Fails fault (key_of offset key.0)
+    → after_members front (members_from read (count - i) offset left) ≡ total → Fails fault total
+name_ends read faults.Memory front count i offset left key total lt first named so_far = tt
+name_ends read (faults.Bad at cause) front count i offset left key total lt first named so_far =
     let k : count - i ≡ suc (count - (i + 1)) = omega arith in
-    let one : after_members front (members_from read (count - i) place left) ≡ Err (at, cause) =
+    let one : after_members front (members_from read (count - i) offset left) ≡ Err (at, cause) =
     rw (k, first, named) refl in
     sym so_far ∙ one
 
-pub value_ends : (read : Read) (fault : DataFault) (front : Members) (count i place : ℕ)
+pub value_ends : (read : Read) (fault : DataFault) (front : Members) (count i offset : ℕ)
     (left : Budget) (key : Tree × ℕ × Budget) (name : List ℕ) (total : Found Members) → i < count
-    → read true place left ≡ Ok key → key_of place key.0 ≡ Ok name
+    → read true offset left ≡ Ok key → key_of offset key.0 ≡ Ok name
     → Fails fault (read false key.1 key.2)
-    → after_members front (members_from read (count - i) place left) ≡ total → Fails fault total
-value_ends read faults.Memory front count i place left key name total lt first named second so_far =
+    → after_members front (members_from read (count - i) offset left) ≡ total → Fails fault total
+value_ends read faults.Memory front count i offset left key name total lt first named second so_far =
     tt
-value_ends read (faults.Bad at cause) front count i place left key name total lt first named second
+value_ends read (faults.Bad at cause) front count i offset left key name total lt first named second
     so_far =
     let k : count - i ≡ suc (count - (i + 1)) = omega arith in
-    let one : after_members front (members_from read (count - i) place left) ≡ Err (at, cause) =
+    let one : after_members front (members_from read (count - i) offset left) ≡ Err (at, cause) =
     rw (k, first, named, second) refl in
     sym so_far ∙ one
 
-pub members_are_done : (read : Read) (front : Members) (count i place : ℕ) (left : Budget)
+pub members_are_done : (read : Read) (front : Members) (count i offset : ℕ) (left : Budget)
     (total : Found Members) → count ≤ i
-    → after_members front (members_from read (count - i) place left) ≡ total
-    → total ≡ Ok (front, place, left)
-members_are_done read front count i place left total le so_far =
+    → after_members front (members_from read (count - i) offset left) ≡ total
+    → total ≡ Ok (front, offset, left)
+members_are_done read front count i offset left total le so_far =
     let k : count - i ≡ 0 = omega arith in
-    let one : after_members front (members_from read (count - i) place left) ≡ Ok
-    (front, place, left) = rw k (ap (λ (m : Members). Ok (m, place, left)) (joined-none front))
+    let one : after_members front (members_from read (count - i) offset left) ≡ Ok
+    (front, offset, left) = rw k (ap (λ (m : Members). Ok (m, offset, left)) (joined-none front))
     in
     sym so_far ∙ one
 
@@ -143,38 +143,38 @@ regroup_items front value (Ok x) =
     ap (λ (m : Items). Ok (m, x.1, x.2)) (sym (chained-assoc front (item value no_items) x.0))
 regroup_items front value (Err e) = refl
 
-pub items_go_on : (read : Read) (front : Items) (count i place : ℕ) (left : Budget)
+pub items_go_on : (read : Read) (front : Items) (count i offset : ℕ) (left : Budget)
     (value : Tree × ℕ × Budget) (total : Found Items) → i < count
-    → read false place left ≡ Ok value
-    → after_items front (items_from read (count - i) place left) ≡ total
+    → read false offset left ≡ Ok value
+    → after_items front (items_from read (count - i) offset left) ≡ total
     → after_items (chained front (item value.0 no_items))
     (items_from read (count - (i + 1)) value.1 value.2) ≡ total
-items_go_on read front count i place left value total lt first so_far =
+items_go_on read front count i offset left value total lt first so_far =
     let k : count - i ≡ suc (count - (i + 1)) = omega arith in
-    let one : after_items front (items_from read (count - i) place left) ≡ after_items
+    let one : after_items front (items_from read (count - i) offset left) ≡ after_items
     (chained front (item value.0 no_items))
     (items_from read (count - (i + 1)) value.1 value.2) =
     rw (k, first) (regroup_items front value.0 (items_from read (count - (i + 1)) value.1 value.2))
     in
     sym one ∙ so_far
 
-pub item_ends : (read : Read) (fault : DataFault) (front : Items) (count i place : ℕ)
+pub item_ends : (read : Read) (fault : DataFault) (front : Items) (count i offset : ℕ)
     (left : Budget) (total : Found Items) → i < count
-    → Fails fault (read false place left)
-    → after_items front (items_from read (count - i) place left) ≡ total → Fails fault total
-item_ends read faults.Memory front count i place left total lt first so_far = tt
-item_ends read (faults.Bad at cause) front count i place left total lt first so_far =
+    → Fails fault (read false offset left)
+    → after_items front (items_from read (count - i) offset left) ≡ total → Fails fault total
+item_ends read faults.Memory front count i offset left total lt first so_far = tt
+item_ends read (faults.Bad at cause) front count i offset left total lt first so_far =
     let k : count - i ≡ suc (count - (i + 1)) = omega arith in
-    let one : after_items front (items_from read (count - i) place left) ≡ Err (at, cause) =
+    let one : after_items front (items_from read (count - i) offset left) ≡ Err (at, cause) =
     rw (k, first) refl in
     sym so_far ∙ one
 
-pub items_are_done : (read : Read) (front : Items) (count i place : ℕ) (left : Budget)
+pub items_are_done : (read : Read) (front : Items) (count i offset : ℕ) (left : Budget)
     (total : Found Items) → count ≤ i
-    → after_items front (items_from read (count - i) place left) ≡ total
-    → total ≡ Ok (front, place, left)
-items_are_done read front count i place left total le so_far =
+    → after_items front (items_from read (count - i) offset left) ≡ total
+    → total ≡ Ok (front, offset, left)
+items_are_done read front count i offset left total le so_far =
     let k : count - i ≡ 0 = omega arith in
-    let one : after_items front (items_from read (count - i) place left) ≡ Ok (front, place, left) =
-    rw k (ap (λ (m : Items). Ok (m, place, left)) (chained-none front)) in
+    let one : after_items front (items_from read (count - i) offset left) ≡ Ok (front, offset, left) =
+    rw k (ap (λ (m : Items). Ok (m, offset, left)) (chained-none front)) in
     sym so_far ∙ one

@@ -314,12 +314,12 @@ map_appends whole members fits inner before begins all =
     let one = inner mid begins all in
     let begun = begins_trans mid.bytes (members_in members mid).bytes whole
     (members_grow members mid).bytes begins in
-    let place = length-append before.bytes front in
+    let offset = length-append before.bytes front in
     let after = length (members_in members mid).bytes in
     record {
       here = map_stands whole members (length before.bytes) after begun.0 fits
           (behind_stands whole before.bytes front begun)
-          (subst (λ (k : ℕ). MembersStand whole members k after) place one.here);
+          (subst (λ (k : ℕ). MembersStand whole members k after) offset one.here);
       all = one.all;
     }
 
@@ -332,12 +332,12 @@ list_appends whole items fits inner before begins all =
     let one = inner mid begins all in
     let begun = begins_trans mid.bytes (items_in items mid).bytes whole
     (items_grow items mid).bytes begins in
-    let place = length-append before.bytes front in
+    let offset = length-append before.bytes front in
     let after = length (items_in items mid).bytes in
     record {
       here = list_stands whole items (length before.bytes) after begun.0 fits
           (behind_stands whole before.bytes front begun)
-          (subst (λ (k : ℕ). ItemsStand whole items k after) place one.here);
+          (subst (λ (k : ℕ). ItemsStand whole items k after) offset one.here);
       all = one.all;
     }
 

@@ -12,16 +12,16 @@ use Rattle.mmdb_data.specs.Reading.{Fault, byte_from, number_from, pointer_from,
 use Rattle.mmdb_data.specs.Reading.{target_from, value_from}
 use Rattle.mmdb_data.specs.Packing.{pointer}
 use Rattle.mmdb_data.specs.Laws.{PointsTo, PointersReadBack}
-use Rattle.mmdb_data.proofs.Places.{moved, byte_here, bytes_here}
+use Rattle.mmdb_data.proofs.Offsets.{moved, byte_here, bytes_here}
 use Rattle.mmdb_data.proofs.Values.{StandsFull, Stands, one_less_is, some_levels, some_values}
 
 -- the low bytes of a number that need not fit
-low_here : (section : List ℕ) (place size n : ℕ) (y : List ℕ) (fault : Fault)
-    → drop place section ≡ bytes_high_first size n ++ y
-    → number_from section place size fault ≡ Ok (n % 256 ^ size)
+low_here : (section : List ℕ) (offset size n : ℕ) (y : List ℕ) (fault : Fault)
+    → drop offset section ≡ bytes_high_first size n ++ y
+    → number_from section offset size fault ≡ Ok (n % 256 ^ size)
 unfolding number_from
-low_here section place size n y fault here =
-    rw (bytes_here section place size (bytes_high_first size n) y fault here
+low_here section offset size n y fault here =
+    rw (bytes_here section offset size (bytes_high_first size n) y fault here
     (length-bytes_high_first size n))
     (ap Ok (ap (big_number size) (sym (append-nil (bytes_high_first size n)))
     ∙ big_from-bytes size n []))

@@ -20,7 +20,7 @@ use Rattle.mmdb_data.specs.Reading.{Fault, Budget, byte_from, Scalar, unsigned, 
 use Rattle.mmdb_data.specs.Reading.{scalar_of, content_from, leaf_from, bool_from, reads}
 use Rattle.mmdb_data.specs.declared.fault.DataCause.TheVariants.{Truncated}
 use Rattle.mmdb_data.proofs.Bounds.{chosen}
-use Rattle.mmdb_data.proofs.Places.{moved}
+use Rattle.mmdb_data.proofs.Offsets.{moved}
 use Rattle.mmdb_data.proofs.Values.{IsPlain, IsScalar, StandsFull, stands, ends_at, some_values}
 use Rattle.mmdb_data.proofs.Values.{alone, text_again, byte_string_again, scalar_again}
 use Rattle.mmdb_data.proofs.Values.{number_again, few_bytes}
@@ -45,10 +45,10 @@ map_again : (section : List ℕ) (members : Members) → members_len members ≤
     → MembersAgain section members → Again section (map members)
 map_again section members fits inner at y here =
     let parts = here ∙ append_assoc (head 7 (members_len members)) (members_spelling members) y in
-    let place = at + length (head 7 (members_len members)) in
-    let found = inner place y (moved section at (head 7 (members_len members))
-    (members_spelling members ++ y) place parts refl) in
-    ends_at (map_stands section members at (place + length (members_spelling members))
+    let offset = at + length (head 7 (members_len members)) in
+    let found = inner offset y (moved section at (head 7 (members_len members))
+    (members_spelling members ++ y) offset parts refl) in
+    ends_at (map_stands section members at (offset + length (members_spelling members))
     (members_spelling members ++ y) fits parts found)
     (omega (arith, length-append (head 7 (members_len members)) (members_spelling members)))
 
@@ -56,10 +56,10 @@ list_again : (section : List ℕ) (items : Items) → items_len items ≤ most �
     → Again section (list items)
 list_again section items fits inner at y here =
     let parts = here ∙ append_assoc (head 11 (items_len items)) (items_spelling items) y in
-    let place = at + length (head 11 (items_len items)) in
-    let found = inner place y (moved section at (head 11 (items_len items))
-    (items_spelling items ++ y) place parts refl) in
-    ends_at (list_stands section items at (place + length (items_spelling items))
+    let offset = at + length (head 11 (items_len items)) in
+    let found = inner offset y (moved section at (head 11 (items_len items))
+    (items_spelling items ++ y) offset parts refl) in
+    ends_at (list_stands section items at (offset + length (items_spelling items))
     (items_spelling items ++ y) fits parts found)
     (omega (arith, length-append (head 11 (items_len items)) (items_spelling items)))
 
@@ -172,14 +172,14 @@ one_member section key value later utf8 fits one others at y here =
     ((spelling value ++ members_spelling later) ++ y) utf8 fits whole_key))
     (stands (one at_value (members_spelling later ++ y) behind_key))
     (others at_rest y behind_value) in
-    let place : at_rest + length (members_spelling later) ≡ at + length
+    let offset : at_rest + length (members_spelling later) ≡ at + length
     (sized 2 key ++ (spelling value ++ members_spelling later)) =
     omega (
       arith,
       length-append (sized 2 key) (spelling value ++ members_spelling later),
       length-append (spelling value) (members_spelling later),
     ) in
-    subst (λ (k : ℕ). MembersStand section (member key value later) at k) place whole
+    subst (λ (k : ℕ). MembersStand section (member key value later) at k) offset whole
 
 one_item : (section : List ℕ) (value : Tree) (items : Items) → Again section value
     → ItemsAgain section items → ItemsAgain section (item value items)
@@ -190,10 +190,10 @@ one_item section value items one others at y here =
     (items_spelling items ++ y) at_rest behind_value refl in
     let whole = item_stands section value items at
     (stands (one at (items_spelling items ++ y) behind_value)) (others at_rest y behind) in
-    let place : at_rest + length (items_spelling items) ≡ at + length
+    let offset : at_rest + length (items_spelling items) ≡ at + length
     (spelling value ++ items_spelling items) =
     omega (arith, length-append (spelling value) (items_spelling items)) in
-    subst (λ (k : ℕ). ItemsStand section (item value items) at k) place whole
+    subst (λ (k : ℕ). ItemsStand section (item value items) at k) offset whole
 
 no_member_again : (section : List ℕ) → MembersAgain section no_members
 no_member_again section at y here =
@@ -285,7 +285,7 @@ inside_if section at control fault e =
       | inr a ↦ absurd cc
     ]
 
--- what stands at a place is what reading gives there
+-- what stands at an offset is what reading gives there
 pub reads_full : (section : List ℕ) (value : Tree) (at after : ℕ)
     → StandsFull section value at after → depth value ≤ 32 → IsWithinLimits value
     → reads section at ≡ Ok value

@@ -1,4 +1,4 @@
--- A value that stands in full at a place of a section, and how one without parts is read there.
+-- A value that stands in full at an offset of a section, and how one without parts is read there.
 use Rattle.std.proofs.Common.{◌≡◌, ℕ, zero, suc, ◌+◌, ◌^◌, ◌<◌, ◌≤◌, Bool, true, false, eqb, List}
 use Rattle.std.proofs.Common.{[], ◌∷◌, ◌++◌, length, drop, Some, Ok, refl, sym, ap, ◌∙◌, subst}
 use Rattle.std.proofs.Common.{append_assoc, arith}
@@ -17,7 +17,7 @@ use Rattle.mmdb_data.specs.Reading.{byte_from, is_pointer, scalar_of, scalar_fro
 use Rattle.mmdb_data.specs.Reading.{scalar_bytes_from, content_bytes_from, text_from}
 use Rattle.mmdb_data.specs.Reading.{byte_string_from, leaf_from, content_from, plain_from}
 use Rattle.mmdb_data.specs.Reading.{value_from}
-use Rattle.mmdb_data.proofs.Places.{moved, bytes_here, number_of_bytes}
+use Rattle.mmdb_data.proofs.Offsets.{moved, bytes_here, number_of_bytes}
 use Rattle.mmdb_data.proofs.Heads.{HeadIs, head_here}
 
 pub one_less_is : (n m : ℕ) (fault : Fault) → one_less (left_of (suc n) m) fault ≡ Ok (left_of n m)
@@ -28,7 +28,7 @@ one_less_is n m fault = rw (lt-ltb 0 (suc n) (omega arith))
 abbrev found_is : Tree → ℕ → ℕ → ℕ → Found Tree
 found_is value after n m = Ok (value, after, left_of n m)
 
--- the same place and the same budget in other terms
+-- the same offset and the same budget in other terms
 same_found : (value : Tree) {p q b n c m : ℕ} → p ≡ q → b ≡ n → c ≡ m
     → found_is value p b c ≡ found_is value q n m
 same_found value p_is b_is c_is = rw (p_is, b_is, c_is) refl
@@ -90,10 +90,10 @@ plain_is read section is_key at kind size left h = rw h.read refl
 
 -- what stands behind the head is read as the value
 abbrev pub ContentStands : List ℕ → Tree → ℕ → ℕ → ℕ → ℕ → ℕ → Type 0
-ContentStands section value at kind size place after =
+ContentStands section value at kind size offset after =
     (levels : ℕ) (is_key : Bool) (n m b c : ℕ) → MayStand is_key value → depth value ≤ suc levels
     → suc b ≡ count value + n → c ≡ bytes_in value + m
-    → content_from (value_from section levels) section is_key at kind size place (left_of b c) ≡ Ok
+    → content_from (value_from section levels) section is_key at kind size offset (left_of b c) ≡ Ok
     (value, after, left_of n m)
 
 pub full_from_head : (section : List ℕ) (value : Tree) (at kind size after : ℕ) (y : List ℕ)
@@ -111,7 +111,7 @@ full_from_head section value at kind size after y low fits here inner =
           ∙ inner levels is_key n m b c may deep few light;
     }
 
--- the place behind a head and its content
+-- the offset behind a head and its content
 pub behind : (at kind : ℕ) (content : List ℕ)
     → at + length (head kind (length content)) + length content ≡ at + length (sized kind content)
 unfolding sized
@@ -131,9 +131,9 @@ pub text_again : (section : List ℕ) (at : ℕ) (content y : List ℕ) → IsUt
 unfolding content_from leaf_from text_from content_bytes_from
 text_again section at content y utf8 fits here =
     let parts = sized_here section at 2 content y here in
-    let place = at + length (head 2 (length content)) in
-    let found = bytes_here section place (length content) content y (at, Truncated)
-    (moved section at (head 2 (length content)) (content ++ y) place parts refl) refl in
+    let offset = at + length (head 2 (length content)) in
+    let found = bytes_here section offset (length content) content y (at, Truncated)
+    (moved section at (head 2 (length content)) (content ++ y) offset parts refl) refl in
     full_from_head section (text content) at 2 (length content) (at + length (sized 2 content))
     (content ++ y) (omega arith) fits parts
     (λ levels is_key n m b c may deep few light.
@@ -148,15 +148,15 @@ pub byte_string_again : (section : List ℕ) (at : ℕ) (content y : List ℕ) �
 unfolding content_from leaf_from byte_string_from content_bytes_from
 byte_string_again section at content y fits here =
     let parts = sized_here section at 4 content y here in
-    let place = at + length (head 4 (length content)) in
-    let found = bytes_here section place (length content) content y (at, Truncated)
-    (moved section at (head 4 (length content)) (content ++ y) place parts refl) refl in
+    let offset = at + length (head 4 (length content)) in
+    let found = bytes_here section offset (length content) content y (at, Truncated)
+    (moved section at (head 4 (length content)) (content ++ y) offset parts refl) refl in
     full_from_head section (bytes content) at 4 (length content) (at + length (sized 4 content))
     (content ++ y) (omega arith) fits parts
     (λ levels is_key. elim is_key as
     (λ (k : Bool). (n m b c : ℕ) → MayStand k (bytes content) → 1 ≤ suc levels → suc b ≡ 1 + n
     → c ≡ length content + m
-    → content_from (value_from section levels) section k at 4 (length content) place
+    → content_from (value_from section levels) section k at 4 (length content) offset
     (left_of b c) ≡ Ok (bytes content, at + length (sized 4 content), left_of n m)) [
       | true ↦ λ n m b c may deep few light. absurd may
       | false ↦ λ n m b c may deep few light.
@@ -173,18 +173,18 @@ pub record IsPlain (value : Tree) : Type 0 where
 
 -- what is read of such a value with any budget
 abbrev pub ReadAlone : List ℕ → Tree → ℕ → ℕ → ℕ → ℕ → ℕ → Type 0
-ReadAlone section value at kind size place after =
-    (levels n m : ℕ) → content_from (value_from section levels) section false at kind size place
+ReadAlone section value at kind size offset after =
+    (levels n m : ℕ) → content_from (value_from section levels) section false at kind size offset
     (left_of n m) ≡ Ok (value, after, left_of n m)
 
-alone_in : (section : List ℕ) (value : Tree) (at kind size place after levels : ℕ) (is_key : Bool)
-    → IsPlain value → ReadAlone section value at kind size place after
+alone_in : (section : List ℕ) (value : Tree) (at kind size offset after levels : ℕ) (is_key : Bool)
+    → IsPlain value → ReadAlone section value at kind size offset after
     → (n m b c : ℕ) → MayStand is_key value → suc b ≡ count value + n → c ≡ bytes_in value + m
-    → content_from (value_from section levels) section is_key at kind size place (left_of b c) ≡ Ok
+    → content_from (value_from section levels) section is_key at kind size offset (left_of b c) ≡ Ok
     (value, after, left_of n m)
-alone_in section value at kind size place after levels true plain inner n m b c may few light =
+alone_in section value at kind size offset after levels true plain inner n m b c may few light =
     absurd (plain.no_key may)
-alone_in section value at kind size place after levels false plain inner n m b c may few light =
+alone_in section value at kind size offset after levels false plain inner n m b c may few light =
     inner levels b c ∙ same_found value refl (omega (arith, few, plain.one))
     (omega (arith, light, plain.light))
 
@@ -217,9 +217,9 @@ pub scalar_again : (section : List ℕ) (at kind : ℕ) (scalar : Scalar) (conte
 unfolding content_from leaf_from scalar_from scalar_bytes_from
 scalar_again section at kind scalar content y is plain above below here =
     let parts = sized_here section at kind content y here in
-    let place = at + length (head kind (length content)) in
-    let found = bytes_here section place (length content) content y (at, Truncated)
-    (moved section at (head kind (length content)) (content ++ y) place parts refl) refl in
+    let offset = at + length (head kind (length content)) in
+    let found = bytes_here section offset (length content) content y (at, Truncated)
+    (moved section at (head kind (length content)) (content ++ y) offset parts refl) refl in
     let short = le-ltb (length content) scalar.least above in
     let long = le-ltb scalar.greatest (length content) below in
     alone section (scalar.value content) at kind (length content) (at + length (sized kind content))

@@ -39,7 +39,7 @@ NotesStay =
 abbrev pub SpellingsTellApart : Type 0
 SpellingsTellApart = (a b : Tree) → CanBePacked a → CanBePacked b → spelling a ≡ spelling b → a ≡ b
 
--- at a place of a section stands a pointer: its first byte says so, and it leads to an offset
+-- at an offset of a section stands a pointer: its first byte says so, and it leads to an offset
 pub record PointsTo (section : List ℕ) (at to : ℕ) : Type 0 where
   pub control : ℕ
   pub first : (fault : Fault) → byte_from section at fault ≡ Ok control

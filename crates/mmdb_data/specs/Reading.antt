@@ -28,7 +28,7 @@ pub record Budget : Type 0 where
 abbrev pub left_of : ℕ → ℕ → Budget
 left_of n m = record { values = n; bytes = m }
 
--- what was read, the place after it, and what is left of the budget
+-- what was read, the offset after it, and what is left of the budget
 abbrev pub Found : Type 0 → Type 0
 Found A = Result (A × ℕ × Budget) Fault
 
@@ -38,23 +38,23 @@ abbrev pub ◌>>=◌ : {A B : Type 0} → Result A Fault → (A → Result B Fau
 (Err e) >>= f = Err e
 
 unfoldable pub byte_from : List ℕ → ℕ → Fault → Result ℕ Fault
-byte_from section place fault = if nat_lt place (length section) then Ok (slice_index section place)
+byte_from section offset fault = if nat_lt offset (length section) then Ok (slice_index section offset)
     else Err fault
 
 unfoldable pub bytes_from : List ℕ → ℕ → ℕ → Fault → Result (List ℕ) Fault
-bytes_from section place size fault = if nat_lt (length section - place) size then Err fault
-    else Ok (take size (drop place section))
+bytes_from section offset size fault = if nat_lt (length section - offset) size then Err fault
+    else Ok (take size (drop offset section))
 
 unfoldable pub number_from : List ℕ → ℕ → ℕ → Fault → Result ℕ Fault
-number_from section place size fault =
-    bytes_from section place size fault >>= λ found. Ok (big_number size found)
+number_from section offset size fault =
+    bytes_from section offset size fault >>= λ found. Ok (big_number size found)
 
 -- one more value
 unfoldable pub one_less : Budget → Fault → Result Budget Fault
 one_less left fault = if nat_lt 0 left.values then Ok (left_of (left.values - 1) left.bytes)
     else Err fault
 
--- the type, and the place after the byte that tells it: the top three bits, where 0 says that the
+-- the type, and the offset after the byte that tells it: the top three bits, where 0 says that the
 -- next byte plus 7 does
 unfoldable pub kind_from : List ℕ → ℕ → ℕ → Result (ℕ × ℕ) Fault
 kind_from section at control =
@@ -62,17 +62,17 @@ kind_from section at control =
     (extended + 7, at + 2))
     else Ok (control / 32, at + 1)
 
--- the size, and the place after its bytes, from the low five bits
+-- the size, and the offset after its bytes, from the low five bits
 unfoldable pub size_from : List ℕ → ℕ → ℕ → ℕ → Result (ℕ × ℕ) Fault
-size_from section at code place =
-    if nat_lt code 29 then Ok (code, place)
-    else if code == 29 then (number_from section place 1 (at, Truncated) >>= λ more. Ok
-    (29 + more, place + 1))
-    else if code == 30 then (number_from section place 2 (at, Truncated) >>= λ more. Ok
-    (285 + more, place + 2))
-    else (number_from section place 3 (at, Truncated) >>= λ more. Ok (65821 + more, place + 3))
+size_from section at code offset =
+    if nat_lt code 29 then Ok (code, offset)
+    else if code == 29 then (number_from section offset 1 (at, Truncated) >>= λ more. Ok
+    (29 + more, offset + 1))
+    else if code == 30 then (number_from section offset 2 (at, Truncated) >>= λ more. Ok
+    (285 + more, offset + 2))
+    else (number_from section offset 3 (at, Truncated) >>= λ more. Ok (65821 + more, offset + 3))
 
--- the type, the size and the place of the content
+-- the type, the size and the offset of the content
 unfoldable pub head_from : List ℕ → ℕ → Result (ℕ × ℕ × ℕ) Fault
 head_from section at = do
   control ← byte_from section at (at, Truncated)
@@ -122,7 +122,7 @@ scalar_of kind =
 abbrev pub is_pointer : ℕ → Bool
 is_pointer control = control / 32 == 1
 
--- where a pointer leads, by its control byte and the number in its further bytes, and the place
+-- where a pointer leads, by its control byte and the number in its further bytes, and the offset
 -- after it
 unfoldable pub pointer_from : List ℕ → ℕ → ℕ → Result (ℕ × ℕ) Fault
 pointer_from section at control =
@@ -137,7 +137,7 @@ pointer_from section at control =
     (control % 8 * 2 ^ 24 + low + 526336, at + 4))
     else (number_from section (at + 1) 4 (at, Truncated) >>= λ low. Ok (low, at + 5))
 
--- how a value is read: as a key or not, from a place, with a budget
+-- how a value is read: as a key or not, from an offset, with a budget
 abbrev pub Read : Type 0
 Read = Bool → ℕ → Budget → Found Tree
 
@@ -147,55 +147,55 @@ key_of at (text content) = Ok content
 key_of at _ = Err (at, Key)
 
 abbrev pub members_from : Read → ℕ → ℕ → Budget → Found Members
-members_from read zero place left = Ok (no_members, place, left)
-members_from read (suc n) place left = do
-  key ← read true place left
-  name ← key_of place key.0
+members_from read zero offset left = Ok (no_members, offset, left)
+members_from read (suc n) offset left = do
+  key ← read true offset left
+  name ← key_of offset key.0
   value ← read false key.1 key.2
   rest ← members_from read n value.1 value.2
   Ok (member name value.0 rest.0, rest.1, rest.2)
 
 abbrev pub items_from : Read → ℕ → ℕ → Budget → Found Items
-items_from read zero place left = Ok (no_items, place, left)
-items_from read (suc n) place left = do
-  value ← read false place left
+items_from read zero offset left = Ok (no_items, offset, left)
+items_from read (suc n) offset left = do
+  value ← read false offset left
   rest ← items_from read n value.1 value.2
   Ok (item value.0 rest.0, rest.1, rest.2)
 
 -- the bytes of a scalar; it is no key
 unfoldable pub scalar_bytes_from : List ℕ → Bool → ℕ → ℕ → ℕ → ℕ → ℕ → Result (List ℕ) Fault
-scalar_bytes_from section is_key at least greatest size place =
+scalar_bytes_from section is_key at least greatest size offset =
     if nat_lt size least || nat_lt greatest size then Err (at, Size)
-    else (bytes_from section place size (at, Truncated) >>= λ content. if is_key then Err (at, Key)
+    else (bytes_from section offset size (at, Truncated) >>= λ content. if is_key then Err (at, Key)
     else Ok content)
 
 abbrev pub scalar_value_from : List ℕ → Bool → ℕ → Option Scalar → ℕ → ℕ → Result Tree Fault
-scalar_value_from section is_key at None size place = Err (at, Kind)
-scalar_value_from section is_key at (Some scalar) size place =
-    scalar_bytes_from section is_key at scalar.least scalar.greatest size place >>= λ content. Ok
+scalar_value_from section is_key at None size offset = Err (at, Kind)
+scalar_value_from section is_key at (Some scalar) size offset =
+    scalar_bytes_from section is_key at scalar.least scalar.greatest size offset >>= λ content. Ok
     (scalar.value content)
 
 unfoldable pub scalar_from : List ℕ → Bool → ℕ → ℕ → ℕ → ℕ → Result Tree Fault
-scalar_from section is_key at kind size place =
-    scalar_value_from section is_key at (scalar_of kind) size place
+scalar_from section is_key at kind size offset =
+    scalar_value_from section is_key at (scalar_of kind) size offset
 
 -- content that spends bytes of the budget, each time that it is met
 unfoldable pub content_bytes_from : List ℕ → ℕ → ℕ → ℕ → Budget → Result (List ℕ × Budget) Fault
-content_bytes_from section at size place left =
-    bytes_from section place size (at, Truncated) >>= λ content.
+content_bytes_from section at size offset left =
+    bytes_from section offset size (at, Truncated) >>= λ content.
     if nat_lt left.bytes size then Err (at, Big)
     else Ok (content, left_of left.values (left.bytes - size))
 
 unfoldable pub text_from : List ℕ → ℕ → ℕ → ℕ → Budget → Result (List ℕ × Budget) Fault
-text_from section at size place left =
-    content_bytes_from section at size place left >>= λ found. if is_utf8 found.0 then Ok found
+text_from section at size offset left =
+    content_bytes_from section at size offset left >>= λ found. if is_utf8 found.0 then Ok found
     else Err (at, Utf8)
 
 -- it is no key
 unfoldable pub byte_string_from : List ℕ → Bool → ℕ → ℕ → ℕ → Budget
     → Result (List ℕ × Budget) Fault
-byte_string_from section is_key at size place left =
-    content_bytes_from section at size place left >>= λ found. if is_key then Err (at, Key)
+byte_string_from section is_key at size offset left =
+    content_bytes_from section at size offset left >>= λ found. if is_key then Err (at, Key)
     else Ok found
 
 -- the size is the value
@@ -205,31 +205,31 @@ bool_from is_key at size = if nat_lt 1 size then Err (at, Size) else if is_key t
 
 -- a value without parts
 unfoldable pub leaf_from : List ℕ → Bool → ℕ → ℕ → ℕ → ℕ → Budget → Found Tree
-leaf_from section is_key at kind size place left =
-    if kind == 2 then (text_from section at size place left >>= λ found. Ok
-    (text found.0, place + size, found.1))
-    else if kind == 4 then (byte_string_from section is_key at size place left >>= λ found. Ok
-    (bytes found.0, place + size, found.1))
-    else if kind == 14 then (bool_from is_key at size >>= λ b. Ok (bool b, place, left))
-    else (scalar_from section is_key at kind size place >>= λ value. Ok (value, place + size, left))
+leaf_from section is_key at kind size offset left =
+    if kind == 2 then (text_from section at size offset left >>= λ found. Ok
+    (text found.0, offset + size, found.1))
+    else if kind == 4 then (byte_string_from section is_key at size offset left >>= λ found. Ok
+    (bytes found.0, offset + size, found.1))
+    else if kind == 14 then (bool_from is_key at size >>= λ b. Ok (bool b, offset, left))
+    else (scalar_from section is_key at kind size offset >>= λ value. Ok (value, offset + size, left))
 
--- the value at a place by its type, its size and the place of its content: 7 is a map, and 11 a
+-- the value at an offset by its type, its size and the offset of its content: 7 is a map, and 11 a
 -- list
 unfoldable pub content_from : Read → List ℕ → Bool → ℕ → ℕ → ℕ → ℕ → Budget → Found Tree
-content_from read section is_key at kind size place left =
+content_from read section is_key at kind size offset left =
     if kind == 7 then (if is_key then Err (at, Key)
-    else (members_from read size place left >>= λ found. Ok (map found.0, found.1, found.2)))
+    else (members_from read size offset left >>= λ found. Ok (map found.0, found.1, found.2)))
     else if kind == 11 then (if is_key then Err (at, Key)
-    else (items_from read size place left >>= λ found. Ok (list found.0, found.1, found.2)))
-    else leaf_from section is_key at kind size place left
+    else (items_from read size offset left >>= λ found. Ok (list found.0, found.1, found.2)))
+    else leaf_from section is_key at kind size offset left
 
--- the value at a place that is no pointer
+-- the value at an offset that is no pointer
 unfoldable pub plain_from : Read → List ℕ → Bool → ℕ → Budget → Found Tree
 plain_from read section is_key at left = do
   head ← head_from section at
   content_from read section is_key at head.0 head.1 head.2 left
 
--- the value that a pointer leads to, and the place after the pointer
+-- the value that a pointer leads to, and the offset after the pointer
 unfoldable pub target_from : Read → List ℕ → Bool → ℕ → ℕ → Budget → Found Tree
 target_from read section is_key at control left = do
   pointer ← pointer_from section at control
@@ -238,7 +238,7 @@ target_from read section is_key at control left = do
       else (plain_from read section is_key pointer.0 left >>= λ found. Ok
       (found.0, pointer.1, found.2))
 
--- the value at a place, with so many levels left; a pointer and its target are one value
+-- the value at an offset, with so many levels left; a pointer and its target are one value
 unfoldable pub value_from : List ℕ → ℕ → Bool → ℕ → Budget → Found Tree
 value_from section zero is_key at left = Err (at, Deep)
 value_from section (suc levels) is_key at left = do

@@ -14,7 +14,7 @@ use crate::value::Value;
 use geo_addr::Text;
 use std::alloc::Global;
 
-/// What was read, the place after it, and what may still be spent.
+/// What was read, the offset after it, and what may still be spent.
 type Found<T> = Result<(T, usize, Left), DataFault>;
 
 /// The value that stands at the offset `at` of a data section, pointers followed
@@ -127,22 +127,32 @@ fn content_at(
     head: Head,
     left: Left,
 ) -> Found<Value>
-    requires here { head.place ≤ length section.now }
+    requires here { head.offset ≤ length section.now }
     requires narrow { head.size ≤ most_size }
-    ensures gives { Gives (λ x. (tree x.0, x.1, budget x.2)) result (content_from (value_from section.now levels) section.now is_key at head.kind head.size head.place (budget left)) }
+    ensures gives { Gives (λ x. (tree x.0, x.1, budget x.2)) result (content_from (value_from section.now levels) section.now is_key at head.kind head.size head.offset (budget left)) }
     ensures room { IfOk result (λ x. x.1 ≤ length section.now) }
 {
     match head.kind {
         7 | 11 if is_key => Err(bad(at, DataCause::Key)),
         7 => {
             let (pairs, after, left) = members_at(
-                alloc, section, levels, head.size, head.place, left,
+                alloc,
+                section,
+                levels,
+                head.size,
+                head.offset,
+                left,
             )?;
             Ok((Value::Map(pairs), after, left))
         }
         11 => {
             let (values, after, left) = items_at(
-                alloc, section, levels, head.size, head.place, left,
+                alloc,
+                section,
+                levels,
+                head.size,
+                head.offset,
+                left,
             )?;
             Ok((Value::List(values), after, left))
         }
@@ -156,15 +166,15 @@ fn members_at(
     section: &[u8],
     levels: u8,
     count: usize,
-    place: usize,
+    offset: usize,
     left: Left,
 ) -> Found<Vec<(Text, Value)>>
-    requires { place ≤ length section.now }
-    ensures gives { Gives (λ x. (members_view x.0.items, x.1, budget x.2)) result (members_from (value_from section.now levels) count place (budget left)) }
+    requires { offset ≤ length section.now }
+    ensures gives { Gives (λ x. (members_view x.0.items, x.1, budget x.2)) result (members_from (value_from section.now levels) count offset (budget left)) }
     ensures room { IfOk result (λ x. x.1 ≤ length section.now) }
 {
     let mut pairs = Vec::new(alloc);
-    let mut next = place;
+    let mut next = offset;
     let mut rest = left;
     for _ in 0..count {
         let (key, behind_key, fewer) = value_at(alloc, section, levels, true, next, rest)?;
@@ -183,15 +193,15 @@ fn items_at(
     section: &[u8],
     levels: u8,
     count: usize,
-    place: usize,
+    offset: usize,
     left: Left,
 ) -> Found<Vec<Value>>
-    requires { place ≤ length section.now }
-    ensures gives { Gives (λ x. (items_view x.0.items, x.1, budget x.2)) result (items_from (value_from section.now levels) count place (budget left)) }
+    requires { offset ≤ length section.now }
+    ensures gives { Gives (λ x. (items_view x.0.items, x.1, budget x.2)) result (items_from (value_from section.now levels) count offset (budget left)) }
     ensures room { IfOk result (λ x. x.1 ≤ length section.now) }
 {
     let mut values = Vec::new(alloc);
-    let mut next = place;
+    let mut next = offset;
     let mut rest = left;
     for _ in 0..count {
         let (value, behind, fewer) = value_at(alloc, section, levels, false, next, rest)?;

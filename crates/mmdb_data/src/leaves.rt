@@ -12,7 +12,7 @@ use crate::value::Value;
 use geo_addr::{Bytes, Text};
 use std::alloc::Global;
 
-/// The value, the place after it, and what may still be spent.
+/// The value, the offset after it, and what may still be spent.
 #[tactic(auto, unfolding(crate::specs::Reading::leaf_from))]
 pub(crate) fn leaf_at(
     alloc: Global,
@@ -22,27 +22,27 @@ pub(crate) fn leaf_at(
     head: Head,
     left: Left,
 ) -> Result<(Value, usize, Left), DataFault>
-    requires here { head.place ≤ length section.now }
+    requires here { head.offset ≤ length section.now }
     requires narrow { head.size ≤ most_size }
-    ensures gives { Gives (λ x. (tree x.0, x.1, budget x.2)) result (leaf_from section.now is_key at head.kind head.size head.place (budget left)) }
+    ensures gives { Gives (λ x. (tree x.0, x.1, budget x.2)) result (leaf_from section.now is_key at head.kind head.size head.offset (budget left)) }
     ensures room { IfOk result (λ x. x.1 ≤ length section.now) }
 {
     match head.kind {
         2 => {
             let (text, left) = text_at(alloc, section, at, head, left)?;
-            Ok((Value::Text(text), head.place + head.size, left))
+            Ok((Value::Text(text), head.offset + head.size, left))
         }
         4 => {
             let (content, left) = byte_string_at(alloc, section, is_key, at, head, left)?;
-            Ok((Value::Bytes(content), head.place + head.size, left))
+            Ok((Value::Bytes(content), head.offset + head.size, left))
         }
         14 => {
             let b = bool_at(is_key, at, head.size)?;
-            Ok((Value::Bool(b), head.place, left))
+            Ok((Value::Bool(b), head.offset, left))
         }
         _ => {
             let value = scalar_at(section, is_key, at, head)?;
-            Ok((value, head.place + head.size, left))
+            Ok((value, head.offset + head.size, left))
         }
     }
 }
@@ -55,9 +55,9 @@ fn text_at(
     head: Head,
     left: Left,
 ) -> Result<(Text, Left), DataFault>
-    requires { head.place ≤ length section.now }
-    ensures gives { Gives (λ x. (x.0, budget x.1)) result (text_from section.now at head.size head.place (budget left)) }
-    ensures room { OnOk result (head.place + head.size ≤ length section.now) }
+    requires { head.offset ≤ length section.now }
+    ensures gives { Gives (λ x. (x.0, budget x.1)) result (text_from section.now at head.size head.offset (budget left)) }
+    ensures room { OnOk result (head.offset + head.size ≤ length section.now) }
 {
     let (content, left) = content_at(section, at, head, left)?;
     match str::from_utf8(content) {
@@ -75,9 +75,9 @@ fn byte_string_at(
     head: Head,
     left: Left,
 ) -> Result<(Bytes, Left), DataFault>
-    requires { head.place ≤ length section.now }
-    ensures gives { Gives (λ x. (x.0, budget x.1)) result (byte_string_from section.now is_key at head.size head.place (budget left)) }
-    ensures room { OnOk result (head.place + head.size ≤ length section.now) }
+    requires { head.offset ≤ length section.now }
+    ensures gives { Gives (λ x. (x.0, budget x.1)) result (byte_string_from section.now is_key at head.size head.offset (budget left)) }
+    ensures room { OnOk result (head.offset + head.size ≤ length section.now) }
 {
     let (content, left) = content_at(section, at, head, left)?;
     if is_key {
@@ -89,11 +89,11 @@ fn byte_string_at(
 /// The content of a text or a byte string, which spends bytes of the budget.
 #[tactic(auto, unfolding(crate::specs::Reading::content_bytes_from))]
 fn content_at(section: &[u8], at: usize, head: Head, left: Left) -> Result<(&[u8], Left), DataFault>
-    requires { head.place ≤ length section.now }
-    ensures gives { Gives (λ x. (x.0.now, budget x.1)) result (content_bytes_from section.now at head.size head.place (budget left)) }
-    ensures room { OnOk result (head.place + head.size ≤ length section.now) }
+    requires { head.offset ≤ length section.now }
+    ensures gives { Gives (λ x. (x.0.now, budget x.1)) result (content_bytes_from section.now at head.size head.offset (budget left)) }
+    ensures room { OnOk result (head.offset + head.size ≤ length section.now) }
 {
-    let content = bytes_at(section, head.place, head.size, at)?;
+    let content = bytes_at(section, head.offset, head.size, at)?;
     if head.size > left.bytes as usize {
         return Err(bad(at, DataCause::Big));
     }
@@ -119,10 +119,10 @@ fn bool_at(is_key: bool, at: usize, size: usize) -> Result<bool, DataFault>
 
 #[tactic(auto, unfolding(crate::specs::Reading::scalar_from, crate::specs::Reading::scalar_of))]
 fn scalar_at(section: &[u8], is_key: bool, at: usize, head: Head) -> Result<Value, DataFault>
-    requires here { head.place ≤ length section.now }
+    requires here { head.offset ≤ length section.now }
     requires narrow { head.size ≤ most_size }
-    ensures gives { Gives tree result (scalar_from section.now is_key at head.kind head.size head.place) }
-    ensures room { OnOk result (head.place + head.size ≤ length section.now) }
+    ensures gives { Gives tree result (scalar_from section.now is_key at head.kind head.size head.offset) }
+    ensures room { OnOk result (head.offset + head.size ≤ length section.now) }
 {
     match head.kind {
         3 => {
@@ -169,15 +169,15 @@ fn scalar_bytes(
     least: usize,
     greatest: usize,
 ) -> Result<&[u8], DataFault>
-    requires { head.place ≤ length section.now }
-    ensures gives { Gives (λ content. content.now) result (scalar_bytes_from section.now is_key at least greatest head.size head.place) }
+    requires { head.offset ≤ length section.now }
+    ensures gives { Gives (λ content. content.now) result (scalar_bytes_from section.now is_key at least greatest head.size head.offset) }
     ensures len { IfOk result (λ content. (length content.now ≡ head.size) × (least ≤ head.size) × (head.size ≤ greatest)) }
-    ensures room { OnOk result (head.place + head.size ≤ length section.now) }
+    ensures room { OnOk result (head.offset + head.size ≤ length section.now) }
 {
     if head.size < least || greatest < head.size {
         return Err(bad(at, DataCause::Size));
     }
-    let content = bytes_at(section, head.place, head.size, at)?;
+    let content = bytes_at(section, head.offset, head.size, at)?;
     if is_key {
         return Err(bad(at, DataCause::Key));
     }

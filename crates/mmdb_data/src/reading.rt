@@ -16,8 +16,8 @@ use byteorder::{BigEndian, ByteOrder};
 pub(crate) struct Head {
     pub(crate) kind: u16,
     pub(crate) size: usize,
-    /// The place of the content.
-    pub(crate) place: usize,
+    /// The offset of the content.
+    pub(crate) offset: usize,
 }
 
 pub(crate) fn bad(at: usize, cause: DataCause) -> DataFault
@@ -32,14 +32,14 @@ pub(crate) fn bad(at: usize, cause: DataCause) -> DataFault
 #[tactic(auto, unfolding(crate::specs::Reading::byte_from))]
 pub(crate) fn byte_at(
     section: &[u8],
-    place: usize,
+    offset: usize,
     at: usize,
     cause: DataCause,
 ) -> Result<u8, DataFault>
-    ensures gives { Gives (λ b. b) result (byte_from section.now place (at, cause)) }
-    ensures room { OnOk result (place < length section.now) }
+    ensures gives { Gives (λ b. b) result (byte_from section.now offset (at, cause)) }
+    ensures room { OnOk result (offset < length section.now) }
 {
-    match section.get(place) {
+    match section.get(offset) {
         Some(byte) => Ok(*byte),
         None => Err(bad(at, cause)),
     }
@@ -48,31 +48,31 @@ pub(crate) fn byte_at(
 #[tactic(auto, unfolding(crate::specs::Reading::bytes_from))]
 pub(crate) fn bytes_at(
     section: &[u8],
-    place: usize,
+    offset: usize,
     size: usize,
     at: usize,
 ) -> Result<&[u8], DataFault>
-    requires { place ≤ length section.now }
-    ensures gives { Gives (λ bytes. bytes.now) result (bytes_from section.now place size (at, Truncated)) }
+    requires { offset ≤ length section.now }
+    ensures gives { Gives (λ bytes. bytes.now) result (bytes_from section.now offset size (at, Truncated)) }
     ensures len { IfOk result (λ bytes. length bytes.now ≡ size) }
-    ensures room { OnOk result (place + size ≤ length section.now) }
+    ensures room { OnOk result (offset + size ≤ length section.now) }
 {
-    if section.len() - place < size {
+    if section.len() - offset < size {
         return Err(bad(at, DataCause::Truncated));
     }
-    Ok(&section[place..place + size])
+    Ok(&section[offset..offset + size])
 }
 
 #[tactic(auto, unfolding(crate::specs::Reading::number_from))]
-fn number_at(section: &[u8], place: usize, size: usize, at: usize) -> Result<u32, DataFault>
-    requires here { place ≤ length section.now }
+fn number_at(section: &[u8], offset: usize, size: usize, at: usize) -> Result<u32, DataFault>
+    requires here { offset ≤ length section.now }
     requires some { 0 < size }
     requires few { size ≤ 4 }
-    ensures gives { Gives (λ n. n) result (number_from section.now place size (at, Truncated)) }
+    ensures gives { Gives (λ n. n) result (number_from section.now offset size (at, Truncated)) }
     ensures fits { IfOk result (λ n. n < 256 ^ size) }
-    ensures room { OnOk result (place + size ≤ length section.now) }
+    ensures room { OnOk result (offset + size ≤ length section.now) }
 {
-    let bytes = bytes_at(section, place, size, at)?;
+    let bytes = bytes_at(section, offset, size, at)?;
     Ok(number_of(bytes, size) as u32)
 }
 
@@ -103,34 +103,37 @@ fn kind_at(section: &[u8], at: usize, control: u8) -> Result<(u16, usize), DataF
 }
 
 #[tactic(auto, unfolding(crate::specs::Reading::size_from))]
-fn size_at(section: &[u8], at: usize, code: u8, place: usize) -> Result<(usize, usize), DataFault>
-    requires here { place ≤ length section.now }
+fn size_at(section: &[u8], at: usize, code: u8, offset: usize) -> Result<(usize, usize), DataFault>
+    requires here { offset ≤ length section.now }
     requires small { code < 32 }
-    ensures gives { Gives (λ x. x) result (size_from section.now at code place) }
+    ensures gives { Gives (λ x. x) result (size_from section.now at code offset) }
     ensures narrow { IfOk result (λ x. x.0 ≤ most_size) }
     ensures room { IfOk result (λ x. x.1 ≤ length section.now) }
 {
     match code {
-        29 => Ok((29 + number_at(section, place, 1, at)? as usize, place + 1)),
-        30 => Ok((285 + number_at(section, place, 2, at)? as usize, place + 2)),
-        31 => Ok((
-            65_821 + number_at(section, place, 3, at)? as usize,
-            place + 3,
+        29 => Ok((29 + number_at(section, offset, 1, at)? as usize, offset + 1)),
+        30 => Ok((
+            285 + number_at(section, offset, 2, at)? as usize,
+            offset + 2,
         )),
-        size => Ok((size as usize, place)),
+        31 => Ok((
+            65_821 + number_at(section, offset, 3, at)? as usize,
+            offset + 3,
+        )),
+        size => Ok((size as usize, offset)),
     }
 }
 
 #[tactic(auto, unfolding(crate::specs::Reading::head_from))]
 pub(crate) fn head_at(section: &[u8], at: usize) -> Result<Head, DataFault>
-    ensures gives { Gives (λ head. (head.kind, head.size, head.place)) result (head_from section.now at) }
+    ensures gives { Gives (λ head. (head.kind, head.size, head.offset)) result (head_from section.now at) }
     ensures narrow { IfOk result (λ head. head.size ≤ most_size) }
-    ensures room { IfOk result (λ head. head.place ≤ length section.now) }
+    ensures room { IfOk result (λ head. head.offset ≤ length section.now) }
 {
     let control = byte_at(section, at, at, DataCause::Truncated)?;
-    let (kind, place) = kind_at(section, at, control)?;
-    let (size, place) = size_at(section, at, control % 32, place)?;
-    Ok(Head { kind, size, place })
+    let (kind, offset) = kind_at(section, at, control)?;
+    let (size, offset) = size_at(section, at, control % 32, offset)?;
+    Ok(Head { kind, size, offset })
 }
 
 #[tactic(auto, unfolding(crate::specs::Reading::pointer_from))]

@@ -56,10 +56,10 @@ fn faults(rt: HostRuntime) {
         // A pointer as a key, and what it leads to.
         (b"\xE1\x20\x03\xA0", 0, 3, DataCause::Key),
     ];
-    for (i, (section, at, place, cause)) in rows.iter().enumerate() {
+    for (i, (section, at, offset, cause)) in rows.iter().enumerate() {
         assert_eq!(rt;
             fault_of(rt.alloc(), section, *at),
-            Some((*place, *cause)),
+            Some((*offset, *cause)),
             "row {i}"
         );
     }
@@ -144,8 +144,8 @@ fn bytes_in_all(rt: HostRuntime) -> Result<(), Fail> {
         section.extend_from_slice(&vec![in rt.alloc(); b'a'; 16_777_216]?)?;
         match (decode(rt.alloc(), &section, 0), fault) {
             (Ok(Value::List(values)), None) => assert_eq!(rt; values.len(), 4),
-            (Err(DataFault::Bad { at, cause }), Some(place)) => {
-                assert_eq!(rt; (at, cause), (place, DataCause::Big))
+            (Err(DataFault::Bad { at, cause }), Some(offset)) => {
+                assert_eq!(rt; (at, cause), (offset, DataCause::Big))
             }
             _ => return Err(Fail::from("neither")),
         }

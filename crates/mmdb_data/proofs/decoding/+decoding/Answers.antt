@@ -13,7 +13,7 @@ items_at-returns-in_err-value-clause-gives t c =
     let l = c.loop in
     rw (p.1, p.2) (item_ends read c.in_err-value.field-0.0
     (items_view l.values.items) c.args.count l.counter l.next (budget l.rest)
-    (items_from read c.args.count c.args.place (budget c.args.left)) c.loop-test.true
+    (items_from read c.args.count c.args.offset (budget c.args.left)) c.loop-test.true
     c.in_err-value.ensures.gives l.invariant.so_far)
 
 pub items_at-loop-preserved : goal.items_at-loop-preserved
@@ -25,7 +25,7 @@ items_at-loop-preserved t c =
       so_far = rw (c.in_ok-push.ensures.items, items_view-push l.values.items v.value)
           (items_go_on read (items_view l.values.items) c.args.count l.counter l.next
           (budget l.rest) (tree v.value, v.behind, budget v.fewer)
-          (items_from read c.args.count c.args.place (budget c.args.left)) c.loop-test.true
+          (items_from read c.args.count c.args.offset (budget c.args.left)) c.loop-test.true
           v.ensures.gives l.invariant.so_far);
       room = v.ensures.room;
     }
@@ -35,7 +35,7 @@ items_at-returns-clause-gives t c =
     let read = value_from c.args.section.now c.args.levels in
     let l = c.loop in
     items_are_done read (items_view l.values.items) c.args.count l.counter l.next (budget l.rest)
-    (items_from read c.args.count c.args.place (budget c.args.left)) c.loop-test.false
+    (items_from read c.args.count c.args.offset (budget c.args.left)) c.loop-test.false
     l.invariant.so_far
 
 pub members_at-returns-in_err-key-clause-gives : goal.members_at-returns-in_err-key-clause-gives
@@ -45,7 +45,7 @@ members_at-returns-in_err-key-clause-gives t c =
     let l = c.loop in
     rw (p.1, p.2) (key_ends read c.in_err-key.field-0.0
     (members_view l.pairs.items) c.args.count l.counter l.next (budget l.rest)
-    (members_from read c.args.count c.args.place (budget c.args.left)) c.loop-test.true
+    (members_from read c.args.count c.args.offset (budget c.args.left)) c.loop-test.true
     c.in_err-key.ensures.gives l.invariant.so_far)
 
 pub members_at-returns-in_err-name-clause-gives : goal.members_at-returns-in_err-name-clause-gives
@@ -58,7 +58,7 @@ members_at-returns-in_err-name-clause-gives t c =
     rw (p.1, p.2) (name_ends read c.in_err-name.field-0.0
     (members_view l.pairs.items) c.args.count l.counter l.next (budget l.rest)
     (tree k.key, k.behind_key, budget k.fewer)
-    (members_from read c.args.count c.args.place (budget c.args.left)) c.loop-test.true
+    (members_from read c.args.count c.args.offset (budget c.args.left)) c.loop-test.true
     k.ensures.gives c.in_err-name.ensures l.invariant.so_far)
 
 pub members_at-returns-in_err-value-clause-gives : goal.members_at-returns-in_err-value-clause-gives
@@ -71,7 +71,7 @@ members_at-returns-in_err-value-clause-gives t c =
     rw (p.1, p.2) (value_ends read c.in_err-value.field-0.0
     (members_view l.pairs.items) c.args.count l.counter l.next (budget l.rest)
     (tree k.key, k.behind_key, budget k.fewer) c.in_ok-name.name
-    (members_from read c.args.count c.args.place (budget c.args.left)) c.loop-test.true
+    (members_from read c.args.count c.args.offset (budget c.args.left)) c.loop-test.true
     k.ensures.gives c.in_ok-name.ensures c.in_err-value.ensures.gives l.invariant.so_far)
 
 pub members_at-loop-preserved : goal.members_at-loop-preserved
@@ -88,7 +88,7 @@ members_at-loop-preserved t c =
           (members_go_on read (members_view l.pairs.items) c.args.count l.counter l.next
           (budget l.rest) (tree k.key, k.behind_key, budget k.fewer) c.in_ok-name.name
           (tree v.value, v.behind, budget v.least)
-          (members_from read c.args.count c.args.place (budget c.args.left)) c.loop-test.true
+          (members_from read c.args.count c.args.offset (budget c.args.left)) c.loop-test.true
           k.ensures.gives c.in_ok-name.ensures v.ensures.gives l.invariant.so_far);
       room = v.ensures.room;
     }
@@ -98,5 +98,5 @@ members_at-returns-clause-gives t c =
     let read = value_from c.args.section.now c.args.levels in
     let l = c.loop in
     members_are_done read (members_view l.pairs.items) c.args.count l.counter l.next (budget l.rest)
-    (members_from read c.args.count c.args.place (budget c.args.left)) c.loop-test.false
+    (members_from read c.args.count c.args.offset (budget c.args.left)) c.loop-test.false
     l.invariant.so_far

@@ -26,7 +26,7 @@ abbrev pub invariant-items_at-loop : goal.invariant-items_at-loop
 invariant-items_at-loop l = record {
   so_far : after_items (items_view l.values.items)
       (items_from (value_from l.section l.levels) (l.count - l.counter) l.next (budget l.rest))
-      ≡ items_from (value_from l.section l.levels) l.count l.place (budget l.fn.left);
+      ≡ items_from (value_from l.section l.levels) l.count l.offset (budget l.fn.left);
   room : l.next ≤ length l.section;
 }
 
@@ -34,6 +34,6 @@ abbrev pub invariant-members_at-loop : goal.invariant-members_at-loop
 invariant-members_at-loop l = record {
   so_far : after_members (members_view l.pairs.items)
       (members_from (value_from l.section l.levels) (l.count - l.counter) l.next (budget l.rest))
-      ≡ members_from (value_from l.section l.levels) l.count l.place (budget l.fn.left);
+      ≡ members_from (value_from l.section l.levels) l.count l.offset (budget l.fn.left);
   room : l.next ≤ length l.section;
 }
