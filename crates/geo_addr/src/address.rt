@@ -7,7 +7,7 @@ use crate::v4::read_v4;
 use crate::v6::read_v6;
 
 /// Whether a text is read as IPv6: it has a colon in it.
-fn is_six(text: &[u8]) -> bool
+pub fn is_six(text: &[u8]) -> bool
     ensures { result ≡ is_six text.now }
 {
     text.iter().any(|b| *b == b':')

@@ -46,14 +46,14 @@ fn digit(byte: u8) -> Option<u32>
     }
 }
 
-fn are_digits(text: &[u8]) -> bool
+/// Whether a text has decimal digits alone; the empty text has.
+pub fn are_digits(text: &[u8]) -> bool
     ensures { result ≡ list_all is_ascii_digit text.now }
 {
     text.iter().all(|b| b.is_ascii_digit())
 }
 
 // The value of at most 38 digits, which fits 128 bits.
-
 fn digits_value(text: &[u8]) -> u128
     requires few { length text.now ≤ 38 }
     requires digits { IsTrue (list_all is_ascii_digit text.now) }

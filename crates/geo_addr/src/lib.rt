@@ -21,11 +21,11 @@ mod v4;
 mod v6;
 
 pub use addr::Addr;
-pub use address::parse_addr;
+pub use address::{is_six, parse_addr};
 pub use bits::one_list_of_bits;
-pub use block::Block;
+pub use block::{Block, is_aligned, span_of};
 pub use bytes::Bytes;
-pub use digits::decimal;
+pub use digits::{are_digits, decimal};
 pub use fault::{AddrFault, BlockFault};
 pub use line::{Line, Lines, cut_at, is_blank, skip_mark, trim_blanks};
 pub use list::List;

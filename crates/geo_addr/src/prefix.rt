@@ -1,9 +1,9 @@
-ghost use Rattle.std.specs.Prelude.{◌≡◌, ◌-◌, ◌%◌, ◌^◌, ◌≤◌, ◌<◌, ◌==◌};
+ghost use Rattle.std.specs.Prelude.{◌≡◌, ◌≤◌};
 ghost use Rattle.std.specs.Option.{ForSome};
 ghost use Rattle.geo_addr.specs.Prefixes.{address_length, aligned_block, block_in, block_of, length_in};
 
 use crate::address::read_number;
-use crate::block::Block;
+use crate::block::{Block, is_aligned};
 use crate::digits::short_decimal;
 use crate::fault::{AddrFault, BlockFault};
 use crate::line::cut_near;
@@ -84,16 +84,4 @@ fn aligned_block(six: bool, first: u128, len: u8) -> Result<Block, BlockFault>
         return Err(BlockFault::InV4Space);
     }
     Ok(Block { first, len })
-}
-
-/// Whether no bit of an address below this length is set.
-fn is_aligned(first: u128, len: u8) -> bool
-    requires { len ≤ 128 }
-    ensures { result ≡ (first % 2 ^ (128 - len) == 0) }
-{
-    if len == 0 {
-        first == 0
-    } else {
-        first % (1u128 << (128 - len)) == 0
-    }
 }

@@ -1,8 +1,8 @@
-ghost use Rattle.std.specs.Prelude.{◌≡◌, ◌-◌, ◌<◌, ◌≤◌, ◌^◌, ◌↔◌, IsTrue};
+ghost use Rattle.std.specs.Prelude.{◌≡◌};
 ghost use Rattle.geo_addr.specs.Ranges.{ground_first, holds, is_v4, range_of_block, size};
 
 use crate::addr::Addr;
-use crate::block::Block;
+use crate::block::{Block, span_of};
 use std::marker::Model;
 
 /// A range of addresses, given by its two ends; both are in it.
@@ -73,17 +73,5 @@ pub fn range_of(block: Block) -> Range
     Range {
         first,
         last: first + span_of(len),
-    }
-}
-
-// How far the last address of a block with this length lies above its first.
-fn span_of(len: u8) -> u128
-    requires { len ≤ 128 }
-    ensures { result ≡ 2 ^ (128 - len) - 1 }
-{
-    if len == 0 {
-        u128::MAX
-    } else {
-        (1u128 << (128 - len)) - 1
     }
 }

@@ -1,12 +1,10 @@
 //! The fields of a line.
 ghost use Rattle.std.specs.Prelude.{◌≡◌, ◌∷◌, ◌&&◌, ◌||◌, [], false, codes, MatchOption};
-ghost use Rattle.std.specs.Char.{is_ascii_digit};
-ghost use Rattle.std.specs.List.{list_all};
 ghost use Rattle.std.specs.Option.{option_copied};
 ghost use Rattle.geo_terms.specs.PlaceForm.{same_text};
 ghost use Rattle.nro_stats.specs.Fields.{IsRecord, IsShort, fields, fields_after, is_comment, is_skipped, is_summary_line, is_version, is_version_line};
 
-use geo_addr::{cut_at, trim_blanks};
+use geo_addr::{are_digits, cut_at, trim_blanks};
 
 /// The first seven fields of a line; what follows the status does not count.
 #[derive(Clone, Copy, Debug)]
@@ -105,12 +103,6 @@ fn is_version(field: &[u8]) -> bool
         }
         [] => false,
     }
-}
-
-fn are_digits(text: &[u8]) -> bool
-    ensures { result ≡ list_all is_ascii_digit text.now }
-{
-    text.iter().all(|byte| byte.is_ascii_digit())
 }
 
 // Whether the second field of a line is `*` and its sixth `summary`.

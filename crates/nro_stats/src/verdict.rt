@@ -1,11 +1,11 @@
 //! What a line says.
-ghost use Rattle.std.specs.Prelude.{◌≡◌, ◌-◌, ◌%◌, ◌^◌, ◌<◌, ◌≤◌, ◌↔◌, IfOk, IsTrue};
+ghost use Rattle.std.specs.Prelude.{◌≡◌, IfOk};
 ghost use Rattle.geo_addr.specs.AddressTexts.{is_six};
 ghost use Rattle.nro_stats.specs.Fields.{fields};
 ghost use Rattle.nro_stats.specs.Verdicts.{PlacesCountryAlone, is_kind, is_silent, is_status, judged, placed, range_in, v4_range, v4_start, v6_range, v6_start, verdict};
 
 use crate::record::{Record, is_heading, is_heading_line, is_skipped};
-use geo_addr::{Block, Memory, Range, decimal, parse_addr, range_of};
+use geo_addr::{Block, Memory, Range, decimal, is_aligned, is_six, parse_addr, range_of};
 use geo_terms::{Place, Rule, Texts, country_place};
 
 /// What a line says: nothing, a rule that it breaks, or that a range is delegated to a country.
@@ -135,23 +135,11 @@ fn v6_range(start: &[u8], value: &[u8]) -> Result<Range, Rule>
     Ok(range)
 }
 
-// Whether no bit below the prefix length is set.
-fn is_aligned(first: u128, len: u8) -> bool
-    requires { len ≤ 128 }
-    ensures { IsTrue result ↔ (first % 2 ^ (128 - len) ≡ 0) }
-{
-    if len == 0 {
-        first == 0
-    } else {
-        first % (1 << (128 - len)) == 0
-    }
-}
-
 #[tactic(auto, unfolding(crate::specs::Verdicts::v4_start))]
 fn v4_start(start: &[u8]) -> Option<u128>
     ensures { result ≡ v4_start start.now }
 {
-    if has_colon(start) {
+    if is_six(start) {
         return None;
     }
     match parse_addr(start) {
@@ -164,19 +152,13 @@ fn v4_start(start: &[u8]) -> Option<u128>
 fn v6_start(start: &[u8]) -> Option<u128>
     ensures { result ≡ v6_start start.now }
 {
-    if !has_colon(start) {
+    if !is_six(start) {
         return None;
     }
     match parse_addr(start) {
         Ok(at) => Some(at.0),
         Err(_) => None,
     }
-}
-
-fn has_colon(text: &[u8]) -> bool
-    ensures { result ≡ is_six text.now }
-{
-    text.iter().any(|byte| *byte == b':')
 }
 
 // A delegation of a range to a country, where that is one.

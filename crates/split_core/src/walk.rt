@@ -1,9 +1,9 @@
 //! The blocks of a range, one after another.
-ghost use Rattle.std.specs.Prelude.{◌≡◌, ◌∷◌, ◌+◌, ◌-◌, ◌^◌, ◌≤◌, [], MatchOption};
+ghost use Rattle.std.specs.Prelude.{◌≡◌, ◌∷◌, ◌+◌, ◌-◌, ◌≤◌, [], MatchOption};
 ghost use Rattle.std.specs.Iterator.{YieldsFirst, item_count};
 ghost use Rattle.split_core.specs.Walk.{is_room, largest_block, blocks_of};
 
-use geo_addr::{Block, Range, range_of};
+use geo_addr::{Block, Range, range_of, span_of};
 use std::marker::Model;
 
 /// The fewest blocks that make a range, ascending. In contracts it is the list of the blocks left.
@@ -77,16 +77,4 @@ fn has_room(range: Range, len: u8) -> bool
 {
     let span = span_of(len);
     range.first & span == 0 && span <= range.size()
-}
-
-/// How far the last address of a block of this length lies above its first.
-fn span_of(len: u8) -> u128
-    requires { len ≤ 128 }
-    ensures { result ≡ 2 ^ (128 - len) - 1 }
-{
-    if len == 0 {
-        u128::MAX
-    } else {
-        (1u128 << (128 - len)) - 1
-    }
 }
