@@ -4,9 +4,10 @@ ghost use Rattle.std.specs.Arc.{arc_value};
 ghost use Rattle.std.specs.Option.{option_copied};
 ghost use Rattle.kept_sources.specs.Delegations.{IsIndex};
 
-use crate::kind_index::{KindIndex, index_of, push_borrows};
+use crate::kind_index::{KindIndex, index_of};
 use geo_addr::Memory;
 use geo_terms::{Delegation, Stats};
+use source_changes::push_borrows;
 use std::alloc::Global;
 use std::sync::Arc;
 

@@ -37,17 +37,6 @@ pub fn push_ranges<S: Statement>(ranges: &mut Vec<Range>, statements: &[S]) -> R
     Ok(())
 }
 
-/// Second borrows of statements.
-pub fn push_borrows<'a, S>(borrows: &mut Vec<&'a S>, statements: &'a [S]) -> Result<(), Memory>
-    ensures { OnOk result (map (λ s. s.now) borrows.new.items ≡ map (λ s. s.now) borrows.old.items ++ statements.entry.now) }
-{
-    borrows.reserve(statements.len())?;
-    for statement in statements {
-        borrows.push(statement)?;
-    }
-    Ok(())
-}
-
 /// The cut points of statements.
 pub fn places_of<S: Statement>(alloc: Global, statements: &[S]) -> Result<Vec<u128>, Memory>
     ensures { IfOk result (λ places. AreCutsOf (map S.range statements.now) places.items) }

@@ -4,10 +4,11 @@ ghost use Rattle.std.specs.Arc.{arc_value};
 ghost use Rattle.geo_terms.specs.Precedence.{override_cmp};
 ghost use Rattle.kept_sources.specs.Kinds.{IsKindIndex};
 
-use crate::kind_index::{KindIndex, index_of, push_borrows, push_ranges};
+use crate::kind_index::{KindIndex, index_of, push_ranges};
 use crate::shelf::second;
 use geo_addr::{Addr, Memory, Range};
 use geo_terms::{Note, Override, Overrides};
+use source_changes::push_borrows;
 use source_notes::{note_overrides, push_notes};
 use std::alloc::Global;
 use std::marker::Model;

@@ -35,8 +35,8 @@ pub fn changed_grounds<S: Compared>(
         return Ok(grounds);
     }
     let (mut old, mut new) = unpaired(alloc, old, new)?;
-    put_in_order(&mut old);
-    put_in_order(&mut new);
+    sort_statements(&mut old);
+    sort_statements(&mut new);
     push_differing(&mut grounds, old.as_slice(), new.as_slice())?;
     Ok(grounds)
 }
@@ -134,7 +134,8 @@ fn unpaired<'a, S: Compared>(
     Ok((old_left, new_left))
 }
 
-fn push_borrows<'a, S>(borrows: &mut Vec<&'a S>, statements: &'a [S]) -> Result<(), Memory>
+/// Appends a borrow of each statement.
+pub fn push_borrows<'a, S>(borrows: &mut Vec<&'a S>, statements: &'a [S]) -> Result<(), Memory>
     ensures { OnOk result (map (λ s. s.now) borrows.new.items ≡ map (λ s. s.now) borrows.old.items ++ statements.entry.now) }
 {
     borrows.reserve(statements.len())?;
@@ -145,7 +146,7 @@ fn push_borrows<'a, S>(borrows: &mut Vec<&'a S>, statements: &'a [S]) -> Result<
 }
 
 // Puts statements in the order in which they are compared.
-fn put_in_order<S: Compared>(statements: &mut Vec<&S>)
+fn sort_statements<S: Compared>(statements: &mut Vec<&S>)
     ensures same { IsPermutation (map (λ s. s.now) statements.old.items) (map (λ s. s.now) statements.new.items) }
     ensures sorted { IsSorted (whole_cmp S.range S.rest) (map (λ s. s.now) statements.new.items) }
 {

@@ -8,5 +8,5 @@ pub mod laws;
 #[cfg(test)]
 mod tests;
 
-pub use changed::{changed_grounds, keep_all};
+pub use changed::{changed_grounds, keep_all, push_borrows};
 pub use compared::Compared;

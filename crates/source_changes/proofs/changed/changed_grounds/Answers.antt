@@ -35,7 +35,7 @@ returns g c =
     let ground : X → Ends = λ x. ground_of (g.S.Statement.range x) in
     let now : Bor X → X = λ s. s.now in
     let found : List (Bor X) → List (Bor X) → List Ends = λ old new. map ground (differing (whole_cmp g.S.Statement.range g.S.Compared.rest) (map now old) (map now new)) in
-    let out : c.push_differing.new.grounds.items ≡ found c.put_in_order.new.statements.items c.put_in_order-2.new.statements.items =
+    let out : c.push_differing.new.grounds.items ≡ found c.sort_statements.new.statements.items c.sort_statements-2.new.statements.items =
     c.in_ok-push_differing.ensures ∙ ap (λ zs. zs ++ found c.as_slice.result.now c.as_slice-2.result.now) c.new-grounds.ensures.items
     ∙ (λ k. found (c.as_slice.ensures.value k) (c.as_slice-2.ensures.value k)) in
     let changes : List X → List X → List Ends = λ old new. map ground (changed g.S.Compared.same old new) in
@@ -47,5 +47,5 @@ returns g c =
     c.in_ok-old.ensures
     (subst (λ (zs : List Ends). IsPermutation (changes old new) zs) (sym out)
     (pass_finds g.S.Statement.range g.S.Compared.same g.S.Compared.rest g.met.S.Compared.rest_total g.met.S.Compared.decides
-    old new (map now c.put_in_order.new.statements.items) (map now c.put_in_order-2.new.statements.items)
-    c.put_in_order.ensures.same c.put_in_order-2.ensures.same c.put_in_order.ensures.sorted c.put_in_order-2.ensures.sorted)))
+    old new (map now c.sort_statements.new.statements.items) (map now c.sort_statements-2.new.statements.items)
+    c.sort_statements.ensures.same c.sort_statements-2.ensures.same c.sort_statements.ensures.sorted c.sort_statements-2.ensures.sorted)))

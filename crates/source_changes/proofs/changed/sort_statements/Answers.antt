@@ -5,7 +5,7 @@ use Rattle.std.proofs.lemmas.List.Sorted.{IsPermutation-map, answers_always, ran
 use Rattle.geo_terms.proofs.IndexLemmas.{sorted_seen}
 use Rattle.source_changes.specs.Sorting.{whole_cmp}
 use Rattle.source_changes.proofs.Found.{whole_total}
-use Rattle.source_changes.proofs.changed.put_in_order.Goals as goal
+use Rattle.source_changes.proofs.changed.sort_statements.Goals as goal
 
 pub returns-clause-same : goal.returns-clause-same
 returns-clause-same g c =
