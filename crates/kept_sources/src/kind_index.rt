@@ -22,7 +22,7 @@ pub fn index_of<S: Statement>(alloc: Global, statements: &[&S]) -> Result<KindIn
     ensures kept { OnOk result (All S.kept (map (λ s. s.now) statements.entry.now)) }
 {
     let firsts = FirstIndex::of(alloc, statements)?;
-    let places = borrowed_places(alloc, statements)?;
+    let places = places_of(alloc, statements)?;
     Ok(KindIndex { firsts, places })
 }
 
@@ -38,22 +38,10 @@ pub fn push_ranges<S: Statement>(ranges: &mut Vec<Range>, statements: &[S]) -> R
 }
 
 /// The cut points of statements.
-pub fn places_of<S: Statement>(alloc: Global, statements: &[S]) -> Result<Vec<u128>, Memory>
-    ensures { IfOk result (λ places. AreCutsOf (map S.range statements.now) places.items) }
-{
-    // Of ranges that lie side by side each adds one place.
-    let mut places = Vec::with_capacity(alloc, statements.len())?;
-    for statement in statements {
-        push_edges(&mut places, statement.range(), whole())?;
-    }
-    put_in_order(&mut places);
-    Ok(places)
-}
-
-// The cut points of borrowed statements.
-fn borrowed_places<S: Statement>(alloc: Global, statements: &[&S]) -> Result<Vec<u128>, Memory>
+pub fn places_of<S: Statement>(alloc: Global, statements: &[&S]) -> Result<Vec<u128>, Memory>
     ensures { IfOk result (λ places. AreCutsOf (map S.range (map (λ s. s.now) statements.entry.now)) places.items) }
 {
+    // Of ranges that lie side by side each adds one place.
     let mut places = Vec::with_capacity(alloc, statements.len())?;
     for statement in statements {
         push_edges(&mut places, statement.range(), whole())?;

@@ -4,8 +4,6 @@ ghost use Rattle.std.specs.Arc.{arc_value};
 ghost use Rattle.std.specs.List.{AllAdjacentBelow};
 ghost use Rattle.std.specs.List.Sorted.{IsStrictlyIncreasing};
 ghost use Rattle.geo_addr.specs.Ranges.{IsRange, IsWithin, range_of_block};
-ghost use Rattle.geo_terms.specs.Report.{alias_note};
-ghost use Rattle.geo_terms.specs.declared.note.Origin.{Origin};
 ghost use Rattle.cut_segments.specs.CutPlaces.{AreCutsOf};
 ghost use Rattle.kept_sources.specs.FeedPlaces.{HasCutsOf, kept_places};
 
@@ -13,8 +11,9 @@ use crate::kind_index::{places_of, push_ranges};
 use crate::shelf::{Named, copies, find_named, second, take_out, with_one};
 use authority::{Authority, DropFault};
 use cut_segments::{cut_places, push_inside};
-use geo_addr::{Addr, Block, Memory, Range, Text};
-use geo_terms::{Dump, Entry, Feed, Note, Reference};
+use geo_addr::{Memory, Range, Text};
+use geo_terms::{Dump, Entry, Feed, Note};
+use source_changes::push_borrows;
 use source_notes::{push_dump_aliases, push_dump_notes, push_feed_aliases, push_feed_notes};
 use std::alloc::Global;
 use std::marker::Model;
@@ -76,12 +75,9 @@ impl Speaking {
     ghost use Rattle.std.specs.Prelude.{◌≡◌, ◌↔◌, ◌++◌, ◌<◌, [], All, map, flat_map, find, length, option_map, IfOk, IfErr, OnOk, OnErr, Some, None};
     ghost use Rattle.std.specs.Arc.{arc_value};
     ghost use Rattle.std.specs.List.{AllAdjacentBelow};
-    ghost use Rattle.std.specs.Option.{option_copied};
     ghost use Rattle.authority.specs.declared.fault.DropFault.{DropFault};
     ghost use Rattle.geo_addr.specs.Ranges.{IsRange, range_of_block};
-    ghost use Rattle.geo_terms.specs.Covering.{covering};
     ghost use Rattle.geo_terms.specs.PlaceForm.{same_text};
-    ghost use Rattle.geo_terms.specs.Precedence.{speaker, speaking_entry};
     ghost use Rattle.geo_terms.specs.Report.{alias_note};
     ghost use Rattle.geo_terms.specs.SlotOrder.{placed, removed};
     ghost use Rattle.geo_terms.specs.Sources.{entries, no_sources, references};
@@ -270,7 +266,9 @@ fn places_of_feed(alloc: Global, feed: &Feed) -> Result<Arc<FeedPlaces>, Memory>
 fn entry_places(alloc: Global, entries: &[Entry]) -> Result<Vec<u128>, Memory>
     ensures { IfOk result (λ places. AreCutsOf (map (λ e. range_of_block e.block) entries.now) places.items) }
 {
-    places_of(alloc, entries)
+    let mut borrowed = Vec::new(alloc);
+    push_borrows(&mut borrowed, entries)?;
+    places_of(alloc, borrowed.as_slice())
 }
 
 fn push_references(ranges: &mut Vec<Range>, dumps: &[Arc<Dump>]) -> Result<(), Memory>
