@@ -35,12 +35,12 @@ use Rattle.published.proofs.LineText.{line_good_of, line_is, line_reads}
 
 -- ---- the lines of the text
 
-no_feed : (xs : List ℕ) → list_all is_clean xs ≡ true → All (λ b. (b == 10) ≡ false) xs
-no_feed [] e = All-nil (λ b. (b == 10) ≡ false)
-no_feed (x ∷ xs) e =
+no_line_feed : (xs : List ℕ) → list_all is_clean xs ≡ true → All (λ b. (b == 10) ≡ false) xs
+no_line_feed [] e = All-nil (λ b. (b == 10) ≡ false)
+no_line_feed (x ∷ xs) e =
     let (one, more) = and_parts (is_clean x) (list_all is_clean xs) e in
     let other : (x == 10) ≡ false = grind (arith, nat_tests) in
-    All-cons (λ b. (b == 10) ≡ false) x xs other (no_feed xs more)
+    All-cons (λ b. (b == 10) ≡ false) x xs other (no_line_feed xs more)
 
 no_return : (xs : List ℕ) (k : ℕ) → list_all is_clean xs ≡ true → (get_or xs k 0 == 13) ≡ false
 no_return [] k e = refl
@@ -52,7 +52,7 @@ stripped xs e = rw (no_return xs (length xs - 1) e) refl
 
 one_line : (line after : List ℕ) → list_all is_clean line ≡ true → lines_of ((line ++ (10 ∷ [])) ++ after) ≡ line ∷ lines_of after
 one_line line after e =
-    let cut : pieces 10 (line ++ (10 ∷ after)) ≡ line ∷ pieces 10 after = slice_split_at (λ b. b == 10) line 10 after (no_feed line e) refl in
+    let cut : pieces 10 (line ++ (10 ∷ after)) ≡ line ∷ pieces 10 after = slice_split_at (λ b. b == 10) line 10 after (no_line_feed line e) refl in
     ap lines_of (append_assoc line (10 ∷ []) after)
     ∙ line_before_feed (line ++ (10 ∷ after)) line after cut
     ∙ ap (λ t. t ∷ lines_of after) (stripped line e)
