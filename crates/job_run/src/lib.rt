@@ -19,6 +19,7 @@ mod stop;
 pub use acts::name_of;
 pub use apart::Apart;
 pub use course::{StepStop, do_steps};
+pub use emitting::put;
 pub use printing::print;
 pub use reading::read_file;
 pub use scope::Scope;

@@ -1,7 +1,6 @@
 //! A feed, written, and its line, printed.
-ghost use Rattle.std.specs.Prelude.{◌≡◌, ◌⊎◌, ◌≤◌, ◌+◌, [], length, IfErr, IfOk, OnOk, Some};
+ghost use Rattle.std.specs.Prelude.{◌≡◌, ◌⊎◌, ◌≤◌, ◌+◌, [], length, IfErr, IfOk, OnOk};
 ghost use Rattle.geo_outside.specs.Count.{Rose};
-ghost use Rattle.geo_outside.specs.Files.{Told, Spoils, after_put};
 ghost use Rattle.mmdb_file.specs.FileImage.{record_tree};
 ghost use Rattle.publish_least.specs.Lines.{IsPlain};
 ghost use Rattle.published.specs.PlaceLines.{published, published_lines};
@@ -15,8 +14,8 @@ ghost use Rattle.publish_move.specs.Publishing.{publishing};
 
 use fan_work::Forks;
 use geo_addr::{Block, Memory};
-use geo_outside::{Folder, Gate, OutErr, Sink, Steps};
-use job_run::{Cause, Stop, print};
+use geo_outside::{Folder, Gate, Sink, Steps};
+use job_run::{Cause, Stop, print, put};
 use published::{Publication, printed_line, publish};
 use std::marker::Sync;
 use std::sync::ledger::Ledger;
@@ -100,27 +99,5 @@ fn feed_of<R: Threads + Sync, G: Gate, L: Ledger>(
     match publish(forks.alloc, session.store(), session.places(), root, block) {
         Ok(feed) => Ok(feed),
         Err(Memory) => Err(Stop::Memory),
-    }
-}
-
-/// Puts a file.
-fn put<F: Folder>(folder: &mut F, name: &str, bytes: &[u8]) -> Result<(), Stop>
-    ensures ok { (w : Told) → F.told folder.old ≡ Some w
-        → OnOk result (F.told folder.new ≡ Some (after_put w name.now bytes.now)) }
-    ensures spoilt { (w : Told) → F.told folder.old ≡ Some w → result ≡ Err Stop.PutFailed
-        → (v : Told) × (F.told folder.new ≡ Some v) × Spoils w v name.now }
-    ensures memory { result ≡ Err Stop.Memory → F.told folder.new ≡ F.told folder.old }
-    ensures causes { IfErr result (λ why. (why ≡ Stop.PutFailed) ⊎ (why ≡ Stop.Memory)) }
-    ensures put_failed { result ≡ Err Stop.PutFailed
-        → Rose (F.put_faults folder.old) (F.put_faults folder.new) }
-    ensures read_faults { F.read_faults folder.old ≤ F.read_faults folder.new }
-    ensures put_faults { F.put_faults folder.old ≤ F.put_faults folder.new }
-    ensures misses { F.misses folder.old ≤ F.misses folder.new }
-    ensures given { F.given folder.new ≤ F.given folder.old }
-{
-    match folder.put(name, bytes) {
-        Ok(()) => Ok(()),
-        Err(OutErr::Failed) => Err(Stop::PutFailed),
-        Err(OutErr::Memory) => Err(Stop::Memory),
     }
 }
