@@ -1,13 +1,7 @@
 //! All sources in force: the record of an address and why it has it, the report, cut points and segments.
 #![tactic(auto)]
 
-#[cfg(test)]
-mod job_tests;
-#[cfg(test)]
-mod made;
 mod sources;
-#[cfg(test)]
-mod tests;
 mod why;
 
 pub use authority::DropFault;

@@ -4,4 +4,5 @@ mod given;
 mod orders;
 mod realistic;
 mod rows;
+mod shapes;
 mod told;

@@ -12,6 +12,63 @@ const OTHER: &str = "https://e.example/g.csv";
 
 const OBJECT: &str = "inetnum: 192.0.2.0 - 192.0.2.255\ngeofeed: https://e.example/f.csv\n";
 
+const STATS: Given = (Stats, "nro", "x|DE|ipv4|192.0.0.0|65536||allocated\n");
+
+const WIDE_FEED: Given = (Feed, FEED, "192.0.0.0/16,FR,,,\n");
+
+const NARROW: Given = (
+    Rpsl,
+    "b",
+    "inetnum: 192.0.2.0 - 192.0.2.255\ndescr: 2\ndescr: 3\ndescr: 4\ndescr: 5\n\
+        geofeed: https://e.example/g.csv\n",
+);
+
+const WIDE: Given = (
+    Rpsl,
+    "a",
+    "inetnum: 192.0.0.0 - 192.0.255.255\ngeofeed: https://e.example/f.csv\n",
+);
+
+const DATED: Given = (
+    Rpsl,
+    "b",
+    "inetnum: 192.0.2.0 - 192.0.2.255\ndescr: 2\ndescr: 3\ndescr: 4\n\
+        last-modified: 2023-01-01T00:00:00Z\ngeofeed: https://e.example/g.csv\n",
+);
+
+const LATER: Given = (
+    Rpsl,
+    "c",
+    "inetnum: 192.0.2.0 - 192.0.2.255\nlast-modified: 2024-01-01T00:00:00Z\n\
+        geofeed: https://e.example/f.csv\n",
+);
+
+/// A part of a realistic job: of the two objects of the dump the second one lies apart.
+const SMALL_JOB: &[Given] = &[
+    (
+        Rpsl,
+        "ripe",
+        "% An extract.\n\ninetnum: 192.0.2.0 - 192.0.2.255\nnetname: N\ncountry: DE\n\
+            remarks: Geofeed https://geo.example.net/a.csv\n\
+            last-modified: 2023-05-04T10:11:12Z\nsource: RIPE\n\n\
+            inetnum: 10.0.0.0 - 10.0.0.255\nnetname: N\n\
+            geofeed: https://geo.example.net/a.csv\n\
+            remarks: Geofeed https://geo.example.net/old.csv\n",
+    ),
+    (
+        Stats,
+        "nro",
+        "#\n#\n#\n#\n#\nripencc|GB|ipv4|192.0.0.0|65536|20100101|allocated|A1\n#\n#\n#\n\
+            apnic|ZZ|ipv4|203.0.112.0|256|20120101|allocated|A3\n",
+    ),
+    (Overrides, "", "192.0.2.10-192.0.2.19,set,AT,,Wien,\n"),
+    (
+        Feed,
+        "https://geo.example.net/a.csv",
+        "#\n192.0.2.0/25,de,DE-BY,München,\n",
+    ),
+];
+
 /// Sources, their report, addresses, and the records of these.
 type Row = (
     &'static [Given],
@@ -20,7 +77,7 @@ type Row = (
     &'static str,
 );
 
-static ROWS: [Row; 9] = [
+static ROWS: [Row; 15] = [
     // An entry goes before a delegation.
     (
         &[
@@ -135,6 +192,63 @@ static ROWS: [Row; 9] = [
         ],
         "DE,,,;DE,,,;DE,,,;-;",
     ),
+    // The same in two dumps, of which the narrow object's comes first.
+    (
+        &[STATS, WIDE_FEED, NARROW, WIDE],
+        "rpsl b 6 P09\n",
+        &["192.0.3.1", "192.0.2.1"],
+        "FR,,,;DE,,,;",
+    ),
+    // The same after another dump came in the place of the narrow object's, and a later one beside it.
+    (
+        &[STATS, WIDE_FEED, NARROW, WIDE, DATED, LATER],
+        "rpsl b 6 P08\nrpsl b 6 P09\n",
+        &[],
+        "",
+    ),
+    // An override of all IPv4 addresses decides at each of them.
+    (
+        &[
+            (Rpsl, "ripe", OBJECT),
+            (Feed, FEED, "192.0.2.0/25,de,DE-BY,München,\n"),
+            (Stats, "nro", "x|AT|ipv4|192.0.2.0|256||allocated\n"),
+            (Overrides, "", "0.0.0.0/0,set,FR\n"),
+        ],
+        "",
+        &["0.0.0.0", "192.0.2.1", "255.255.255.255", "::1:0:0"],
+        "FR,,,;FR,,,;FR,,,;-;",
+    ),
+    // A report is in its order, whatever that of the sources.
+    (
+        &[
+            (
+                Stats,
+                "ripe",
+                "#\n#\n#\n#\n#\n#\nx|ZZ|ipv4|192.0.2.0|256||allocated\n",
+            ),
+            (Overrides, "", "::ffff:0:0/96,set,FR\n"),
+            (Stats, "apnic", "#\n#\nx|ZZ|ipv4|192.0.2.0|256||allocated\n"),
+            (Feed, FEED, "2002::/16,FR,,,\n"),
+        ],
+        "feed https://e.example/f.csv 1 A01\nfeed https://e.example/f.csv 1 F09\n\
+            stats apnic 3 S06\nstats ripe 7 S06\noverrides - 1 A01\n",
+        &[],
+        "",
+    ),
+    // A note on overrides.
+    (
+        &[(Overrides, "", "#\n#\n192.0.2.0/24,Set,FR\n")],
+        "overrides - 3 O04\n",
+        &["192.0.2.1"],
+        "-;",
+    ),
+    // An override inside an object, and a delegation around it.
+    (
+        SMALL_JOB,
+        "rpsl ripe 13 P10\nstats nro 10 S06\n",
+        &["192.0.2.19", "192.0.2.20"],
+        "AT,,Wien,;DE,DE-BY,München,;",
+    ),
 ];
 
 // The table, by a function of its own, so that its length stands in no other proof.
@@ -166,14 +280,41 @@ fn worked_rows(rt: HostRuntime) -> Result<(), Fail> {
     Ok(())
 }
 
+/// Addresses of the small job, and why they have their records.
+static REASONS: [(&str, &str); 4] = [
+    ("192.0.2.12", "1; ripe 6; 2; nro 6; AT,,Wien,"),
+    ("192.0.2.1", "0; ripe 6; 2; nro 6; DE,DE-BY,München,"),
+    ("192.0.3.1", "0; - 0; 0; nro 6; GB,,,"),
+    ("::ffff:192.0.2.12", "1; ripe 6; 2; nro 6; AT,,Wien,"),
+];
+
+/// The same of one delegation.
+static ALIASES: [(&str, &str); 3] = [
+    ("128.0.0.1", "0; - 0; 0; x 1; DE,,,"),
+    ("::ffff:128.0.0.1", "0; - 0; 0; x 1; DE,,,"),
+    ("2002:8000:1::", "0; - 0; 0; x 1; DE,,,"),
+];
+
+// Whether these addresses have their records for these reasons.
+fn have_reasons(alloc: Global, given: &[Given], wanted: &[(&str, &str)]) -> Result<bool, Fail> {
+    let sources = all(alloc, given)?;
+    for (address, why) in wanted {
+        if reasons(alloc, &sources, address)?.as_str() != *why {
+            return Ok(false);
+        }
+    }
+    Ok(true)
+}
+
+#[test]
+fn reasons_of_a_small_job(rt: HostRuntime) -> Result<(), Fail> {
+    assert!(rt; have_reasons(rt.alloc(), SMALL_JOB, &REASONS)?);
+    Ok(())
+}
+
 #[test]
 fn reasons_at_an_alias(rt: HostRuntime) -> Result<(), Fail> {
-    let alloc = rt.alloc();
     let given = (Stats, "x", "x|DE|ipv4|128.0.0.0|2147483648||allocated");
-    let sources = all(alloc, &[given])?;
-    for address in ["128.0.0.1", "::ffff:128.0.0.1", "2002:8000:1::"] {
-        let found = reasons(alloc, &sources, address)?;
-        assert!(rt; found.as_str() == "0; - 0; 0; x 1; DE,,,");
-    }
+    assert!(rt; have_reasons(rt.alloc(), &[given], &ALIASES)?);
     Ok(())
 }

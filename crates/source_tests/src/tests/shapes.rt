@@ -1,0 +1,155 @@
+//! Delegations that nest, overlap without nesting, repeat, and touch both ends of both families, which no
+//! statistics file can say, as the sources and the plain look-up find them.
+ghost use Rattle.std.specs.Prelude.{◌≡◌, true, IfOk};
+ghost use Rattle.geo_terms.specs.DelegationForm.{IsCountryAlone};
+
+use geo_addr::{Addr, List, Range, Text};
+use geo_terms::plain::{AllSources, spoken_at};
+use geo_terms::{Delegation, Place, Stats, Texts, country_place};
+use precedence::Sources;
+use std::alloc::Global;
+use std::test::Fail;
+
+const TOP_V4: u128 = 0xFFFF_FFFF;
+
+/// A slot, the ends of a range, and a country.
+type Shape = (&'static str, u128, u128, &'static str);
+
+static SHAPES: [Shape; 8] = [
+    ("g", 0, TOP_V4, "US"),
+    ("f", 0x0A00_0000, 0x0AFF_FFFF, "DE"),
+    ("e", 0x0A00_0000, 0x0AFF_FFFF, "AT"),
+    ("d", 0x0A80_0000, 0x0B7F_FFFE, "FR"),
+    ("c", 0, 0, "NL"),
+    ("b", 0, u128::MAX, "SE"),
+    ("a", TOP_V4, 1 << 32, "CH"),
+    ("h", u128::MAX, u128::MAX, "JP"),
+];
+
+fn shapes() -> &'static [Shape] {
+    &SHAPES
+}
+
+static SPOKEN: [(u128, &str); 10] = [
+    (0, "NL"),
+    (1, "US"),
+    (0x0A00_0000, "AT"),
+    (0x0A80_0000, "FR"),
+    (0x0B7F_FFFE, "FR"),
+    (0x0B7F_FFFF, "US"),
+    (TOP_V4, "US"),
+    (1 << 32, "CH"),
+    ((1 << 32) + 1, "SE"),
+    (u128::MAX, "JP"),
+];
+
+fn spoken() -> &'static [(u128, &'static str)] {
+    &SPOKEN
+}
+
+fn is_country_alone(place: &Place) -> bool
+    ensures { result ≡ true → IsCountryAlone place.now }
+{
+    !place.country.as_str().is_empty()
+        && place.region.as_str().is_empty()
+        && place.city.as_str().is_empty()
+        && place.postal.as_str().is_empty()
+}
+
+fn country_of(place: Option<&Place>) -> &str {
+    match place {
+        Some(place) => place.country.as_str(),
+        None => "",
+    }
+}
+
+fn text(alloc: Global, text: &str) -> Result<Text, Fail>
+    ensures { IfOk result (λ copy. copy ≡ text.now) }
+{
+    let text = Text::of(alloc, text)?;
+    Ok(text)
+}
+
+fn row(alloc: Global, slot: &str, range: Range, code: &str) -> Result<Delegation, Fail>
+    ensures slot { IfOk result (λ row. row.slot ≡ slot.now) }
+    ensures line { IfOk result (λ row. row.line ≡ 1) }
+{
+    let place = country_place(&mut Texts::new(alloc), code.as_bytes())?.ok_or("a country")?;
+    if !is_country_alone(&place) {
+        return Err(Fail::from("more than a country"));
+    }
+    let slot = text(alloc, slot)?;
+    Ok(Delegation {
+        slot,
+        line: 1,
+        range,
+        place,
+    })
+}
+
+// A statistics file with one delegation.
+fn stats(alloc: Global, shape: &Shape) -> Result<Stats, Fail> {
+    let (slot, first, last, code) = *shape;
+    if first > last {
+        return Err(Fail::from("no range"));
+    }
+    let row = row(alloc, slot, Range { first, last }, code)?;
+    let slot = text(alloc, slot)?;
+    let rows = vec![in alloc; row]?;
+    Ok(Stats {
+        slot,
+        rows: List::of(rows),
+        notes: List::of(Vec::new(alloc)),
+    })
+}
+
+fn all_files(alloc: Global) -> Result<Vec<Stats>, Fail> {
+    let mut files = Vec::new(alloc);
+    for shape in shapes() {
+        files.push(stats(alloc, shape)?)?;
+    }
+    Ok(files)
+}
+
+fn set_file(sources: &mut Sources, file: Stats) -> Result<(), Fail> {
+    sources.set_stats(file)?;
+    Ok(())
+}
+
+fn all_sources(alloc: Global) -> Result<Sources, Fail> {
+    let mut sources = Sources::new(alloc);
+    for file in all_files(alloc)? {
+        set_file(&mut sources, file)?;
+    }
+    Ok(sources)
+}
+
+fn plainly_spoken<'a>(files: &'a [Stats], at: Addr) -> &'a str {
+    let plain = AllSources {
+        dumps: &[],
+        feeds: &[],
+        stats: files,
+        overrides: None,
+    };
+    country_of(spoken_at(&plain, at))
+}
+
+// The number of the first address at which something else is said, or how many there are.
+fn first_wrong(alloc: Global) -> Result<usize, Fail> {
+    let files = all_files(alloc)?;
+    let sources = all_sources(alloc)?;
+    for (at, (number, code)) in spoken().iter().enumerate() {
+        let found = country_of(sources.spoken_at(Addr(*number)));
+        let plain = plainly_spoken(files.as_slice(), Addr(*number));
+        if found != *code || plain != *code {
+            return Ok(at);
+        }
+    }
+    Ok(spoken().len())
+}
+
+#[test]
+fn the_plain_lookup_agrees(rt: HostRuntime) -> Result<(), Fail> {
+    assert_eq!(rt; first_wrong(rt.alloc())?, spoken().len());
+    Ok(())
+}
