@@ -1,5 +1,7 @@
 -- The longest entry that holds an address lies within a range, or none that holds it does.
-use Rattle.std.proofs.Common.{◌≡◌, ℕ, ◌+◌, ◌-◌, ◌%◌, ◌^◌, ◌≤◌, Bool, true, false, cond, ◌&&◌, leb, List, [], ◌∷◌, fold, Option, Some, None, refl, sym, ap, ◌∙◌, inl, inr, arith}
+use Rattle.std.proofs.Common.{◌≡◌, ℕ, ◌+◌, ◌-◌, ◌%◌, ◌^◌, ◌≤◌, Bool, true, false, cond, ◌&&◌, leb}
+use Rattle.std.proofs.Common.{List, [], ◌∷◌, fold, Option, Some, None, refl, sym, ap, ◌∙◌, inl, inr}
+use Rattle.std.proofs.Common.{arith}
 use Rattle.std.specs.List.{AllByRecursion}
 use Rattle.std.proofs.lemmas.Bool.{cases_lt}
 use Rattle.std.proofs.lemmas.Bool.Decides.{nat_tests}
@@ -16,16 +18,26 @@ kept r None = None
 kept r (Some e) = cond (lies_within e.block r) (Some e) None
 
 -- of two blocks that hold one address the shorter one holds all of the longer one
-nested : (b c : Prefix) (a : ℕ) → IsBlock b → IsBlock c → b.len ≤ c.len → b.first ≤ a → a ≤ b.first + (2 ^ (128 - b.len) - 1) → c.first ≤ a → a ≤ c.first + (2 ^ (128 - c.len) - 1)
+nested : (b c : Prefix) (a : ℕ) → IsBlock b → IsBlock c → b.len ≤ c.len → b.first ≤ a
+    → a ≤ b.first + (2 ^ (128 - b.len) - 1) → c.first ≤ a → a ≤ c.first + (2 ^ (128 - c.len) - 1)
     → (b.first ≤ c.first) × (c.first + (2 ^ (128 - c.len) - 1) ≤ b.first + (2 ^ (128 - b.len) - 1))
 nested b c a is_b is_c shorter b_from b_to c_from c_to =
     let some_b = pow_pos (128 - b.len) in
     let some_c = pow_pos (128 - c.len) in
-    let start : b.first % 2 ^ (128 - c.len) ≡ 0 = multiple_lower b.first (128 - b.len) (128 - c.len) (omega arith) is_b.aligned in
-    let end : (b.first + 2 ^ (128 - b.len)) % 2 ^ (128 - c.len) ≡ 0 = multiple_lower (b.first + 2 ^ (128 - b.len)) (128 - b.len) (128 - c.len) (omega arith) (multiple_next b.first (2 ^ (128 - b.len)) is_b.aligned) in
-    let last : c.first + 2 ^ (128 - c.len) ≤ b.first + 2 ^ (128 - b.len) = multiple_apart (2 ^ (128 - c.len)) c.first (b.first + 2 ^ (128 - b.len)) is_c.aligned end (omega (arith, some_b)) in
+    let start : b.first % 2 ^ (128 - c.len) ≡ 0 =
+    multiple_lower b.first (128 - b.len) (128 - c.len) (omega arith) is_b.aligned in
+    let end : (b.first + 2 ^ (128 - b.len)) % 2 ^ (128 - c.len) ≡ 0 =
+    multiple_lower (b.first + 2 ^ (128 - b.len)) (128 - b.len) (128 - c.len) (omega arith)
+    (multiple_next b.first (2 ^ (128 - b.len)) is_b.aligned) in
+    let last : c.first + 2 ^ (128 - c.len) ≤ b.first + 2 ^ (128 - b.len) =
+    multiple_apart (2 ^ (128 - c.len)) c.first (b.first + 2 ^ (128 - b.len)) is_c.aligned end
+    (omega (arith, some_b)) in
     let from : b.first ≤ c.first = elim (cases_lt c.first b.first) [
-      | inl less ↦ omega (arith, multiple_apart (2 ^ (128 - c.len)) c.first b.first is_c.aligned start less, some_c)
+      | inl less ↦ omega (
+        arith,
+        multiple_apart (2 ^ (128 - c.len)) c.first b.first is_c.aligned start less,
+        some_c,
+      )
       | inr more ↦ more
     ] in
     (from, omega (arith, some_b, some_c))
@@ -39,14 +51,22 @@ unfolding holds ground_first
 held_from r a h = (grind (arith, nat_tests), grind (arith, nat_tests))
 
 -- where the shorter block lies within a range, so does the longer one
-within_too : (b c : Prefix) (r : Ends) (a : ℕ) → IsBlock b → IsBlock c → b.len ≤ c.len → holds (range_of_block b) a ≡ true → holds (range_of_block c) a ≡ true → lies_within b r ≡ true → lies_within c r ≡ true
+within_too : (b c : Prefix) (r : Ends) (a : ℕ) → IsBlock b → IsBlock c → b.len ≤ c.len
+    → holds (range_of_block b) a ≡ true → holds (range_of_block c) a ≡ true → lies_within b r ≡ true
+    → lies_within c r ≡ true
 within_too b c r a is_b is_c shorter holds_b holds_c within =
     let in_b = held_from (range_of_block b) a holds_b in
     let in_c = held_from (range_of_block c) a holds_c in
     let inside = nested b c a is_b is_c shorter in_b.0 in_b.1 in_c.0 in_c.1 in
-    let both = and_both (leb r.first b.first) (leb (b.first + (2 ^ (128 - b.len) - 1)) r.last) within in
-    let from : leb r.first c.first ≡ true = (let h : r.first ≤ b.first = grind (arith, nat_tests) in grind (arith, nat_tests)) in
-    let to : leb (c.first + (2 ^ (128 - c.len) - 1)) r.last ≡ true = (let h : b.first + (2 ^ (128 - b.len) - 1) ≤ r.last = grind (arith, nat_tests) in grind (arith, nat_tests)) in
+    let both =
+    and_both (leb r.first b.first) (leb (b.first + (2 ^ (128 - b.len) - 1)) r.last) within in
+    let from : leb r.first c.first ≡ true =
+    (let h : r.first ≤ b.first = grind (arith, nat_tests) in grind (arith, nat_tests)) in
+    let to : leb (c.first + (2 ^ (128 - c.len) - 1)) r.last ≡ true =
+    (let h : b.first + (2 ^ (128 - b.len) - 1) ≤ r.last = grind (
+      arith,
+      nat_tests,
+    ) in grind (arith, nat_tests)) in
     rw (from, to) refl
 
 longer : (x e : Entry) → entry_before x e ≡ true → e.block.len ≤ x.block.len
@@ -65,15 +85,23 @@ module _ (r : Ends) (a : ℕ) where
   Found None = Unit {0}
   Found (Some e) = Holds e
 
-  clash : (e x : Entry) → Holds e → Holds x → e.block.len ≤ x.block.len → lies_within e.block r ≡ true → lies_within x.block r ≡ false → ⊥
-  clash e x he hx shorter is not = let f : true ≡ false = sym (within_too e.block x.block r a he.0 hx.0 shorter he.1 hx.1 is) ∙ not in cc
+  clash : (e x : Entry) → Holds e → Holds x → e.block.len ≤ x.block.len
+      → lies_within e.block r ≡ true → lies_within x.block r ≡ false → ⊥
+  clash e x he hx shorter is not =
+      let f : true ≡ false =
+      sym (within_too e.block x.block r a he.0 hx.0 shorter he.1 hx.1 is) ∙ not in cc
 
-  one_more : (found : Option Entry) (x : Entry) → Found found → Holds x → kept r (better entry_before found x) ≡ cond (lies_within x.block r) (better entry_before (kept r found) x) (kept r found)
+  one_more : (found : Option Entry) (x : Entry)
+      → Found found → Holds x → kept r (better entry_before found x)
+      ≡ cond (lies_within x.block r) (better entry_before (kept r found) x) (kept r found)
   one_more None x good hx = refl
-  one_more (Some e) x good hx = cases (entry_before x e) (lies_within e.block r) (lies_within x.block r) refl refl refl
+  one_more (Some e) x good hx =
+      cases (entry_before x e) (lies_within e.block r) (lies_within x.block r) refl refl refl
     where
-      cases : (p we wx : Bool) → entry_before x e ≡ p → lies_within e.block r ≡ we → lies_within x.block r ≡ wx
-          → kept r (Some (cond p x e)) ≡ cond wx (better entry_before (cond we (Some e) None) x) (cond we (Some e) None)
+      cases : (p we wx : Bool) → entry_before x e ≡ p → lies_within e.block r ≡ we
+          → lies_within x.block r ≡ wx
+          → kept r (Some (cond p x e))
+          ≡ cond wx (better entry_before (cond we (Some e) None) x) (cond we (Some e) None)
       cases true true true p we wx = rw (wx, p) refl
       cases true true false p we wx = absurd (clash e x good hx (longer x e p) we wx)
       cases true false true p we wx = rw wx refl
@@ -83,30 +111,50 @@ module _ (r : Ends) (a : ℕ) where
       cases false false true p we wx = absurd (clash x e hx good (not_longer x e p) wx we)
       cases false false false p we wx = rw we refl
 
-  found_more : (found : Option Entry) (x : Entry) → Found found → Holds x → Found (better entry_before found x)
+  found_more : (found : Option Entry) (x : Entry) → Found found → Holds x
+      → Found (better entry_before found x)
   found_more None x good hx = hx
-  found_more (Some e) x good hx = elim (entry_before x e) as (λ b. Holds (cond b x e)) [ true ↦ hx | false ↦ good ]
+  found_more (Some e) x good hx =
+      elim (entry_before x e) as (λ b. Holds (cond b x e)) [ true ↦ hx | false ↦ good ]
 
   abbrev More : List Entry → Option Entry → Type 0
-  More es found = fold (better entry_before) (kept r found) (entries_within es r a) ≡ kept r (fold (better entry_before) found (holders (λ e. range_of_block e.block) es a))
+  More es found =
+      fold (better entry_before) (kept r found) (entries_within es r a)
+      ≡ kept r (fold (better entry_before) found (holders (λ e. range_of_block e.block) es a))
 
-  longest_from : (es : List Entry) (found : Option Entry) → AllByRecursion (λ e. IsBlock e.block) es → Found found → More es found
+  longest_from : (es : List Entry) (found : Option Entry) → AllByRecursion (λ e. IsBlock e.block) es
+      → Found found → More es found
   longest_from [] found blocks good = refl
   longest_from (x ∷ es) found blocks good =
-      cases (holds (range_of_block x.block) a) refl (longest_from es found blocks.1 good) (λ hx. longest_from es (better entry_before found x) blocks.1 (found_more found x good hx))
+      cases (holds (range_of_block x.block) a) refl (longest_from es found blocks.1 good)
+      (λ hx. longest_from es (better entry_before found x) blocks.1 (found_more found x good hx))
     where
-      step : (w : Bool) → lies_within x.block r ≡ w → Holds x → More es (better entry_before found x)
-          → fold (better entry_before) (kept r found) (cond w (x ∷ entries_within es r a) (entries_within es r a))
-          ≡ kept r (fold (better entry_before) (better entry_before found x) (holders (λ e. range_of_block e.block) es a))
-      step true is hx more = ap (λ o. fold (better entry_before) o (entries_within es r a)) (sym (one_more found x good hx ∙ (rw is refl))) ∙ more
-      step false is hx more = ap (λ o. fold (better entry_before) o (entries_within es r a)) (sym (one_more found x good hx ∙ (rw is refl))) ∙ more
+      step : (w : Bool) → lies_within x.block r ≡ w → Holds x
+          → More es (better entry_before found x)
+          → fold (better entry_before) (kept r found)
+          (cond w (x ∷ entries_within es r a) (entries_within es r a))
+          ≡ kept r (fold (better entry_before) (better entry_before found x)
+          (holders (λ e. range_of_block e.block) es a))
+      step true is hx more =
+          ap (λ o. fold (better entry_before) o (entries_within es r a))
+          (sym (one_more found x good hx ∙ (rw is refl))) ∙ more
+      step false is hx more =
+          ap (λ o. fold (better entry_before) o (entries_within es r a))
+          (sym (one_more found x good hx ∙ (rw is refl))) ∙ more
 
-      cases : (b : Bool) → holds (range_of_block x.block) a ≡ b → More es found → (Holds x → More es (better entry_before found x))
-          → fold (better entry_before) (kept r found) (cond (b && lies_within x.block r) (x ∷ entries_within es r a) (entries_within es r a))
-          ≡ kept r (fold (better entry_before) found (cond b (x ∷ holders (λ e. range_of_block e.block) es a) (holders (λ e. range_of_block e.block) es a)))
+      cases : (b : Bool) → holds (range_of_block x.block) a ≡ b → More es found
+          → (Holds x → More es (better entry_before found x))
+          → fold (better entry_before) (kept r found)
+          (cond (b && lies_within x.block r) (x ∷ entries_within es r a) (entries_within es r a))
+          ≡ kept r
+          (fold (better entry_before) found (cond b (x ∷ holders (λ e. range_of_block e.block) es a)
+          (holders (λ e. range_of_block e.block) es a)))
       cases false e same more = same
       cases true e same more = step (lies_within x.block r) refl (blocks.0, e) (more (blocks.0, e))
 
-  -- the longest entry within the range that holds the address is the longest one that holds it, if that lies within
-  pub longest_within : (es : List Entry) → AllByRecursion (λ e. IsBlock e.block) es → first_of entry_before (entries_within es r a) ≡ kept r (first_at entry_before (λ e. range_of_block e.block) es a)
+  -- the longest entry within the range that holds the address is the longest one that holds it,
+  -- if that lies within
+  pub longest_within : (es : List Entry)
+      → AllByRecursion (λ e. IsBlock e.block) es → first_of entry_before (entries_within es r a)
+      ≡ kept r (first_at entry_before (λ e. range_of_block e.block) es a)
   longest_within es blocks = longest_from es None blocks tt

@@ -12,14 +12,19 @@ use Rattle.geo_terms.specs.declared.note.Note.{Note}
 use Rattle.geo_terms.specs.declared.note.Origin.{Origin}
 use Rattle.geo_terms.specs.declared.note.Origin.TheVariants.{Rpsl, Feed, Stats, Overrides}
 use Rattle.geo_terms.specs.declared.note.Rule.{Rule}
-use Rattle.geo_terms.specs.declared.note.Rule.TheVariants.{P01, P02, P03, P04, P05, P06, P07, P08, P09, P10, F01, F02, F03, F04, F05, F06, F07, F08, F09, F10, F11, S01, S02, S03, S04, S05, S06, S07, O01, O02, O03, O04, O05, O06, O07, O08, A01}
+use Rattle.geo_terms.specs.declared.note.Rule.TheVariants.{P01, P02, P03, P04, P05, P06, P07, P08}
+use Rattle.geo_terms.specs.declared.note.Rule.TheVariants.{P09, P10, F01, F02, F03, F04, F05, F06}
+use Rattle.geo_terms.specs.declared.note.Rule.TheVariants.{F07, F08, F09, F10, F11, S01, S02, S03}
+use Rattle.geo_terms.specs.declared.note.Rule.TheVariants.{S04, S05, S06, S07, O01, O02, O03, O04}
+use Rattle.geo_terms.specs.declared.note.Rule.TheVariants.{O05, O06, O07, O08, A01}
 
 pub note_total : IsTotalOrder note_cmp
 unfolding note_cmp
 note_total =
     then_total (on_total (λ (n : Note). kind_rank n.origin) nat_cmp_total)
     (then_total (on_total (λ (n : Note). name_of n.origin) nat_list_cmp_total)
-    (then_total (on_total (λ (n : Note). n.line) nat_cmp_total) (on_total (λ (n : Note). code_of n.rule) nat_list_cmp_total)))
+    (then_total (on_total (λ (n : Note). n.line) nat_cmp_total)
+    (on_total (λ (n : Note). code_of n.rule) nat_list_cmp_total)))
 
 equal_first : (x y : Ordering) → ordering_then x y ≡ Ordering.Equal → x ≡ Ordering.Equal
 equal_first Ordering.Less y e = e
@@ -33,7 +38,10 @@ equal_then Ordering.Greater y e = absurd cc
 
 -- the rules, to be found by their codes
 rules_all : List Rule
-rules_all = P01 ∷ P02 ∷ P03 ∷ P04 ∷ P05 ∷ P06 ∷ P07 ∷ P08 ∷ P09 ∷ P10 ∷ F01 ∷ F02 ∷ F03 ∷ F04 ∷ F05 ∷ F06 ∷ F07 ∷ F08 ∷ F09 ∷ F10 ∷ F11 ∷ S01 ∷ S02 ∷ S03 ∷ S04 ∷ S05 ∷ S06 ∷ S07 ∷ O01 ∷ O02 ∷ O03 ∷ O04 ∷ O05 ∷ O06 ∷ O07 ∷ O08 ∷ A01 ∷ []
+rules_all =
+    P01 ∷ P02 ∷ P03 ∷ P04 ∷ P05 ∷ P06 ∷ P07 ∷ P08 ∷ P09 ∷ P10 ∷ F01 ∷ F02 ∷ F03 ∷ F04 ∷ F05 ∷ F06
+    ∷ F07 ∷ F08 ∷ F09 ∷ F10 ∷ F11 ∷ S01 ∷ S02 ∷ S03 ∷ S04 ∷ S05 ∷ S06 ∷ S07 ∷ O01 ∷ O02 ∷ O03 ∷ O04
+    ∷ O05 ∷ O06 ∷ O07 ∷ O08 ∷ A01 ∷ []
 
 rule_of : List ℕ → Option Rule
 rule_of code = find (λ r. same_text (code_of r) code) rules_all
@@ -116,7 +124,9 @@ note_exact x y tie =
     let more = equal_then (text_cmp (name_of x.origin) (name_of y.origin)) _ rest in
     let by_line = equal_first (nat_cmp x.line y.line) _ more in
     let by_code = equal_then (nat_cmp x.line y.line) _ more in
-    let origin : x.origin ≡ y.origin = same_origin x.origin y.origin (exact_unsigned _ _ by_kind) (exact_bytes _ _ by_name) in
+    let origin : x.origin ≡ y.origin =
+    same_origin x.origin y.origin (exact_unsigned _ _ by_kind) (exact_bytes _ _ by_name) in
     let line : x.line ≡ y.line = exact_unsigned _ _ by_line in
     let rule : x.rule ≡ y.rule = same_rule x.rule y.rule (exact_bytes _ _ by_code) in
-    ap (λ o. note_of o x.line x.rule) origin ∙ ap (λ l. note_of y.origin l x.rule) line ∙ ap (λ r. note_of y.origin y.line r) rule
+    ap (λ o. note_of o x.line x.rule) origin ∙ ap (λ l. note_of y.origin l x.rule) line
+    ∙ ap (λ r. note_of y.origin y.line r) rule

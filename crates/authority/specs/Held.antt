@@ -1,5 +1,6 @@
 -- What an authority keeps: dumps and feeds behind their shared owners, and their indexes.
-use Rattle.std.specs.Prelude.{ℕ, List, [], map, flat_map, Option, Some, None, All, option_and_then, slice_get}
+use Rattle.std.specs.Prelude.{ℕ, List, [], map, flat_map, Option, Some, None, All, option_and_then}
+use Rattle.std.specs.Prelude.{slice_get}
 use Rattle.std.specs.List.{AllZip}
 use Rattle.std.specs.Arc.{arc_value}
 use Rattle.std.specs.declared.sync.Arc.{Arc}
@@ -46,10 +47,14 @@ module _ {Z : Type 0} where
 
   -- the entry of the feed at a place that the index at this place tells
   abbrev pub told_at : List (Arc FeedParts Z) → List (Arc (List Boundary) Z) → ℕ → ℕ → Option Entry
-  told_at fs xs place a = option_and_then (λ f. option_and_then (λ x. option_and_then (slice_get (arc_value {X = FeedParts} f).entries) (told None (arc_value x) a)) (slice_get xs place)) (slice_get fs place)
+  told_at fs xs place a =
+      option_and_then
+      (λ f. option_and_then (λ x. option_and_then (slice_get (arc_value {X = FeedParts} f).entries)
+      (told None (arc_value x) a)) (slice_get xs place)) (slice_get fs place)
 
   -- what an authority keeps
-  pub record IsHeld (dumps : List (Arc DumpParts Z)) (refs : Option (Arc (List Reference) Z)) (feeds : List (Arc FeedParts Z)) (firsts : List (Arc (List Boundary) Z)) : Type 0 where
+  pub record IsHeld (dumps : List (Arc DumpParts Z)) (refs : Option (Arc (List Reference) Z))
+      (feeds : List (Arc FeedParts Z)) (firsts : List (Arc (List Boundary) Z)) : Type 0 where
     pub slots : AreInOrder slot_of dumps
     pub urls : AreInOrder url_of feeds
     pub speakers : AnswerAlike (references_in (map arc_value dumps)) (indexed refs)

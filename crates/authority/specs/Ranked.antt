@@ -1,5 +1,7 @@
--- How the references that stand behind another one of their range are found: sorted by range, and one pass.
-use Rattle.std.specs.Prelude.{ℕ, Bool, false, ◌&&◌, if◌then◌else◌, List, [], ◌∷◌, ◌++◌, map, filter, find, flat_map, is_none, not, Option, Some, None}
+-- How the references that stand behind another one of their range are found:
+-- sorted by range, and one pass.
+use Rattle.std.specs.Prelude.{ℕ, Bool, false, ◌&&◌, if◌then◌else◌, List, [], ◌∷◌, ◌++◌, map, filter}
+use Rattle.std.specs.Prelude.{find, flat_map, is_none, not, Option, Some, None}
 use Rattle.std.specs.declared.cmp.Ordering.{Ordering}
 use Rattle.std.specs.Ordering.{nat_cmp, ordering_then}
 use Rattle.geo_terms.specs.PlaceForm.{same_text}
@@ -15,7 +17,9 @@ use Rattle.geo_terms.specs.declared.statement.Reference.{Reference}
 
 -- by range, and those of one range in the order of references
 unfoldable pub ranked_cmp : Reference → Reference → Ordering
-ranked_cmp x y = ordering_then (nat_cmp x.range.first y.range.first) (ordering_then (nat_cmp x.range.last y.range.last) (reference_cmp x y))
+ranked_cmp x y =
+    ordering_then (nat_cmp x.range.first y.range.first)
+    (ordering_then (nat_cmp x.range.last y.range.last) (reference_cmp x y))
 
 -- whether the first reference of a range goes before one of the same range
 abbrev pub is_behind : Option Reference → Reference → Bool
@@ -30,7 +34,8 @@ leader (Some l) r = if same_ends l.range r.range then l else r
 -- those that stand behind the first one of their range, in one pass
 abbrev pub behind : Option Reference → List Reference → List Reference
 behind l [] = []
-behind l (r ∷ rs) = if is_behind l r then r ∷ behind (Some (leader l r)) rs else behind (Some (leader l r)) rs
+behind l (r ∷ rs) =
+    if is_behind l r then r ∷ behind (Some (leader l r)) rs else behind (Some (leader l r)) rs
 
 -- the note on a reference
 abbrev pub note_on : Rule → Reference → Note
@@ -54,4 +59,5 @@ uncovered_note url line = record { origin = Feed url; line = line; rule = F09 }
 
 -- the notes on those entries
 abbrev pub uncovered_among : List Reference → List ℕ → List Entry → List Note
-uncovered_among rs url es = map (λ e. uncovered_note url e.line) (filter (λ e. not (is_covered rs url e.block)) es)
+uncovered_among rs url es =
+    map (λ e. uncovered_note url e.line) (filter (λ e. not (is_covered rs url e.block)) es)

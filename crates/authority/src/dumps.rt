@@ -1,5 +1,6 @@
 //! Dumps in the order of their slots, with the index of all their references.
-ghost use Rattle.std.specs.Prelude.{◌≡◌, ◌<◌, ◌≤◌, ◌+◌, ◌++◌, map, flat_map, IfOk, OnOk, OnErr, Some, length, take, drop, slice_get, slice_set, insert, remove};
+ghost use Rattle.std.specs.Prelude.{◌≡◌, ◌<◌, ◌≤◌, ◌+◌, ◌++◌, map, flat_map, IfOk, OnOk, OnErr};
+ghost use Rattle.std.specs.Prelude.{Some, length, take, drop, slice_get, slice_set, insert, remove};
 ghost use Rattle.std.specs.Arc.{arc_value};
 ghost use Rattle.std.specs.List.Sorted.{IsBinarySearchResult, IsSearchInRange};
 ghost use Rattle.std.specs.Option.{option_copied};
@@ -33,7 +34,8 @@ pub fn replace_dump(
 ) -> Result<Arc<Dump>, Memory>
     requires { place < length dumps.old.items }
     ensures dumps { OnOk result (dumps.new.items ≡ slice_set dumps.old.items place dump) }
-    ensures index { OnOk result (AnswerAlike (references_in (map arc_value dumps.new.items)) (indexed refs.new)) }
+    ensures index { OnOk result
+        (AnswerAlike (references_in (map arc_value dumps.new.items)) (indexed refs.new)) }
     ensures old { IfOk result (λ old. slice_get dumps.old.items place ≡ Some old) }
     ensures err_dumps { OnErr result (dumps.new.items ≡ dumps.old.items) }
     ensures err_refs { OnErr result (refs.new ≡ refs.old) }
@@ -54,7 +56,8 @@ pub fn insert_dump(
 ) -> Result<(), Memory>
     requires { place ≤ length dumps.old.items }
     ensures dumps { OnOk result (dumps.new.items ≡ insert dumps.old.items place dump) }
-    ensures index { OnOk result (AnswerAlike (references_in (map arc_value dumps.new.items)) (indexed refs.new)) }
+    ensures index { OnOk result
+        (AnswerAlike (references_in (map arc_value dumps.new.items)) (indexed refs.new)) }
     ensures err_dumps { OnErr result (dumps.new.items ≡ dumps.old.items) }
     ensures err_refs { OnErr result (refs.new ≡ refs.old) }
 {
@@ -73,7 +76,8 @@ pub fn remove_dump(
 ) -> Result<Arc<Dump>, Memory>
     requires { place < length dumps.old.items }
     ensures dumps { OnOk result (dumps.new.items ≡ remove dumps.old.items place) }
-    ensures index { OnOk result (AnswerAlike (references_in (map arc_value dumps.new.items)) (indexed refs.new)) }
+    ensures index { OnOk result
+        (AnswerAlike (references_in (map arc_value dumps.new.items)) (indexed refs.new)) }
     ensures old { IfOk result (λ old. slice_get dumps.old.items place ≡ Some old) }
     ensures err_dumps { OnErr result (dumps.new.items ≡ dumps.old.items) }
     ensures err_refs { OnErr result (refs.new ≡ refs.old) }
@@ -83,8 +87,8 @@ pub fn remove_dump(
     Ok(dumps.remove(place))
 }
 
-// The index of the references of these dumps, with one more dump in the place of those from `from` up to
-// `to`.
+// The index of the references of these dumps, with one more dump in the place of those from `from`
+// up to `to`.
 fn index_with(
     alloc: Global,
     dumps: &[Arc<Dump>],
@@ -94,7 +98,9 @@ fn index_with(
 ) -> Result<Arc<Index>, Memory>
     requires from { from ≤ length dumps.now }
     requires to { to ≤ length dumps.now }
-    ensures { IfOk result (λ index. AnswerAlike ((references_in (map arc_value (take from dumps.now)) ++ dump.now.refs) ++ references_in (map arc_value (drop to dumps.now))) (arc_value index)) }
+    ensures { IfOk result (λ index.
+        AnswerAlike ((references_in (map arc_value (take from dumps.now)) ++ dump.now.refs)
+        ++ references_in (map arc_value (drop to dumps.now))) (arc_value index)) }
 {
     let (before, _) = dumps.split_at(from);
     let (_, after) = dumps.split_at(to);
@@ -110,7 +116,9 @@ fn index_with(
 // The index of the references of all dumps but one.
 fn index_without(alloc: Global, dumps: &[Arc<Dump>], place: usize) -> Result<Arc<Index>, Memory>
     requires { place < length dumps.now }
-    ensures { IfOk result (λ index. AnswerAlike (references_in (map arc_value (take place dumps.now)) ++ references_in (map arc_value (drop (place + 1) dumps.now))) (arc_value index)) }
+    ensures { IfOk result
+        (λ index. AnswerAlike (references_in (map arc_value (take place dumps.now))
+        ++ references_in (map arc_value (drop (place + 1) dumps.now))) (arc_value index)) }
 {
     let (before, _) = dumps.split_at(place);
     let (_, after) = dumps.split_at(place + 1);
@@ -123,7 +131,8 @@ fn index_without(alloc: Global, dumps: &[Arc<Dump>], place: usize) -> Result<Arc
 }
 
 fn push_all(refs: &mut Vec<Reference>, dumps: &[Arc<Dump>]) -> Result<(), Memory>
-    ensures { OnOk result (refs.new.items ≡ refs.old.items ++ references_in (map arc_value dumps.now)) }
+    ensures { OnOk result
+        (refs.new.items ≡ refs.old.items ++ references_in (map arc_value dumps.now)) }
 {
     for dump in dumps {
         push_refs(refs, dump.refs.as_slice())?;
@@ -169,7 +178,8 @@ pub fn shared(refs: &Option<Arc<Index>>) -> Result<Option<Arc<Index>>, Memory>
 
 /// The first reference in the order of references that holds an address.
 pub fn best_at(refs: &Option<Arc<Index>>, at: Addr) -> Option<&Reference>
-    ensures { option_copied result ≡ first_at reference_before (λ r. r.range) (indexed refs.now) at.0 }
+    ensures { option_copied result
+        ≡ first_at reference_before (λ r. r.range) (indexed refs.now) at.0 }
 {
     match refs {
         Some(index) => index.best_at(at),

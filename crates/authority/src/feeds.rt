@@ -1,5 +1,7 @@
 //! Feeds in the order of their URLs, each with the index of its longest entry at each address.
-ghost use Rattle.std.specs.Prelude.{◌≡◌, ◌<◌, ◌≤◌, ◌^◌, if◌then◌else◌, map, find, IfOk, OnOk, OnErr, Some, None, length, slice_get, slice_set, insert, remove, option_and_then, option_map};
+ghost use Rattle.std.specs.Prelude.{◌≡◌, ◌<◌, ◌≤◌, ◌^◌, if◌then◌else◌, map, find, IfOk, OnOk};
+ghost use Rattle.std.specs.Prelude.{OnErr, Some, None, length, slice_get, slice_set, insert};
+ghost use Rattle.std.specs.Prelude.{remove, option_and_then, option_map};
 ghost use Rattle.std.specs.Arc.{arc_value};
 ghost use Rattle.std.specs.List.Sorted.{IsBinarySearchResult, IsSearchInRange};
 ghost use Rattle.std.specs.Option.{option_copied};
@@ -107,7 +109,8 @@ pub fn remove_feed(
 /// Where the feed of a URL stands.
 pub fn find_feed(feeds: &[Arc<Feed>], url: &str) -> Option<usize>
     requires { AreInOrder url_of feeds.now }
-    ensures { option_map arc_value (option_and_then (slice_get feeds.now) result) ≡ find (λ f. same_text f.url url.now) (map arc_value feeds.now) }
+    ensures { option_map arc_value (option_and_then (slice_get feeds.now) result)
+        ≡ find (λ f. same_text f.url url.now) (map arc_value feeds.now) }
 {
     match place_of_feed(feeds, url) {
         Ok(place) => Some(place),
@@ -118,7 +121,8 @@ pub fn find_feed(feeds: &[Arc<Feed>], url: &str) -> Option<usize>
 /// The feed of a URL.
 pub fn feed_in<'a>(feeds: &'a [Arc<Feed>], url: &str) -> Option<&'a Feed>
     requires { AreInOrder url_of feeds.now }
-    ensures { option_copied result ≡ find (λ f. same_text f.url url.now) (map arc_value feeds.entry.now) }
+    ensures { option_copied result
+        ≡ find (λ f. same_text f.url url.now) (map arc_value feeds.entry.now) }
 {
     let place = find_feed(feeds, url)?;
     feed_at(feeds, place)
@@ -132,8 +136,8 @@ fn feed_at(feeds: &[Arc<Feed>], place: usize) -> Option<&Feed>
 }
 
 /// The entry that speaks for a speaker at an address: the longest one of its feed that holds the
-/// address, if it lies within the speaker's range. Blocks that hold one address are nested, so where
-/// the longest one does not lie within, no shorter one does.
+/// address, if it lies within the speaker's range. Blocks that hold one address are nested, so
+/// where the longest one does not lie within, no shorter one does.
 pub fn entry_of<'a>(
     feeds: &'a [Arc<Feed>],
     firsts: &[Arc<FirstIndex>],
@@ -142,7 +146,9 @@ pub fn entry_of<'a>(
 ) -> Option<&'a Entry>
     requires urls { AreInOrder url_of feeds.now }
     requires entries { TellFeeds feeds.now firsts.now }
-    ensures { option_copied result ≡ first_of entry_before (entries_within (entries_in (find (λ f. same_text f.url speaker.now.url) (map arc_value feeds.entry.now))) speaker.now.range at.0) }
+    ensures { option_copied result ≡ first_of entry_before (entries_within
+        (entries_in (find (λ f. same_text f.url speaker.now.url) (map arc_value feeds.entry.now)))
+        speaker.now.range at.0) }
 {
     let place = find_feed(feeds, speaker.url.as_str())?;
     let entry = longest_in(feeds, firsts, place, at)?;
@@ -166,7 +172,8 @@ fn longest_in<'a>(
 
 // The longest entry of a feed that holds an address, by the index of the feed.
 fn longest_at<'a>(feed: &'a Feed, first: &FirstIndex, at: Addr) -> Option<&'a Entry>
-    ensures told { option_copied result ≡ option_and_then (slice_get feed.entry.now.entries) (told None first.entry.now at.0) }
+    ensures told { option_copied result
+        ≡ option_and_then (slice_get feed.entry.now.entries) (told None first.entry.now at.0) }
     ensures range { at.0 < 2 ^ 128 }
 {
     let place = first.place_at(at)?;
@@ -175,7 +182,8 @@ fn longest_at<'a>(feed: &'a Feed, first: &FirstIndex, at: Addr) -> Option<&'a En
 
 // The entry, if it lies within a range.
 fn within<'a>(entry: &'a Entry, range: Range) -> Option<&'a Entry>
-    ensures { option_copied result ≡ (if lies_within entry.entry.now.block range then Some entry.entry.now else None) }
+    ensures { option_copied result
+        ≡ (if lies_within entry.entry.now.block range then Some entry.entry.now else None) }
 {
     if range.first <= entry.block.first && range_of(entry.block).last <= range.last {
         Some(entry)

@@ -13,11 +13,11 @@ use std::sync::Arc;
 
 /// The dumps and feeds in force, and who speaks for an address by them.
 ///
-/// The references of all dumps have one index, and the entries of each feed have one of their own: a
-/// dump that is set or dropped builds the index of references anew and leaves those of the feeds alone,
-/// and a feed builds its own. From a reference to its feed the way is one halving over the URLs of the
-/// feeds, so nothing is kept of it that a set or a drop would have to change. Sources and indexes are
-/// shared with every snapshot.
+/// The references of all dumps have one index, and the entries of each feed have one of their own:
+/// a dump that is set or dropped builds the index of references anew and leaves those of the feeds
+/// alone, and a feed builds its own. From a reference to its feed the way is one halving over the
+/// URLs of the feeds, so nothing is kept of it that a set or a drop would have to change. Sources
+/// and indexes are shared with every snapshot.
 #[derive(Debug, Drop)]
 pub struct Authority {
     alloc: Global,
@@ -41,7 +41,8 @@ impl Model for Authority {
 }
 
 impl Authority {
-    ghost use Rattle.std.specs.Prelude.{◌≡◌, ◌↔◌, map, find, IfOk, IfErr, OnOk, OnErr, Some, None, option_map};
+    ghost use Rattle.std.specs.Prelude.{◌≡◌, ◌↔◌, map, find, IfOk, IfErr, OnOk, OnErr, Some, None};
+    ghost use Rattle.std.specs.Prelude.{option_map};
     ghost use Rattle.std.specs.Arc.{arc_value};
     ghost use Rattle.std.specs.Option.{option_copied};
     ghost use Rattle.geo_terms.specs.Covering.{covering};
@@ -71,8 +72,10 @@ impl Authority {
     ///
     /// The references of all dumps are put in order anew. After `Memory` the given dump is dropped.
     pub fn set_dump(&mut self, dump: Dump) -> Result<Option<Arc<Dump>>, Memory>
-        ensures sources { OnOk result (self.new ≡ record self.old { dumps = placed (λ d. d.slot) dump self.old.dumps }) }
-        ensures old { IfOk result (λ old. option_map arc_value old ≡ find (λ d. same_text d.slot dump.slot) self.old.dumps) }
+        ensures sources { OnOk result
+            (self.new ≡ record self.old { dumps = placed (λ d. d.slot) dump self.old.dumps }) }
+        ensures old { IfOk result (λ old. option_map arc_value old
+            ≡ find (λ d. same_text d.slot dump.slot) self.old.dumps) }
         ensures err { OnErr result (self.new ≡ self.old) }
     {
         let dump = Arc::new(self.alloc, dump)?;
@@ -90,9 +93,12 @@ impl Authority {
 
     /// Takes the dump of a slot out of force, and hands it back.
     pub fn drop_dump(&mut self, slot: &str) -> Result<Arc<Dump>, DropFault>
-        ensures sources { OnOk result (self.new ≡ record self.old { dumps = removed (λ d. d.slot) slot.now self.old.dumps }) }
-        ensures old { IfOk result (λ old. Some (arc_value old) ≡ find (λ d. same_text d.slot slot.now) self.old.dumps) }
-        ensures not_there { IfErr result (λ fault. fault ≡ DropFault.NotThere ↔ (find (λ d. same_text d.slot slot.now) self.old.dumps ≡ None)) }
+        ensures sources { OnOk result
+            (self.new ≡ record self.old { dumps = removed (λ d. d.slot) slot.now self.old.dumps }) }
+        ensures old { IfOk result
+            (λ old. Some (arc_value old) ≡ find (λ d. same_text d.slot slot.now) self.old.dumps) }
+        ensures not_there { IfErr result (λ fault. fault ≡ DropFault.NotThere
+            ↔ (find (λ d. same_text d.slot slot.now) self.old.dumps ≡ None)) }
         ensures err { OnErr result (self.new ≡ self.old) }
     {
         match place_of_dump(self.dumps.as_slice(), slot) {
@@ -108,8 +114,10 @@ impl Authority {
     ///
     /// The entries of this feed alone are put in order. After `Memory` the given feed is dropped.
     pub fn set_feed(&mut self, feed: Feed) -> Result<Option<Arc<Feed>>, Memory>
-        ensures sources { OnOk result (self.new ≡ record self.old { feeds = placed (λ f. f.url) feed self.old.feeds }) }
-        ensures old { IfOk result (λ old. option_map arc_value old ≡ find (λ f. same_text f.url feed.url) self.old.feeds) }
+        ensures sources { OnOk result
+            (self.new ≡ record self.old { feeds = placed (λ f. f.url) feed self.old.feeds }) }
+        ensures old { IfOk result (λ old. option_map arc_value old
+            ≡ find (λ f. same_text f.url feed.url) self.old.feeds) }
         ensures err { OnErr result (self.new ≡ self.old) }
     {
         let first = index_of(self.alloc, &feed)?;
@@ -128,9 +136,12 @@ impl Authority {
 
     /// Takes the feed of a URL out of force, and hands it back. It takes no memory.
     pub fn drop_feed(&mut self, url: &str) -> Result<Arc<Feed>, DropFault>
-        ensures sources { OnOk result (self.new ≡ record self.old { feeds = removed (λ f. f.url) url.now self.old.feeds }) }
-        ensures old { IfOk result (λ old. Some (arc_value old) ≡ find (λ f. same_text f.url url.now) self.old.feeds) }
-        ensures not_there { IfErr result (λ fault. fault ≡ DropFault.NotThere ↔ (find (λ f. same_text f.url url.now) self.old.feeds ≡ None)) }
+        ensures sources { OnOk result
+            (self.new ≡ record self.old { feeds = removed (λ f. f.url) url.now self.old.feeds }) }
+        ensures old { IfOk result
+            (λ old. Some (arc_value old) ≡ find (λ f. same_text f.url url.now) self.old.feeds) }
+        ensures not_there { IfErr result (λ fault. fault ≡ DropFault.NotThere
+            ↔ (find (λ f. same_text f.url url.now) self.old.feeds ≡ None)) }
         ensures err { OnErr result (self.new ≡ self.old) }
     {
         match place_of_feed(self.feeds.as_slice(), url) {
@@ -139,7 +150,8 @@ impl Authority {
         }
     }
 
-    /// The same sources once more: each of them and each index is shared, so the cost is their number.
+    /// The same sources once more: each of them and each index is shared,
+    /// so the cost is their number.
     pub fn snapshot(&self) -> Result<Authority, Memory>
         ensures { IfOk result (λ same. same ≡ self.now) }
     {
@@ -182,7 +194,8 @@ impl Authority {
         best_at(&self.refs, at)
     }
 
-    /// The entry that speaks at an address: three halvings, for the speaker, its feed and the entry.
+    /// The entry that speaks at an address: three halvings, for the speaker,
+    /// its feed and the entry.
     pub fn entry_at(&self, at: Addr) -> Option<&Entry>
         ensures { option_copied result ≡ speaking_entry self.now at.0 }
     {
@@ -190,15 +203,16 @@ impl Authority {
         entry_of(self.feeds.as_slice(), self.firsts.as_slice(), speaker, at)
     }
 
-    /// The first reference of this URL, in the order of references, whose range is of the block's family
-    /// and contains the block; what it costs is said at the index of references.
+    /// The first reference of this URL, in the order of references, whose range is of the block's
+    /// family and contains the block; what it costs is said at the index of references.
     pub fn covering(&self, block: Block, url: &str) -> Option<&Reference>
         ensures { option_copied result ≡ covering (references self.now) url.now block }
     {
         let index = self.refs.as_ref()?;
         index.covering(block, url)
     }
-    /// The notes of dumps and feeds on one another, in the order of a report: `P08`, `P09` and `F09`.
+    /// The notes of dumps and feeds on one another, in the order of a report:
+    /// `P08`, `P09` and `F09`.
     pub fn notes(&self) -> Result<Vec<Note>, Memory>
         ensures { IfOk result (λ notes. notes.items ≡ in_order note_cmp (joint_notes self.now)) }
     {

@@ -1,5 +1,6 @@
 //! The notes of dumps and feeds on one another.
-ghost use Rattle.std.specs.Prelude.{◌≡◌, ◌++◌, [], ◌∷◌, if◌then◌else◌, None, map, find, flat_map, is_none, not, IfOk, OnOk};
+ghost use Rattle.std.specs.Prelude.{◌≡◌, ◌++◌, [], ◌∷◌, if◌then◌else◌, None, map, find, flat_map};
+ghost use Rattle.std.specs.Prelude.{is_none, not, IfOk, OnOk};
 ghost use Rattle.std.specs.Arc.{arc_value};
 ghost use Rattle.std.specs.Option.{option_copied};
 ghost use Rattle.geo_terms.specs.NoteText.{note_cmp};
@@ -9,7 +10,8 @@ ghost use Rattle.geo_terms.specs.SlotOrder.{AreInOrder};
 ghost use Rattle.geo_terms.specs.declared.note.Rule.TheVariants.{P08, P09};
 ghost use Rattle.authority.specs.Held.{indexed, url_of};
 ghost use Rattle.authority.specs.Members.{HaveAlike};
-ghost use Rattle.authority.specs.Ranked.{behind, is_behind, joint_in, leader, note_on, outranked_in, ranked_cmp, uncovered_note, unfed_in};
+ghost use Rattle.authority.specs.Ranked.{behind, is_behind, joint_in, leader, note_on};
+ghost use Rattle.authority.specs.Ranked.{outranked_in, ranked_cmp, uncovered_note, unfed_in};
 
 use crate::feeds::feed_in;
 use geo_addr::{Block, Memory};
@@ -21,15 +23,16 @@ use std::sync::Arc;
 
 /// The notes of references and feeds on one another, in the order of a report.
 ///
-/// References are sorted by range, each of them and each entry is looked up by halving, and the notes
-/// are sorted: nothing is looked at for each pair.
+/// References are sorted by range, each of them and each entry is looked up by halving, and the
+/// notes are sorted: nothing is looked at for each pair.
 pub fn joint_notes(
     alloc: Global,
     index: &Option<Arc<Index>>,
     feeds: &[Arc<Feed>],
 ) -> Result<Vec<Note>, Memory>
     requires { AreInOrder url_of feeds.now }
-    ensures { IfOk result (λ notes. notes.items ≡ in_order note_cmp (joint_in (indexed index.now) (map arc_value feeds.now))) }
+    ensures { IfOk result (λ notes. notes.items
+        ≡ in_order note_cmp (joint_in (indexed index.now) (map arc_value feeds.now))) }
 {
     let refs = references(index);
     let mut notes = outranked_notes(alloc, refs)?;
@@ -79,7 +82,8 @@ fn ranked_order(x: &Reference, y: &Reference) -> Ordering
 
 // The notes on sorted references that stand behind the first one of their range.
 fn behind_notes(alloc: Global, ranked: &[&Reference]) -> Result<Vec<Note>, Memory>
-    ensures { IfOk result (λ notes. notes.items ≡ map (note_on P08) (behind None (map (λ r. r.now) ranked.now))) }
+    ensures { IfOk result
+        (λ notes. notes.items ≡ map (note_on P08) (behind None (map (λ r. r.now) ranked.now))) }
 {
     let mut notes = Vec::new(alloc);
     let mut first = None;
@@ -135,7 +139,8 @@ fn note_on(rule: Rule, reference: &Reference) -> Result<Note, Memory>
 // The notes on references whose URL has no feed.
 fn push_unfed(notes: &mut Vec<Note>, refs: &[Reference], feeds: &[Arc<Feed>]) -> Result<(), Memory>
     requires { AreInOrder url_of feeds.now }
-    ensures { OnOk result (notes.new.items ≡ notes.old.items ++ unfed_in refs.now (map arc_value feeds.now)) }
+    ensures { OnOk result
+        (notes.new.items ≡ notes.old.items ++ unfed_in refs.now (map arc_value feeds.now)) }
 {
     for reference in refs {
         push_if_unfed(notes, reference, feeds)?;
@@ -149,7 +154,9 @@ fn push_if_unfed(
     feeds: &[Arc<Feed>],
 ) -> Result<(), Memory>
     requires { AreInOrder url_of feeds.now }
-    ensures { OnOk result (notes.new.items ≡ notes.old.items ++ (if is_none (find (λ f. same_text f.url reference.now.url) (map arc_value feeds.now)) then note_on P09 reference.now ∷ [] else [])) }
+    ensures { OnOk result (notes.new.items ≡ notes.old.items
+        ++ (if is_none (find (λ f. same_text f.url reference.now.url) (map arc_value feeds.now))
+        then note_on P09 reference.now ∷ [] else [])) }
 {
     if has_feed(feeds, reference) {
         return Ok(());
@@ -160,7 +167,8 @@ fn push_if_unfed(
 
 fn has_feed(feeds: &[Arc<Feed>], reference: &Reference) -> bool
     requires { AreInOrder url_of feeds.now }
-    ensures { not result ≡ is_none (find (λ f. same_text f.url reference.now.url) (map arc_value feeds.now)) }
+    ensures { not result
+        ≡ is_none (find (λ f. same_text f.url reference.now.url) (map arc_value feeds.now)) }
 {
     feed_in(feeds, reference.url.as_str()).is_some()
 }
@@ -171,7 +179,8 @@ fn push_uncovered(
     index: &Option<Arc<Index>>,
     feeds: &[Arc<Feed>],
 ) -> Result<(), Memory>
-    ensures { OnOk result (notes.new.items ≡ notes.old.items ++ flat_map (uncovered_in (indexed index.now)) (map arc_value feeds.now)) }
+    ensures { OnOk result (notes.new.items ≡ notes.old.items
+        ++ flat_map (uncovered_in (indexed index.now)) (map arc_value feeds.now)) }
 {
     for feed in feeds {
         push_uncovered_in(notes, index, feed)?;
@@ -184,7 +193,8 @@ fn push_uncovered_in(
     index: &Option<Arc<Index>>,
     feed: &Feed,
 ) -> Result<(), Memory>
-    ensures { OnOk result (notes.new.items ≡ notes.old.items ++ uncovered_in (indexed index.now) feed.now) }
+    ensures { OnOk result
+        (notes.new.items ≡ notes.old.items ++ uncovered_in (indexed index.now) feed.now) }
 {
     for entry in feed.entries.as_slice() {
         if !covers(index, entry.block, feed.url.as_str()) {

@@ -82,8 +82,8 @@ fn is_note(note: &Note, wanted: (&str, u64, Rule)) -> bool {
     note.origin.name() == name && note.line == line && note.rule == rule
 }
 
-// Lines 1 and 2 are of one object and one inside it, whose feed is not set; lines 3 and 4 are of one
-// range and two dates, in two dumps; 5 and 6 of one range and one date.
+// Lines 1 and 2 are of one object and one inside it, whose feed is not set; lines 3 and 4 are of
+// one range and two dates, in two dumps; 5 and 6 of one range and one date.
 fn sources(alloc: Global) -> Result<Authority, Fail> {
     let mut sources = Authority::new(alloc);
     let table: [(&str, u64, u128, u128, u64, &str); 6] = [

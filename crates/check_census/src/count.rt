@@ -1,5 +1,6 @@
 //! Counts of addresses by country.
-ghost use Rattle.std.specs.Prelude.{◌≡◌, ℕ, ◌+◌, ◌^◌, ◌<◌, ◌≤◌, List, Some, IfOk, OnOk, length, slice_index, option_map};
+ghost use Rattle.std.specs.Prelude.{◌≡◌, ℕ, ◌+◌, ◌^◌, ◌<◌, ◌≤◌, List, Some, IfOk, OnOk, length};
+ghost use Rattle.std.specs.Prelude.{slice_index, option_map};
 ghost use Rattle.std.specs.List.Sorted.{IsBinarySearchResult, IsSearchInRange};
 ghost use Rattle.std.specs.Option.{option_copied};
 ghost use Rattle.geo_terms.specs.Precedence.{text_cmp};
@@ -56,7 +57,8 @@ fn add_place(
     requires room_v4 { (c : List ℕ) → v4_in (count_of c counts.old.items) + v4 < 2 ^ 128 }
     requires room_v6 { (c : List ℕ) → v6_in (count_of c counts.old.items) + v6 < 2 ^ 128 }
     ensures { OnOk result (counts.new.items
-        ≡ with_place (option_map (λ p. p.country) (option_copied place.entry)) v4 v6 counts.old.items) }
+        ≡ with_place (option_map (λ p. p.country) (option_copied place.entry)) v4 v6
+        counts.old.items) }
 {
     let Some(place) = place else {
         return Ok(());

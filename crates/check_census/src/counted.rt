@@ -16,8 +16,8 @@ use trie_core::{Rec, Root, Store};
 /// How many IPv4 addresses and how many others under a root have a place of each country that some
 /// address has, ascending by the bytes of the countries.
 ///
-/// The tree is not expanded: a node's addresses are shared out to its children once, whichever ways lead
-/// to it, so the cost is the number of nodes of the store and of the places.
+/// The tree is not expanded: a node's addresses are shared out to its children once, whichever ways
+/// lead to it, so the cost is the number of nodes of the store and of the places.
 pub fn census(
     alloc: Global,
     store: &Store,

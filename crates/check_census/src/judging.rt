@@ -3,7 +3,8 @@ ghost use Rattle.std.specs.Prelude.{◌≡◌, ◌++◌, Some, IfOk, OnOk, lengt
 ghost use Rattle.std.specs.List.Sorted.{IsStrictlyIncreasing};
 ghost use Rattle.std.specs.Option.{option_copied};
 ghost use Rattle.geo_terms.specs.Sources.{feed_of};
-ghost use Rattle.check_census.specs.Verdicts.{before, entry_verdict, first_heard, merged, note_verdict, ruling, speaker_there, verdicts};
+ghost use Rattle.check_census.specs.Verdicts.{before, entry_verdict, first_heard, merged};
+ghost use Rattle.check_census.specs.Verdicts.{note_verdict, ruling, speaker_there, verdicts};
 
 use crate::sweep::first_addresses;
 use crate::verdict::{Ruling, Verdict};
@@ -12,11 +13,12 @@ use geo_terms::{Entry, Feed, Note, Reference};
 use precedence::Sources;
 use std::alloc::Global;
 
-/// What becomes of each line of a feed in force that is an entry or is noted, in the order of lines.
+/// What becomes of each line of a feed in force that is an entry or is noted,
+/// in the order of lines.
 ///
-/// An entry speaks where at some address the speaker is a reference to this feed and the entry is the
-/// one that speaks for it, whether or not an override decides there. Otherwise it is shadowed by
-/// references or entries that go before, or covered by no reference at all.
+/// An entry speaks where at some address the speaker is a reference to this feed and the entry is
+/// the one that speaks for it, whether or not an override decides there. Otherwise it is shadowed
+/// by references or entries that go before, or covered by no reference at all.
 pub fn check(alloc: Global, sources: &Sources, feed: &Feed) -> Result<Vec<Verdict>, Memory>
     requires { feed_of sources.now feed.now.url ≡ Some feed.now }
     ensures verdicts { IfOk result (λ list. list.items ≡ verdicts sources.now feed.now) }

@@ -1,17 +1,19 @@
 //! Addresses on their way from the nodes of a store to its leaves.
-ghost use Rattle.std.specs.Prelude.{◌≡◌, ℕ, ◌+◌, ◌-◌, ◌^◌, ◌<◌, ◌≤◌, Bool, false, true, length, slice_index, IfOk};
+ghost use Rattle.std.specs.Prelude.{◌≡◌, ℕ, ◌+◌, ◌-◌, ◌^◌, ◌<◌, ◌≤◌, Bool, false, true, length};
+ghost use Rattle.std.specs.Prelude.{slice_index, IfOk};
 ghost use Rattle.trie_core.specs.Graft.{half};
 ghost use Rattle.trie_core.specs.Tree.{height};
 ghost use Rattle.trie_core.specs.Store.{meaning, IsBelow, IsOf};
 ghost use Rattle.check_census.specs.Tally.{tally, IsEven, low_part, tally_beyond};
-ghost use Rattle.check_census.specs.Spread.{AreWeights, GainsTally, IsPlain, ended_at, every, node_at, sum_of};
+ghost use Rattle.check_census.specs.Spread.{AreWeights, GainsTally, IsPlain, ended_at, every};
+ghost use Rattle.check_census.specs.Spread.{node_at, sum_of};
 
 use geo_addr::Memory;
 use std::alloc::Global;
 use trie_core::{Rec, Store};
 
-/// How many addresses wait at each node, by its number, and how many have ended at each leaf, by its
-/// number. Slot 0 has those that end at leaf 0, and at leaves beyond the last slot.
+/// How many addresses wait at each node, by its number, and how many have ended at each leaf, by
+/// its number. Slot 0 has those that end at leaf 0, and at leaves beyond the last slot.
 #[derive(Drop)]
 pub(crate) struct Weights {
     pub(crate) waiting: Vec<u128>,
@@ -111,8 +113,8 @@ impl Weights {
         weight
     }
 
-    /// Lets the addresses that do not begin with 96 zeros come to a root's tree, and gives the record of
-    /// those that do, which are the IPv4 addresses.
+    /// Lets the addresses that do not begin with 96 zeros come to a root's tree, and gives the
+    /// record of those that do, which are the IPv4 addresses.
     pub(crate) fn put_beyond(&mut self, store: &Store, rec: Rec) -> Rec
         requires of { IsOf store.now rec }
         requires weights { AreWeights store.now (length self.old.ended.items) self.old }

@@ -1,12 +1,14 @@
 //! The lowest address at which each entry of a feed speaks.
-ghost use Rattle.std.specs.Prelude.{◌≡◌, ◌++◌, ◌-◌, ◌^◌, [], None, Some, IfOk, OnOk, length, map, flat_map};
+ghost use Rattle.std.specs.Prelude.{◌≡◌, ◌++◌, ◌-◌, ◌^◌, [], None, Some, IfOk, OnOk, length, map};
+ghost use Rattle.std.specs.Prelude.{flat_map};
 ghost use Rattle.std.specs.Arc.{arc_value};
 ghost use Rattle.std.specs.List.Sorted.{IsStrictlyIncreasing};
 ghost use Rattle.std.specs.Option.{option_copied};
 ghost use Rattle.geo_addr.specs.Ranges.{AreCuts, range_of_block};
 ghost use Rattle.geo_terms.specs.Sources.{feed_of, references};
 ghost use Rattle.precedence.specs.Why.{reasons_of};
-ghost use Rattle.check_census.specs.Sweep.{all_addresses, fixed_ranges, hearing_ranges, marked, swept};
+ghost use Rattle.check_census.specs.Sweep.{all_addresses, fixed_ranges, hearing_ranges, marked};
+ghost use Rattle.check_census.specs.Sweep.{swept};
 ghost use Rattle.check_census.specs.Verdicts.{first_heard, line_for, or_else};
 
 use geo_addr::{Addr, Memory, Range, range_of};
@@ -18,8 +20,8 @@ use std::sync::Arc;
 
 /// For each entry of a feed in force the lowest address at which it speaks.
 ///
-/// One pass over the places at which the speaker or its entry can change: between two of them nothing
-/// new is heard.
+/// One pass over the places at which the speaker or its entry can change: between two of them
+/// nothing new is heard.
 pub(crate) fn first_addresses(
     alloc: Global,
     sources: &Sources,
@@ -77,7 +79,8 @@ fn nowhere(alloc: Global, lines: &[u64]) -> Result<Vec<Option<u128>>, Memory>
 
 // The line of an entry that speaks for a reference to this URL.
 fn heard_line(url: &str, why: &Why<'_>) -> Option<u64>
-    ensures { result ≡ line_for url.now (reasons_of why.entry.now).speaker (reasons_of why.entry.now).entry }
+    ensures { result
+        ≡ line_for url.now (reasons_of why.entry.now).speaker (reasons_of why.entry.now).entry }
 {
     let speaker = why.speaker?;
     if speaker.url.as_str() != url {

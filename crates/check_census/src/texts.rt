@@ -1,14 +1,15 @@
 //! What is printed of verdicts and of counts.
 ghost use Rattle.std.specs.Prelude.{◌≡◌, IfOk, flat_map, string_bytes};
-ghost use Rattle.check_census.specs.Texts.{count_line, count_lines, country_word, ruling_words, verdict_line, verdict_lines};
+ghost use Rattle.check_census.specs.Texts.{count_line, count_lines, country_word, ruling_words};
+ghost use Rattle.check_census.specs.Texts.{verdict_line, verdict_lines};
 
 use crate::count::Count;
 use crate::verdict::{Ruling, Verdict};
 use geo_addr::{Memory, Text};
 use std::alloc::Global;
 
-/// A line for each verdict, as `LINE speaks SLOT OBJECT`, `LINE shadowed SLOT OBJECT`, `LINE uncovered`
-/// or `LINE refused CODE`, and `lines N`.
+/// A line for each verdict, as `LINE speaks SLOT OBJECT`, `LINE shadowed SLOT OBJECT`,
+/// `LINE uncovered` or `LINE refused CODE`, and `lines N`.
 #[tactic(auto, unfolding(crate::specs::Texts::verdict_lines))]
 pub fn verdict_text(alloc: Global, verdicts: &[Verdict]) -> Result<Text, Memory>
     ensures { IfOk result (λ text. text ≡ verdict_lines verdicts.now) }

@@ -1,4 +1,5 @@
-//! Tests of the commands, in a crate of their own, so that a change of a test proves no crate again.
+//! Tests of the commands, in a crate of their own, so that a change
+//! of a test proves no crate again.
 #![tactic(auto)]
 
 #[cfg(test)]

@@ -1,5 +1,6 @@
 -- The commands, and the command that words are.
-use Rattle.std.specs.Prelude.{ℕ, Bool, ◌&&◌, ◌||◌, ◌^◌, nat_le, List, [], ◌∷◌, codes, Option, Some, None}
+use Rattle.std.specs.Prelude.{ℕ, Bool, ◌&&◌, ◌||◌, ◌^◌, nat_le, List, [], ◌∷◌, codes, Option, Some}
+use Rattle.std.specs.Prelude.{None}
 use Rattle.std.specs.Prelude.{option_map, Result, Ok, Err, if◌then◌else◌}
 use Rattle.geo_addr.specs.AddressTexts.{address_in}
 use Rattle.geo_addr.specs.Decimals.{decimal}
@@ -77,7 +78,8 @@ publish_in job file (Ok block) = if is_plain block then Some (publish job block 
 publish_in job file (Err fault) = None
 
 abbrev pub publish_of : (job block file : List ℕ) → Option Command
-publish_of job block file = if is_name job && is_name file then publish_in job file (block_in block) else None
+publish_of job block file =
+    if is_name job && is_name file then publish_in job file (block_in block) else None
 
 -- the command that a word says with one, two or three words behind it
 unfoldable pub with_one : (word a : List ℕ) → Option Command

@@ -1,11 +1,14 @@
 -- A command as the words spoke it.
 use Rattle.std.specs.Prelude.{ℕ, ◌≤◌, if◌then◌else◌, Option, Some, None, option_and_then}
 use Rattle.command_words.specs.declared.spoken.Spoken.{Spoken}
-use Rattle.command_words.specs.declared.spoken.Spoken.TheVariants.{Build, Lookup, Explain, Gen, Publish, Check, Census}
+use Rattle.command_words.specs.declared.spoken.Spoken.TheVariants.{Build, Lookup, Explain, Gen}
+use Rattle.command_words.specs.declared.spoken.Spoken.TheVariants.{Publish, Check, Census}
 use Rattle.job_lines.specs.Acts.{feed_key}
-use Rattle.command_words.specs.Commands.{Command, build, lookup, explain, gen, publish, check_key, census, is_plain}
+use Rattle.command_words.specs.Commands.{Command, build, lookup, explain, gen, publish, check_key}
+use Rattle.command_words.specs.Commands.{census, is_plain}
 
--- the command that was spoken; the word of a URL may be none, and a block may be none that has a feed
+-- the command that was spoken; the word of a URL may be none,
+-- and a block may be none that has a feed
 abbrev pub named : Spoken → Option Command
 named (Build job) = Some (build job.now)
 named (Lookup file address) = Some (lookup file.now address.0)

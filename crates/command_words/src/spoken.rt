@@ -1,6 +1,8 @@
 //! The command that the words of the command line are.
 ghost use Rattle.std.specs.Prelude.{◌≡◌, ◌≤◌, IfSome, map, string_bytes};
-ghost use Rattle.command_words.specs.Commands.{build_of, census_of, check_of, command_of, explain_of, gen_of, is_plain, lines_in, lookup_of, publish_of, with_one, with_three, with_two};
+ghost use Rattle.command_words.specs.Commands.{build_of, census_of, check_of, command_of};
+ghost use Rattle.command_words.specs.Commands.{explain_of, gen_of, is_plain, lines_in, lookup_of};
+ghost use Rattle.command_words.specs.Commands.{publish_of, with_one, with_three, with_two};
 ghost use Rattle.command_words.specs.Words.{HasFewLines, spoken_by};
 
 use geo_addr::{Addr, Block, decimal, parse_addr, parse_block};
@@ -19,14 +21,15 @@ pub enum Spoken<'a> {
     Gen(u32, &'a str),
     /// `publish JOB BLOCK FILE`: writes the shortest feed of this block under the last name.
     Publish(&'a str, Block, &'a str),
-    /// `check JOB URL`: prints what becomes of each line of a feed. The URL is a word as it was given, and may be none.
+    /// `check JOB URL`: prints what becomes of each line of a feed.
+    /// The URL is a word as it was given, and may be none.
     Check(&'a str, &'a str),
     /// `census JOB`: prints how many addresses each country has.
     Census(&'a str),
 }
 
-/// The command that the words behind the program's name are, if they are one. Of `check` it is left open whether its
-/// last word is the https URL of a feed.
+/// The command that the words behind the program's name are, if they are one. Of `check` it is left
+/// open whether its last word is the https URL of a feed.
 pub fn command_in(words: &[String]) -> Option<Spoken<'_>>
     ensures command { spoken_by result ≡ command_of (map string_bytes words.now) }
     ensures few { HasFewLines result }

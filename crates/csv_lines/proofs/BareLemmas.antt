@@ -1,5 +1,9 @@
--- A text without quotes: its values are its pieces between commas. A file without quotes hands nothing over.
-use Rattle.std.proofs.Common.{◌≡◌, ◌≢◌, ℕ, zero, suc, ◌+◌, ◌-◌, ◌<◌, ◌≤◌, Bool, true, false, not, cond, ◌&&◌, ◌||◌, ◌==◌, ◌⊎◌, inl, inr, List, [], ◌∷◌, length, map, drop, take, reverse, Option, Some, None, refl, sym, ap, subst, ◌∙◌, ne_eqb, arith}
+-- A text without quotes: its values are its pieces between commas.
+-- A file without quotes hands nothing over.
+use Rattle.std.proofs.Common.{◌≡◌, ◌≢◌, ℕ, zero, suc, ◌+◌, ◌-◌, ◌<◌, ◌≤◌, Bool, true, false, not}
+use Rattle.std.proofs.Common.{cond, ◌&&◌, ◌||◌, ◌==◌, ◌⊎◌, inl, inr, List, [], ◌∷◌, length, map}
+use Rattle.std.proofs.Common.{drop, take, reverse, Option, Some, None, refl, sym, ap, subst, ◌∙◌}
+use Rattle.std.proofs.Common.{ne_eqb, arith}
 use Rattle.std.specs.Prelude.{is_some, nat_eq, option_map, slice_index, slice_index_or, unwrap_or}
 use Rattle.std.specs.List.{enumerate_from, list_all, onto_first, prefix_len, starts_with}
 use Rattle.std.specs.Str.{is_utf8}
@@ -10,10 +14,13 @@ use Rattle.std.proofs.lemmas.List.{reverse-append, reverse-reverse}
 use Rattle.std.proofs.lemmas.List.Folds.{list_all-append}
 use Rattle.memchr.specs.Find.{Nowhere, NoneBefore, Passes, is_byte}
 use Rattle.csv.specs.Records.{field_at}
-use Rattle.geo_addr.specs.Lines.{byte_order_mark, is_blank, last_line, lines_of, lines_of_pieces, numbered_lines, pieces, trimmed, trimmed_start, without_mark}
+use Rattle.geo_addr.specs.Lines.{byte_order_mark, is_blank, last_line, lines_of, lines_of_pieces}
+use Rattle.geo_addr.specs.Lines.{numbered_lines, pieces, trimmed, trimmed_start, without_mark}
 use Rattle.geo_terms.specs.PlaceForm.{is_empty}
-use Rattle.csv_lines.specs.Fields.{Field, Plain, Quoted, fields, goes_on, is_bare, is_inner, is_unquoted, scan, value, values_of, with_byte, with_plain}
-use Rattle.csv_lines.specs.Rests.{IsBareLine, all_handed, content_of, first_piece, handed, handed_by, rest_of, row_of}
+use Rattle.csv_lines.specs.Fields.{Field, Plain, Quoted, fields, goes_on, is_bare, is_inner}
+use Rattle.csv_lines.specs.Fields.{is_unquoted, scan, value, values_of, with_byte, with_plain}
+use Rattle.csv_lines.specs.Rests.{IsBareLine, all_handed, content_of, first_piece, handed}
+use Rattle.csv_lines.specs.Rests.{handed_by, rest_of, row_of}
 use Rattle.csv_lines.specs.declared.rest.Content.{Content}
 use Rattle.csv_lines.specs.declared.rest.Content.TheVariants.{Blank, NotText, NoFields, Fields}
 use Rattle.csv_lines.specs.declared.scan.Spot.TheVariants.{Start, Inside}
@@ -32,13 +39,15 @@ false_of : (x : Bool) → (x ≡ true → ⊥) → x ≡ false
 false_of true n = absurd (n refl)
 false_of false n = refl
 
-nowhere : (text : List ℕ) → ((k : ℕ) → k < length text → is_byte 34 (slice_index text k) ≡ true → ⊥) → is_unquoted text ≡ true
+nowhere : (text : List ℕ) → ((k : ℕ) → k < length text → is_byte 34 (slice_index text k) ≡ true → ⊥)
+    → is_unquoted text ≡ true
 nowhere [] free = refl
 nowhere (b ∷ bs) free =
     let one : (b == 34) ≡ false = false_of (b == 34) (λ is. free 0 (omega arith) is) in
     rw one (nowhere bs (λ k below is. free (suc k) (omega arith) is))
 
-somewhere : (text : List ℕ) (i : ℕ) → i < length text → is_byte 34 (slice_index text i) ≡ true → is_unquoted text ≡ false
+somewhere : (text : List ℕ) (i : ℕ) → i < length text → is_byte 34 (slice_index text i) ≡ true
+    → is_unquoted text ≡ false
 somewhere [] i below is = absurd (omega arith)
 somewhere (b ∷ bs) zero below is = rw is refl
 somewhere (b ∷ bs) (suc i) below is = by (no_quote b) (somewhere bs i (omega arith) is)
@@ -47,10 +56,12 @@ somewhere (b ∷ bs) (suc i) below is = by (no_quote b) (somewhere bs i (omega a
     by true e = e
     by false e = refl
 
-pub unquoted : (text : List ℕ) → Nowhere (Passes (is_byte 34) text) 0 (length text) → is_unquoted text ≡ true
+pub unquoted : (text : List ℕ)
+    → Nowhere (Passes (is_byte 34) text) 0 (length text) → is_unquoted text ≡ true
 unquoted text none = nowhere text (λ k below is. none k (omega arith) below is)
 
-pub quoted : (text : List ℕ) (i : ℕ) → NoneBefore (Passes (is_byte 34) text) 0 (length text) i → Passes (is_byte 34) text i → is_unquoted text ≡ false
+pub quoted : (text : List ℕ) (i : ℕ) → NoneBefore (Passes (is_byte 34) text) 0 (length text) i
+    → Passes (is_byte 34) text i → is_unquoted text ≡ false
 quoted text i before is = somewhere text i before.high is
 
 -- ---- the values of a text without quotes
@@ -61,15 +72,19 @@ valued o = option_map (map value) o
 some_is : {A : Type 0} (x y : A) → Some x ≡ Some y → x ≡ y
 some_is x y e = cc
 
-with_comma : (o : Option (List Field)) (ps : List (List ℕ)) → valued o ≡ Some ps → valued (option_map with_plain o) ≡ Some ([] ∷ ps)
+with_comma : (o : Option (List Field)) (ps : List (List ℕ)) → valued o ≡ Some ps
+    → valued (option_map with_plain o) ≡ Some ([] ∷ ps)
 with_comma None ps e = absurd cc
 with_comma (Some fs) ps e = ap (λ (t : List (List ℕ)). Some ([] ∷ t)) (some_is (map value fs) ps e)
 
-with_other : (b : ℕ) (o : Option (List Field)) (ps : List (List ℕ)) → ps ≢ [] → valued o ≡ Some ps → valued (option_map (with_byte b) o) ≡ Some (onto_first b ps)
+with_other : (b : ℕ) (o : Option (List Field)) (ps : List (List ℕ)) → ps ≢ [] → valued o ≡ Some ps
+    → valued (option_map (with_byte b) o) ≡ Some (onto_first b ps)
 with_other b None ps some e = absurd cc
 with_other b (Some []) ps some e = absurd (some (sym (some_is [] ps e)))
-with_other b (Some (Plain x ∷ more)) ps some e = ap (λ (t : List (List ℕ)). Some (onto_first b t)) (some_is (x ∷ map value more) ps e)
-with_other b (Some (Quoted x ∷ more)) ps some e = ap (λ (t : List (List ℕ)). Some (onto_first b t)) (some_is (x ∷ map value more) ps e)
+with_other b (Some (Plain x ∷ more)) ps some e =
+    ap (λ (t : List (List ℕ)). Some (onto_first b t)) (some_is (x ∷ map value more) ps e)
+with_other b (Some (Quoted x ∷ more)) ps some e =
+    ap (λ (t : List (List ℕ)). Some (onto_first b t)) (some_is (x ∷ map value more) ps e)
 
 onto_some : (b : ℕ) (ps : List (List ℕ)) → onto_first b ps ≢ []
 onto_some b [] e = cc
@@ -85,7 +100,8 @@ pieces_some c (b ∷ bs) e = by (b == c) e
 
 -- from the start of a field, and inside a plain one
 scanned : (text : List ℕ) → is_unquoted text ≡ true
-    → (valued (scan Start text) ≡ Some (pieces 44 text)) × (valued (scan Inside text) ≡ Some (pieces 44 text))
+    → (valued (scan Start text) ≡ Some (pieces 44 text))
+    × (valued (scan Inside text) ≡ Some (pieces 44 text))
 unfolding scan
 scanned [] e = (refl, refl)
 scanned (b ∷ bs) e =
@@ -93,8 +109,10 @@ scanned (b ∷ bs) e =
     by (b == 44) refl (unnot (b == 34) one) (scanned bs more)
   where
     by : (x : Bool) → (b == 44) ≡ x → (b == 34) ≡ false
-        → (valued (scan Start bs) ≡ Some (pieces 44 bs)) × (valued (scan Inside bs) ≡ Some (pieces 44 bs))
-        → (valued (scan Start (b ∷ bs)) ≡ Some (pieces 44 (b ∷ bs))) × (valued (scan Inside (b ∷ bs)) ≡ Some (pieces 44 (b ∷ bs)))
+        → (valued (scan Start bs) ≡ Some (pieces 44 bs))
+        × (valued (scan Inside bs) ≡ Some (pieces 44 bs))
+        → (valued (scan Start (b ∷ bs)) ≡ Some (pieces 44 (b ∷ bs)))
+        × (valued (scan Inside (b ∷ bs)) ≡ Some (pieces 44 (b ∷ bs)))
     by true comma quote later =
         let made = with_comma (scan Start bs) (pieces 44 bs) later.0 in
         rw (quote, comma) (made, made)
@@ -102,52 +120,64 @@ scanned (b ∷ bs) e =
         let made = with_other b (scan Inside bs) (pieces 44 bs) (pieces_some 44 bs) later.1 in
         rw (quote, comma) (made, made)
 
-pub values_are : (text : List ℕ) (values : List (List ℕ)) → is_unquoted text ≡ true → values_of text ≡ Some values → pieces 44 text ≡ values
+pub values_are : (text : List ℕ) (values : List (List ℕ)) → is_unquoted text ≡ true
+    → values_of text ≡ Some values → pieces 44 text ≡ values
 values_are text values free e = by (list_all is_inner text) e
   where
-    by : (x : Bool) → cond x (option_map (map value) (fields text)) None ≡ Some values → pieces 44 text ≡ values
+    by : (x : Bool) → cond x (option_map (map value) (fields text)) None ≡ Some values
+        → pieces 44 text ≡ values
     by true h = some_is (pieces 44 text) values (sym (scanned text free).0 ∙ h)
     by false h = absurd cc
 
 -- ---- nothing is handed over of lines without quotes
 
-first_all : (q : ℕ → Bool) (ps : List (List ℕ)) → list_all (list_all q) ps ≡ true → list_all q (first_piece ps) ≡ true
+first_all : (q : ℕ → Bool) (ps : List (List ℕ)) → list_all (list_all q) ps ≡ true
+    → list_all q (first_piece ps) ≡ true
 first_all q [] e = refl
 first_all q (p ∷ ps) e = (and_parts (list_all q p) (list_all (list_all q) ps) e).0
 
-onto_all : (q : ℕ → Bool) (b : ℕ) (ps : List (List ℕ)) → q b ≡ true → list_all (list_all q) ps ≡ true → list_all (list_all q) (onto_first b ps) ≡ true
+onto_all : (q : ℕ → Bool) (b : ℕ) (ps : List (List ℕ)) → q b ≡ true
+    → list_all (list_all q) ps ≡ true → list_all (list_all q) (onto_first b ps) ≡ true
 onto_all q b [] one e = rw one refl
-onto_all q b (p ∷ ps) one e = let (first, more) = and_parts (list_all q p) (list_all (list_all q) ps) e in rw (one, first, more) refl
+onto_all q b (p ∷ ps) one e =
+    let (first, more) = and_parts (list_all q p) (list_all (list_all q) ps) e in
+    rw (one, first, more) refl
 
-pieces_all : (q : ℕ → Bool) (c : ℕ) (text : List ℕ) → list_all q text ≡ true → list_all (list_all q) (pieces c text) ≡ true
+pieces_all : (q : ℕ → Bool) (c : ℕ) (text : List ℕ) → list_all q text ≡ true
+    → list_all (list_all q) (pieces c text) ≡ true
 pieces_all q c [] e = refl
 pieces_all q c (b ∷ bs) e =
     let (one, more) = and_parts (q b) (list_all q bs) e in
     by (b == c) one (pieces_all q c bs more)
   where
-    by : (x : Bool) → q b ≡ true → list_all (list_all q) (pieces c bs) ≡ true → list_all (list_all q) (cond x ([] ∷ pieces c bs) (onto_first b (pieces c bs))) ≡ true
+    by : (x : Bool) → q b ≡ true → list_all (list_all q) (pieces c bs) ≡ true
+        → list_all (list_all q) (cond x ([] ∷ pieces c bs) (onto_first b (pieces c bs))) ≡ true
     by true one later = later
     by false one later = onto_all q b (pieces c bs) one later
 
-strip_all : (q : ℕ → Bool) (l : List ℕ) → list_all q l ≡ true → list_all q (strip_carriage_return l) ≡ true
+strip_all : (q : ℕ → Bool) (l : List ℕ) → list_all q l ≡ true
+    → list_all q (strip_carriage_return l) ≡ true
 strip_all q l e = by (slice_index l (length l - 1) == 13)
   where
     by : (x : Bool) → list_all q (cond x (take (length l - 1) l) l) ≡ true
     by true = all_take q (length l - 1) l e
     by false = e
 
-last_all : (q : ℕ → Bool) (p : List ℕ) → list_all q p ≡ true → list_all (list_all q) (last_line p) ≡ true
+last_all : (q : ℕ → Bool) (p : List ℕ) → list_all q p ≡ true
+    → list_all (list_all q) (last_line p) ≡ true
 last_all q [] e = refl
 last_all q (b ∷ bs) e = rw (strip_all q (b ∷ bs) e) refl
 
-lines_all : (q : ℕ → Bool) (ps : List (List ℕ)) → list_all (list_all q) ps ≡ true → list_all (list_all q) (lines_of_pieces ps) ≡ true
+lines_all : (q : ℕ → Bool) (ps : List (List ℕ)) → list_all (list_all q) ps ≡ true
+    → list_all (list_all q) (lines_of_pieces ps) ≡ true
 lines_all q [] e = refl
 lines_all q (p ∷ []) e = last_all q p (and_parts (list_all q p) true e).0
 lines_all q (p ∷ next ∷ more) e =
     let (first, later) = and_parts (list_all q p) (list_all (list_all q) (next ∷ more)) e in
     rw (strip_all q p first, lines_all q (next ∷ more) later) refl
 
-mark_all : (q : ℕ → Bool) (file : List ℕ) → list_all q file ≡ true → list_all q (without_mark file) ≡ true
+mark_all : (q : ℕ → Bool) (file : List ℕ) → list_all q file ≡ true
+    → list_all q (without_mark file) ≡ true
 mark_all q file e = by (starts_with nat_eq file byte_order_mark)
   where
     by : (x : Bool) → list_all q (cond x (drop 3 file) file) ≡ true
@@ -167,24 +197,30 @@ handed_none line free = by (content_of (rest_of line))
 
 line_handed : (line : List ℕ) → is_unquoted line ≡ true → handed line ≡ []
 line_handed line free =
-    handed_none line (trimmed_all no_quote (first_piece (pieces 35 line)) (first_all no_quote (pieces 35 line) (pieces_all no_quote 35 line free)))
+    handed_none line (trimmed_all no_quote (first_piece (pieces 35 line))
+    (first_all no_quote (pieces 35 line) (pieces_all no_quote 35 line free)))
 
-lines_handed : (n : ℕ) (lines : List (List ℕ)) → list_all is_unquoted lines ≡ true → all_handed (enumerate_from n lines) ≡ []
+lines_handed : (n : ℕ) (lines : List (List ℕ)) → list_all is_unquoted lines ≡ true
+    → all_handed (enumerate_from n lines) ≡ []
 lines_handed n [] e = refl
 lines_handed n (l ∷ ls) e =
     let (first, later) = and_parts (is_unquoted l) (list_all is_unquoted ls) e in
     rw (line_handed l first, lines_handed (n + 1) ls later) refl
 
-pub nothing_handed : (file : List ℕ) → is_unquoted file ≡ true → all_handed (numbered_lines file) ≡ []
+pub nothing_handed : (file : List ℕ) → is_unquoted file ≡ true
+    → all_handed (numbered_lines file) ≡ []
 nothing_handed file free =
-    lines_handed 1 (lines_of (without_mark file)) (lines_all no_quote (pieces 10 (without_mark file)) (pieces_all no_quote 10 (without_mark file) (mark_all no_quote file free)))
+    lines_handed 1
+    (lines_of (without_mark file)) (lines_all no_quote (pieces 10 (without_mark file))
+    (pieces_all no_quote 10 (without_mark file) (mark_all no_quote file free)))
 
 -- ---- texts without quotes, line ends and comments
 
 abbrev uncommented : ℕ → Bool
 uncommented b = not (b == 35)
 
-all_weaker : (p q : ℕ → Bool) → ((b : ℕ) → p b ≡ true → q b ≡ true) → (text : List ℕ) → list_all p text ≡ true → list_all q text ≡ true
+all_weaker : (p q : ℕ → Bool) → ((b : ℕ) → p b ≡ true → q b ≡ true) → (text : List ℕ)
+    → list_all p text ≡ true → list_all q text ≡ true
 all_weaker p q weaker [] e = refl
 all_weaker p q weaker (b ∷ bs) e =
     let (one, more) = and_parts (p b) (list_all p bs) e in
@@ -212,8 +248,10 @@ cut_last [] e = (refl, refl)
 cut_last (b ∷ bs) e = by (goes_on b) refl e (cut_last bs)
   where
     by : (x : Bool) → goes_on b ≡ x → drop (cond x (1 + prefix_len goes_on bs) 0) (b ∷ bs) ≡ []
-        → (drop (prefix_len goes_on bs) bs ≡ [] → (pieces 44 bs ≡ take (prefix_len goes_on bs) bs ∷ []) × (list_all is_bare bs ≡ true))
-        → (pieces 44 (b ∷ bs) ≡ take (cond x (1 + prefix_len goes_on bs) 0) (b ∷ bs) ∷ []) × (list_all is_bare (b ∷ bs) ≡ true)
+        → (drop (prefix_len goes_on bs) bs ≡ []
+        → (pieces 44 bs ≡ take (prefix_len goes_on bs) bs ∷ []) × (list_all is_bare bs ≡ true))
+        → (pieces 44 (b ∷ bs) ≡ take (cond x (1 + prefix_len goes_on bs) 0) (b ∷ bs) ∷ [])
+        × (list_all is_bare (b ∷ bs) ≡ true)
     by false is h later = absurd cc
     by true is h later =
         let step : 1 + prefix_len goes_on bs ≡ suc (prefix_len goes_on bs) = omega arith in
@@ -227,11 +265,13 @@ pub cut_comma : (text next : List ℕ) → drop (prefix_len goes_on text) text �
 cut_comma [] next e = absurd cc
 cut_comma (b ∷ bs) next e = by (goes_on b) refl e (cut_comma bs next)
   where
-    by : (x : Bool) → goes_on b ≡ x → drop (cond x (1 + prefix_len goes_on bs) 0) (b ∷ bs) ≡ 44 ∷ next
+    by : (x : Bool) → goes_on b ≡ x
+        → drop (cond x (1 + prefix_len goes_on bs) 0) (b ∷ bs) ≡ 44 ∷ next
         → (drop (prefix_len goes_on bs) bs ≡ 44 ∷ next
         → (pieces 44 bs ≡ take (prefix_len goes_on bs) bs ∷ pieces 44 next)
         × (list_all is_bare bs ≡ list_all is_bare next))
-        → (pieces 44 (b ∷ bs) ≡ take (cond x (1 + prefix_len goes_on bs) 0) (b ∷ bs) ∷ pieces 44 next)
+        → (pieces 44 (b ∷ bs)
+        ≡ take (cond x (1 + prefix_len goes_on bs) 0) (b ∷ bs) ∷ pieces 44 next)
         × (list_all is_bare (b ∷ bs) ≡ list_all is_bare next)
     by false is h later =
         let head : b ≡ 44 = cc in
@@ -266,7 +306,8 @@ no_items : (xs : List ℕ) → length xs ≡ 0 → xs ≡ []
 no_items [] e = refl
 no_items (x ∷ xs) e = absurd (omega arith)
 
-module _ (text front after : List ℕ) (n : ℕ) (count : n ≡ prefix_len goes_on text) (at_front : front ≡ take n text) (behind : after ≡ drop n text) where
+module _ (text front after : List ℕ) (n : ℕ) (count : n ≡ prefix_len goes_on text)
+    (at_front : front ≡ take n text) (behind : after ≡ drop n text) where
   left : drop (prefix_len goes_on text) text ≡ after
   left = sym (ap (λ (k : ℕ). drop k text) count) ∙ sym behind
 
@@ -288,13 +329,16 @@ module _ (text front after : List ℕ) (n : ℕ) (count : n ≡ prefix_len goes_
       → list_all is_bare text ≡ false
   other_cut b next parts other = cut_other text next b (left ∙ parts) other
 
-content_by : (x u : Bool) (vs : Option (List (List ℕ))) (ps : List (List ℕ)) → x ≡ false → u ≡ true → vs ≡ Some ps
+content_by : (x u : Bool) (vs : Option (List (List ℕ))) (ps : List (List ℕ)) → x ≡ false → u ≡ true
+    → vs ≡ Some ps
     → cond x Blank (cond (not u) NotText (cond (is_some vs) Fields NoFields)) ≡ Fields
 content_by x u vs ps e f g = rw (e, f, g) refl
 
-bare_values : (text : List ℕ) → list_all is_bare text ≡ true → values_of text ≡ Some (pieces 44 text)
+bare_values : (text : List ℕ) → list_all is_bare text ≡ true
+    → values_of text ≡ Some (pieces 44 text)
 bare_values text bare =
-    ap (λ (x : Bool). cond x (option_map (map value) (fields text)) None) (all_weaker is_bare is_inner bare_inner text bare)
+    ap (λ (x : Bool). cond x (option_map (map value) (fields text)) None)
+    (all_weaker is_bare is_inner bare_inner text bare)
     ∙ (scanned text (all_weaker is_bare no_quote bare_quote text bare)).0
 
 -- an empty rest is blank, and a bare one with bytes has fields, which are its pieces

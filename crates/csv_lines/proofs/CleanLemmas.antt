@@ -1,5 +1,7 @@
--- A place that clean fields make is clean: its country and its region are letters, digits and dashes.
-use Rattle.std.proofs.Common.{◌≡◌, ℕ, ◌+◌, Bool, true, false, not, cond, ◌&&◌, ◌||◌, nat_eq, nat_le, List, [], ◌∷◌, length, reverse, refl, ap, ◌∙◌, subst, arith}
+-- A place that clean fields make is clean: its country and its region are letters,
+-- digits and dashes.
+use Rattle.std.proofs.Common.{◌≡◌, ℕ, ◌+◌, Bool, true, false, not, cond, ◌&&◌, ◌||◌, nat_eq, nat_le}
+use Rattle.std.proofs.Common.{List, [], ◌∷◌, length, reverse, refl, ap, ◌∙◌, subst, arith}
 use Rattle.std.specs.Prelude.{Ok, Err, if◌then◌else◌}
 use Rattle.std.specs.Char.{is_ascii_alphabetic, is_ascii_alphanumeric, to_ascii_uppercase}
 use Rattle.std.specs.List.{list_all, prefix_len}
@@ -8,7 +10,9 @@ use Rattle.std.proofs.lemmas.Bool.Decides.{nat_tests}
 use Rattle.std.proofs.lemmas.List.{reverse-append}
 use Rattle.std.proofs.lemmas.List.Folds.{list_all-append}
 use Rattle.geo_addr.specs.Lines.{is_blank}
-use Rattle.geo_terms.specs.PlaceForm.{PlaceParts, country_fits, country_of_region, is_empty, is_subdivision, lengths_fit, parts_of, region_fits, says_nothing, upper}
+use Rattle.geo_terms.specs.PlaceForm.{PlaceParts, country_fits, country_of_region, is_empty}
+use Rattle.geo_terms.specs.PlaceForm.{is_subdivision, lengths_fit, parts_of, region_fits}
+use Rattle.geo_terms.specs.PlaceForm.{says_nothing, upper}
 use Rattle.geo_terms.specs.SaidOf.{said_by, said_of}
 use Rattle.geo_terms.specs.declared.place.PlaceFault.TheVariants.{Country, Region, TooLong}
 use Rattle.geo_terms.specs.declared.place.Said.{Said}
@@ -96,10 +100,13 @@ region_word [] h = refl
 region_word (a ∷ []) h = absurd (let f : false ≡ true = h in cc)
 region_word (a ∷ b ∷ []) h = absurd (let f : false ≡ true = h in cc)
 region_word (a ∷ b ∷ dash ∷ rest) h =
-    let (front, last) = and_parts (is_ascii_alphabetic a && is_ascii_alphabetic b && nat_eq dash 45) (is_subdivision rest) h in
-    let (pair, third) = and_parts (is_ascii_alphabetic a && is_ascii_alphabetic b) (nat_eq dash 45) front in
+    let (front, last) = and_parts (is_ascii_alphabetic a && is_ascii_alphabetic b && nat_eq dash 45)
+    (is_subdivision rest) h in
+    let (pair, third) =
+    and_parts (is_ascii_alphabetic a && is_ascii_alphabetic b) (nat_eq dash 45) front in
     let (one, two) = and_parts (is_ascii_alphabetic a) (is_ascii_alphabetic b) pair in
-    let (short, digits) = and_parts (not (is_empty rest) && nat_le (length rest) 3) (list_all is_ascii_alphanumeric rest) last in
+    let (short, digits) = and_parts (not (is_empty rest) && nat_le (length rest) 3)
+    (list_all is_ascii_alphanumeric rest) last in
     rw (is_letter a one, is_letter b two, is_dash dash third, digits_word rest digits) refl
 
 pair_word : (r : List ℕ) → list_all is_word r ≡ true → list_all is_word (country_of_region r) ≡ true
@@ -118,14 +125,16 @@ named_word (b ∷ bs) r h k = h
 -- ---- places
 
 told : (b1 b2 b3 : Bool) (one said : Said)
-    → cond (not b1) (Err Country) (cond (not b2) (Err Region) (cond (not b3) (Err TooLong) (Ok one))) ≡ Ok said
+    → cond (not b1) (Err Country)
+    (cond (not b2) (Err Region) (cond (not b3) (Err TooLong) (Ok one))) ≡ Ok said
     → (b1 ≡ true) × (b2 ≡ true) × (one ≡ said)
 told true true true one said e = (refl, refl, cc)
 told true true false one said e = absurd cc
 told true false b3 one said e = absurd cc
 told false b2 b3 one said e = absurd cc
 
-said_clean : (p : PlaceParts) (x : Bool) (said : Said) → IsCleanPlace p → cond x Nothing (At p) ≡ said → IsCleanSaid said
+said_clean : (p : PlaceParts) (x : Bool) (said : Said) → IsCleanPlace p
+    → cond x Nothing (At p) ≡ said → IsCleanSaid said
 said_clean p true said k e = subst IsCleanSaid e tt
 said_clean p false said k e = subst IsCleanSaid e k
 
@@ -137,11 +146,14 @@ places_are_clean i row said texts e =
     let city = column (i + 2) row in
     let postal = column (i + 3) row in
     let p : PlaceParts = parts_of country region city postal in
-    let (one, two, is) = told (country_fits country) (region_fits region) (lengths_fit city postal) (said_by p) said e in
+    let (one, two, is) =
+    told (country_fits country) (region_fits region) (lengths_fit city postal) (said_by p) said e in
     let regions = region_word region two in
     said_clean p (says_nothing p) said
     (record {
-      country = word_is_clean p.country (upper_word (if is_empty country then country_of_region region else country)
+      country =
+          word_is_clean p.country
+          (upper_word (if is_empty country then country_of_region region else country)
           (named_word country region (country_word country one) regions));
       region = word_is_clean p.region (upper_word region regions);
       city = texts.clean (i + 2);

@@ -1,5 +1,6 @@
 -- `csv`'s machine reads a text that scans as the values of its fields.
-use Rattle.std.proofs.Common.{◌≡◌, ℕ, Bool, true, false, cond, ◌==◌, ◌⊎◌, ◌≢◌, inl, inr, List, [], ◌∷◌, ◌++◌, map, Option, Some, None, refl, ap, ◌∙◌, ne_eqb}
+use Rattle.std.proofs.Common.{◌≡◌, ℕ, Bool, true, false, cond, ◌==◌, ◌⊎◌, ◌≢◌, inl, inr, List, []}
+use Rattle.std.proofs.Common.{◌∷◌, ◌++◌, map, Option, Some, None, refl, ap, ◌∙◌, ne_eqb}
 use Rattle.std.specs.Prelude.{option_map}
 use Rattle.std.specs.List.{list_all}
 use Rattle.std.proofs.lemmas.Bool.{and_parts, cases_eq}
@@ -8,7 +9,8 @@ use Rattle.csv.specs.Machine.{next_record, Read}
 use Rattle.csv.specs.Reading.{default_config, strip_bom}
 use Rattle.csv.specs.declared.parser.State.{State}
 use Rattle.csv.specs.declared.parser.State.TheVariants as st
-use Rattle.csv_lines.specs.Fields.{Field, Plain, Quoted, fields, is_inner, scan, value, values_of, with_byte, with_plain, with_quoted}
+use Rattle.csv_lines.specs.Fields.{Field, Plain, Quoted, fields, is_inner, scan, value, values_of}
+use Rattle.csv_lines.specs.Fields.{with_byte, with_plain, with_quoted}
 use Rattle.csv_lines.specs.declared.scan.Spot.{Spot}
 use Rattle.csv_lines.specs.declared.scan.Spot.TheVariants.{Start, Inside, Within, Closed}
 
@@ -46,7 +48,8 @@ unfoldable pub grown : List ℕ → List (List ℕ) → List (List ℕ)
 grown part [] = []
 grown part (v ∷ vs) = (part ++ v) ∷ vs
 
-pub grown_byte : (part : List ℕ) (b : ℕ) (fs : List Field) → grown (part ++ (b ∷ [])) (map value fs) ≡ grown part (map value (with_byte b fs))
+pub grown_byte : (part : List ℕ) (b : ℕ) (fs : List Field)
+    → grown (part ++ (b ∷ [])) (map value fs) ≡ grown part (map value (with_byte b fs))
 unfolding grown
 grown_byte part b [] = refl
 grown_byte part b (Plain x ∷ more) = rw append_assoc refl
@@ -57,7 +60,8 @@ unfolding grown
 grown_none [] = refl
 grown_none (v ∷ vs) = refl
 
-pub map_some : {A B : Type 0} (f : A → B) (o : Option A) (y : B) → option_map f o ≡ Some y → (x : A) × (o ≡ Some x) × (f x ≡ y)
+pub map_some : {A B : Type 0} (f : A → B) (o : Option A) (y : B) → option_map f o ≡ Some y
+    → (x : A) × (o ≡ Some x) × (f x ≡ y)
 map_some f None y e = absurd cc
 map_some f (Some x) y e = (x, refl, cc)
 
@@ -69,18 +73,27 @@ abbrev answer : List (List ℕ) → List ℕ → List Field → List ℕ → Opt
 answer done part fs tail = given (done ++ grown part (map value fs)) tail
 
 -- one more field, which ends here
-closes : (done : List (List ℕ)) (part : List ℕ) (fs : List Field) (tail : List ℕ) (f : Field) → value f ≡ []
+closes : (done : List (List ℕ)) (part : List ℕ) (fs : List Field) (tail : List ℕ) (f : Field)
+    → value f ≡ []
     → answer (done ++ (part ∷ [])) [] fs tail ≡ answer done part (f ∷ fs) tail
 unfolding grown
 closes done part fs tail f e = rw (grown_none (map value fs), append_assoc, e, append-nil part) refl
 
-reads : (s : Spot) (done : List (List ℕ)) (part text tail : List ℕ) (fs : List Field) → list_all is_inner text ≡ true → scan s text ≡ Some fs
-    → next_record default_config (state_of s) done part (text ++ (10 ∷ tail)) ≡ answer done part fs tail
+reads : (s : Spot) (done : List (List ℕ)) (part text tail : List ℕ) (fs : List Field)
+    → list_all is_inner text ≡ true → scan s text ≡ Some fs
+    → next_record default_config (state_of s) done part (text ++ (10 ∷ tail))
+    ≡ answer done part fs tail
 unfolding next_record scan state_of grown
-reads Start done part [] tail fs i e = let is : (Plain [] ∷ []) ≡ fs = cc in rw (← is) (rw (append-nil part) refl)
-reads Inside done part [] tail fs i e = let is : (Plain [] ∷ []) ≡ fs = cc in rw (← is) (rw (append-nil part) refl)
+reads Start done part [] tail fs i e =
+    let is : (Plain [] ∷ []) ≡ fs = cc in
+    rw (← is) (rw (append-nil part) refl)
+reads Inside done part [] tail fs i e =
+    let is : (Plain [] ∷ []) ≡ fs = cc in
+    rw (← is) (rw (append-nil part) refl)
 reads Within done part [] tail fs i e = absurd cc
-reads Closed done part [] tail fs i e = let is : (Quoted [] ∷ []) ≡ fs = cc in rw (← is) (rw (append-nil part) refl)
+reads Closed done part [] tail fs i e =
+    let is : (Quoted [] ∷ []) ≡ fs = cc in
+    rw (← is) (rw (append-nil part) refl)
 reads Start done part (b ∷ bs) tail fs i e =
     let (one, all) = and_parts (is_inner b) (list_all is_inner bs) i in
     elim (kind b one) [
@@ -88,9 +101,11 @@ reads Start done part (b ∷ bs) tail fs i e =
       | inr k ↦ elim k [
         | inl c ↦
             let (more, is, made) = map_some with_plain (scan Start bs) fs (rw c at e) in
-            rw c (reads Start (done ++ (part ∷ [])) [] bs tail more all is ∙ closes done part more tail (Plain []) refl ∙ ap (λ (x : List Field). answer done part x tail) made)
+            rw c (reads Start (done ++ (part ∷ [])) [] bs tail more all is ∙ closes done part more
+            tail (Plain []) refl ∙ ap (λ (x : List Field). answer done part x tail) made)
         | inr o ↦
-            let (more, is, made) = map_some (with_byte b) (scan Inside bs) fs (rw (o.quote, o.comma) at e) in
+            let (more, is, made) =
+            map_some (with_byte b) (scan Inside bs) fs (rw (o.quote, o.comma) at e) in
             rw (o.quote, o.comma, o.carriage, o.feed) (
             reads Inside done (part ++ (b ∷ [])) bs tail more all is
             ∙ ap (λ (x : List (List ℕ)). given (done ++ x) tail) (grown_byte part b more)
@@ -104,9 +119,11 @@ reads Inside done part (b ∷ bs) tail fs i e =
       | inr k ↦ elim k [
         | inl c ↦
             let (more, is, made) = map_some with_plain (scan Start bs) fs (rw c at e) in
-            rw c (reads Start (done ++ (part ∷ [])) [] bs tail more all is ∙ closes done part more tail (Plain []) refl ∙ ap (λ (x : List Field). answer done part x tail) made)
+            rw c (reads Start (done ++ (part ∷ [])) [] bs tail more all is ∙ closes done part more
+            tail (Plain []) refl ∙ ap (λ (x : List Field). answer done part x tail) made)
         | inr o ↦
-            let (more, is, made) = map_some (with_byte b) (scan Inside bs) fs (rw (o.quote, o.comma) at e) in
+            let (more, is, made) =
+            map_some (with_byte b) (scan Inside bs) fs (rw (o.quote, o.comma) at e) in
             rw (o.comma, o.carriage, o.feed) (
             reads Inside done (part ++ (b ∷ [])) bs tail more all is
             ∙ ap (λ (x : List (List ℕ)). given (done ++ x) tail) (grown_byte part b more)
@@ -137,29 +154,38 @@ reads Closed done part (b ∷ bs) tail fs i e =
       | inr k ↦ elim k [
         | inl c ↦
             let (more, is, made) = map_some with_quoted (scan Start bs) fs (rw c at e) in
-            rw c (reads Start (done ++ (part ∷ [])) [] bs tail more all is ∙ closes done part more tail (Quoted []) refl ∙ ap (λ (x : List Field). answer done part x tail) made)
+            rw c (reads Start (done ++ (part ∷ [])) [] bs tail more all is ∙ closes done part more
+            tail (Quoted []) refl ∙ ap (λ (x : List Field). answer done part x tail) made)
         | inr o ↦ absurd (let f = rw (o.quote, o.comma) at e in cc)
       ]
     ]
 
 -- the first byte of a record that is no line end is read as that of a field
-first_byte : (b : ℕ) (bs : List ℕ) → is_inner b ≡ true → next_record default_config st.StartRecord [] [] (b ∷ bs) ≡ next_record default_config st.StartField [] [] (b ∷ bs)
+first_byte : (b : ℕ) (bs : List ℕ) → is_inner b ≡ true → next_record default_config st.StartRecord
+    [] [] (b ∷ bs) ≡ next_record default_config st.StartField [] [] (b ∷ bs)
 unfolding next_record
 first_byte b bs e =
     elim (kind b e) [
       | inl q ↦ rw q refl
-      | inr k ↦ elim k [ inl c ↦ rw c refl | inr o ↦ rw (o.quote, o.comma, o.carriage, o.feed) refl ]
+      | inr k ↦ elim k [
+        | inl c ↦ rw c refl
+        | inr o ↦ rw (o.quote, o.comma, o.carriage, o.feed) refl
+      ]
     ]
 
--- a text that has bytes and the values of fields is read as these values, whatever follows its line feed
+-- a text that has bytes and the values of fields is read as these values,
+-- whatever follows its line feed
 pub record_of : (text tail : List ℕ) (vs : List (List ℕ)) → text ≢ [] → values_of text ≡ Some vs
-    → next_record default_config st.StartRecord [] [] (text ++ (10 ∷ tail)) ≡ Some (vs, st.StartRecord, tail)
+    → next_record default_config st.StartRecord [] [] (text ++ (10 ∷ tail))
+    ≡ Some (vs, st.StartRecord, tail)
 unfolding state_of
 record_of [] tail vs some e = absurd (some refl)
 record_of (b ∷ bs) tail vs some e = by (list_all is_inner (b ∷ bs)) refl e
   where
-    by : (x : Bool) → list_all is_inner (b ∷ bs) ≡ x → cond x (option_map (map value) (fields (b ∷ bs))) None ≡ Some vs
-        → next_record default_config st.StartRecord [] [] ((b ∷ bs) ++ (10 ∷ tail)) ≡ Some (vs, st.StartRecord, tail)
+    by : (x : Bool) → list_all is_inner (b ∷ bs) ≡ x
+        → cond x (option_map (map value) (fields (b ∷ bs))) None ≡ Some vs
+        → next_record default_config st.StartRecord [] [] ((b ∷ bs) ++ (10 ∷ tail))
+        ≡ Some (vs, st.StartRecord, tail)
     by false i h = absurd cc
     by true i h =
         let (fs, is, made) = map_some (map value) (fields (b ∷ bs)) vs h in
@@ -176,6 +202,7 @@ strip_feed (a ∷ []) = refl
 strip_feed (a ∷ b ∷ bs) = refl
 
 -- and is passed over
-pub after_feed : (bs : List ℕ) → next_record default_config st.StartRecord [] [] (10 ∷ bs) ≡ next_record default_config st.StartRecord [] [] bs
+pub after_feed : (bs : List ℕ) → next_record default_config st.StartRecord [] [] (10 ∷ bs)
+    ≡ next_record default_config st.StartRecord [] [] bs
 unfolding next_record
 after_feed bs = refl

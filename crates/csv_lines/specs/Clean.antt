@@ -25,7 +25,8 @@ pub record AreTexts (row : List (List ℕ)) : Type 0 where
   pub clean : (place : ℕ) → IsClean (column place row)
 
 abbrev pub FieldsAreTexts : Type 0
-FieldsAreTexts = (line : List ℕ) → content_of (rest_of line) ≡ Fields → AreTexts (row_of (rest_of line))
+FieldsAreTexts =
+    (line : List ℕ) → content_of (rest_of line) ≡ Fields → AreTexts (row_of (rest_of line))
 
 -- each text of a place is clean
 pub record IsCleanPlace (p : PlaceParts) : Type 0 where
@@ -41,4 +42,6 @@ IsCleanSaid (At place) = IsCleanPlace place
 
 -- clean fields say what is clean
 abbrev pub PlacesAreClean : Type 0
-PlacesAreClean = (place : ℕ) (row : List (List ℕ)) (said : Said) → AreTexts row → said_in place row ≡ Ok said → IsCleanSaid said
+PlacesAreClean =
+    (place : ℕ) (row : List (List ℕ)) (said : Said) → AreTexts row → said_in place row ≡ Ok said
+    → IsCleanSaid said

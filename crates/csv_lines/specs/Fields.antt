@@ -1,6 +1,8 @@
--- The fields of a line of comma-separated values: plain ones, and quoted ones in which each quote is doubled (RFC 4180 section 2).
+-- The fields of a line of comma-separated values: plain ones,
+-- and quoted ones in which each quote is doubled (RFC 4180 section 2).
 -- A byte is its number: 34 is the quote, 44 the comma, 10 the line feed, 13 the carriage return.
-use Rattle.std.specs.Prelude.{◌≡◌, ℕ, Bool, true, not, ◌&&◌, ◌||◌, ◌==◌, List, [], ◌∷◌, ◌++◌, map, IsTrue, Option, None, Some, option_map, is_some, if◌then◌else◌}
+use Rattle.std.specs.Prelude.{◌≡◌, ℕ, Bool, true, not, ◌&&◌, ◌||◌, ◌==◌, List, [], ◌∷◌, ◌++◌, map}
+use Rattle.std.specs.Prelude.{IsTrue, Option, None, Some, option_map, is_some, if◌then◌else◌}
 use Rattle.std.specs.List.{list_all}
 use Rattle.csv_lines.specs.declared.scan.Spot.{Spot}
 use Rattle.csv_lines.specs.declared.scan.Spot.TheVariants.{Start, Inside, Within, Closed}
@@ -53,16 +55,19 @@ with_plain more = Plain [] ∷ more
 abbrev pub with_quoted : List Field → List Field
 with_quoted more = Quoted [] ∷ more
 
--- the fields of what is left of a text: at the start of a field, inside a plain one, within quotes, or behind a quote that may close them
+-- the fields of what is left of a text: at the start of a field, inside a plain one, within quotes,
+-- or behind a quote that may close them
 unfoldable pub scan : Spot → List ℕ → Option (List Field)
 scan Start [] = Some (Plain [] ∷ [])
 scan Start (b ∷ bs) =
     if b == 34 then scan Within bs
-    else (if b == 44 then option_map with_plain (scan Start bs) else option_map (with_byte b) (scan Inside bs))
+    else (if b == 44 then option_map with_plain (scan Start bs)
+    else option_map (with_byte b) (scan Inside bs))
 scan Inside [] = Some (Plain [] ∷ [])
 scan Inside (b ∷ bs) =
     if b == 34 then None
-    else (if b == 44 then option_map with_plain (scan Start bs) else option_map (with_byte b) (scan Inside bs))
+    else (if b == 44 then option_map with_plain (scan Start bs)
+    else option_map (with_byte b) (scan Inside bs))
 scan Within [] = None
 scan Within (b ∷ bs) = if b == 34 then scan Closed bs else option_map (with_byte b) (scan Within bs)
 scan Closed [] = Some (Quoted [] ∷ [])

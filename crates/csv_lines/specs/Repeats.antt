@@ -1,5 +1,7 @@
 -- Lines of one source about the same range: which of them speaks.
-use Rattle.std.specs.Prelude.{ℕ, ◌+◌, ◌≤◌, Bool, true, false, not, ◌&&◌, nat_lt, List, [], ◌∷◌, ◌++◌, filter, filter_map, take_while, drop, Option, Some, None, if◌then◌else◌}
+use Rattle.std.specs.Prelude.{ℕ, ◌+◌, ◌≤◌, Bool, true, false, not, ◌&&◌, nat_lt, List, [], ◌∷◌}
+use Rattle.std.specs.Prelude.{◌++◌, filter, filter_map, take_while, drop, Option, Some, None}
+use Rattle.std.specs.Prelude.{if◌then◌else◌}
 use Rattle.std.specs.List.{list_any, prefix_len}
 use Rattle.geo_addr.specs.Ranges.{Ends}
 use Rattle.geo_terms.specs.Numbers.{same_place}
@@ -40,9 +42,11 @@ module _ {X : Type 0} (line : X → ℕ) (range : X → Ends) (said : X → Said
   abbrev pub is_repetition : List X → X → Bool
   is_repetition all x = list_any (λ y. same_range y x && nat_lt (line y) (line x)) all
 
-  -- what becomes of a line: where any two of one range differ none of them is kept, and else the first
+  -- what becomes of a line: where any two of one range differ none of them is kept,
+  -- and else the first
   unfoldable pub fate : List X → X → Fate
-  fate all x = if is_contradicted all x then Differs else (if is_repetition all x then Repeats else Kept)
+  fate all x =
+      if is_contradicted all x then Differs else (if is_repetition all x then Repeats else Kept)
 
   -- the lines that speak
   abbrev pub kept : List X → List X
@@ -63,4 +67,6 @@ is_before at f = nat_lt f.line at
 -- two lists of faults in line order as one
 abbrev pub merged : (late early : List Fault) → List Fault
 merged [] early = early
-merged (f ∷ late) early = take_while (is_before f.line) early ++ (f ∷ merged late (drop (prefix_len (is_before f.line) early) early))
+merged (f ∷ late) early =
+    take_while (is_before f.line) early
+    ++ (f ∷ merged late (drop (prefix_len (is_before f.line) early) early))

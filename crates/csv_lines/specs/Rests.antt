@@ -1,11 +1,14 @@
--- What is left of a line without its comment, and how `csv` reads it (RFC 8805 section 2, RFC 4180 section 2).
-use Rattle.std.specs.Prelude.{◌≡◌, ℕ, ◌+◌, ◌≤◌, Result, true, not, is_some, List, [], ◌∷◌, ◌++◌, length, flat_map, Option, Some, unwrap_or, get_or, if◌then◌else◌}
+-- What is left of a line without its comment, and how `csv` reads it (RFC 8805 section 2,
+-- RFC 4180 section 2).
+use Rattle.std.specs.Prelude.{◌≡◌, ℕ, ◌+◌, ◌≤◌, Result, true, not, is_some, List, [], ◌∷◌, ◌++◌}
+use Rattle.std.specs.Prelude.{length, flat_map, Option, Some, unwrap_or, get_or, if◌then◌else◌}
 use Rattle.std.specs.Str.{is_utf8}
 use Rattle.std.specs.List.{list_all}
 use Rattle.geo_addr.specs.Lines.{pieces, trimmed}
 use Rattle.geo_terms.specs.PlaceForm.{is_empty}
 use Rattle.csv.specs.Machine.{next_record}
-use Rattle.csv.specs.Reading.{Ready, default_config, reader_config, reader_state, reader_trim, source_of}
+use Rattle.csv.specs.Reading.{Ready, default_config, reader_config, reader_state, reader_trim}
+use Rattle.csv.specs.Reading.{source_of}
 use Rattle.csv.specs.declared.parser.State.TheVariants as st
 use Rattle.csv.specs.declared.reader.Reader.{Reader}
 use Rattle.csv.specs.declared.reader.Trim.TheVariants as trim
@@ -20,7 +23,8 @@ abbrev pub first_piece : List (List ℕ) → List ℕ
 first_piece [] = []
 first_piece (piece ∷ more) = piece
 
--- a line up to its first `#`, which also counts between quotes, without the blanks around what is left
+-- a line up to its first `#`, which also counts between quotes,
+-- without the blanks around what is left
 abbrev pub rest_of : List ℕ → List ℕ
 rest_of line = trimmed (first_piece (pieces 35 line))
 
@@ -63,15 +67,18 @@ handed line = handed_by (content_of (rest_of line)) (rest_of line)
 abbrev pub all_handed : List (ℕ × List ℕ) → List ℕ
 all_handed lines = flat_map (λ l. handed l.1) lines
 
--- a `csv` reader with its defaults at the start of a record, of which what it has left reads as these bytes
-pub record Stands {R : Type 0} (source : R → Option (List ℕ)) (reader : Reader R) (left : List ℕ) : Type 0 where
+-- a `csv` reader with its defaults at the start of a record,
+-- of which what it has left reads as these bytes
+pub record Stands {R : Type 0} (source : R → Option (List ℕ)) (reader : Reader R)
+    (left : List ℕ) : Type 0 where
   pub ready : Ready reader
   pub trim : reader_trim reader ≡ trim.None
   pub config : reader_config reader ≡ default_config
   pub state : reader_state reader ≡ st.StartRecord
   pub bytes : List ℕ
   pub held : source_of source reader ≡ Some bytes
-  pub reads : next_record default_config st.StartRecord [] [] bytes ≡ next_record default_config st.StartRecord [] [] left
+  pub reads : next_record default_config st.StartRecord [] [] bytes
+      ≡ next_record default_config st.StartRecord [] [] left
 
 -- a reader stands where the rest of a line, and of those after it, was handed over
 abbrev pub CanRead : {R : Type 0} → (R → Option (List ℕ)) → Reader R → List ℕ → Type 0
@@ -79,4 +86,6 @@ CanRead source reader line = (left : List ℕ) × Stands source reader (handed l
 
 -- what four fields from a place on say of a location: country, region, city and postal code
 abbrev pub said_in : ℕ → List (List ℕ) → Result Said PlaceFault
-said_in place row = said_of (column place row) (column (place + 1) row) (column (place + 2) row) (column (place + 3) row)
+said_in place row =
+    said_of (column place row) (column (place + 1) row) (column (place + 2) row)
+    (column (place + 3) row)

@@ -1,5 +1,6 @@
 -- How lines of the same range are found: by the first line of each range.
-use Rattle.std.specs.Prelude.{◌≡◌, ℕ, ◌<◌, ◌⊎◌, Bool, false, not, ◌||◌, nat_lt, List, fold, Option, Some, None, if◌then◌else◌}
+use Rattle.std.specs.Prelude.{◌≡◌, ℕ, ◌<◌, ◌⊎◌, Bool, false, not, ◌||◌, nat_lt, List, fold, Option}
+use Rattle.std.specs.Prelude.{Some, None, if◌then◌else◌}
 use Rattle.geo_addr.specs.Ranges.{Ends}
 use Rattle.geo_terms.specs.Report.{same_ends}
 use Rattle.geo_terms.specs.declared.place.Said.{Said}
@@ -20,13 +21,18 @@ pub record Shown : Type 0 where
 -- what becomes of a line whose range shows this
 abbrev pub fate_by : Option Shown → ℕ → Fate
 fate_by None line = Kept
-fate_by (Some s) line = if s.differs then Differs else (if nat_lt s.line line then Repeats else Kept)
+fate_by (Some s) line =
+    if s.differs then Differs else (if nat_lt s.line line then Repeats else Kept)
 
 module _ {X : Type 0} (line : X → ℕ) (range : X → Ends) (said : X → Said) where
   -- what is shown with one more line of the range
   abbrev pub more : Option Shown → X → Shown
   more None x = record { line = line x; said = said x; differs = false }
-  more (Some s) x = record { line = s.line; said = s.said; differs = s.differs || not (same_said (said x) s.said) }
+  more (Some s) x = record {
+    line = s.line;
+    said = s.said;
+    differs = s.differs || not (same_said (said x) s.said);
+  }
 
   -- what is shown of a range with one more line
   abbrev pub with_row : Option Shown → X → Ends → Option Shown

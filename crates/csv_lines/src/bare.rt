@@ -1,5 +1,6 @@
 //! The fields of a text without quotes.
-ghost use Rattle.std.specs.Prelude.{◌≡◌, ◌<◌, ◌≤◌, [], ◌∷◌, ◌++◌, true, false, length, IfNone, IfSome, IsSome, MatchOption, OnOk, OnSome};
+ghost use Rattle.std.specs.Prelude.{◌≡◌, ◌<◌, ◌≤◌, [], ◌∷◌, ◌++◌, true, false, length, IfNone};
+ghost use Rattle.std.specs.Prelude.{IfSome, IsSome, MatchOption, OnOk, OnSome};
 ghost use Rattle.std.specs.List.{list_all, prefix_len};
 ghost use Rattle.std.specs.Option.{option_copied};
 ghost use Rattle.csv.specs.Records.{fields_of};
@@ -120,7 +121,8 @@ pub fn bare_row(line: &[u8]) -> Option<BareRow<'_>>
 fn cut_bare(text: &[u8]) -> Option<BareRow<'_>>
     ensures bare { IsSome result → list_all is_bare text.now ≡ true }
     ensures row { IfSome result (λ row. row ≡ pieces 44 text.now) }
-    ensures taken { list_all is_bare text.now ≡ true → length (pieces 44 text.now) ≤ 8 → IsSome result }
+    ensures taken { list_all is_bare text.now ≡ true → length (pieces 44 text.now) ≤ 8
+        → IsSome result }
 {
     let mut row = BareRow::new();
     let mut left = text;
@@ -134,10 +136,13 @@ fn cut_bare(text: &[u8]) -> Option<BareRow<'_>>
     }
 }
 
-// The first field, and what stands after its comma where it has one; `None` where another byte ends it.
+// The first field, and what stands after its comma where it has one;
+// `None` where another byte ends it.
 fn cut_field(text: &[u8]) -> Option<(&[u8], Option<&[u8]>)>
-    ensures pieces { IfSome result (λ p. pieces 44 text.now ≡ p.0.now ∷ pieces_after 44 (option_copied p.1)) }
-    ensures bare { IfSome result (λ p. MatchOption p.1 (list_all is_bare text.now ≡ true) (λ next. list_all is_bare text.now ≡ list_all is_bare next.now)) }
+    ensures pieces { IfSome result
+        (λ p. pieces 44 text.now ≡ p.0.now ∷ pieces_after 44 (option_copied p.1)) }
+    ensures bare { IfSome result (λ p. MatchOption p.1 (list_all is_bare text.now ≡ true)
+        (λ next. list_all is_bare text.now ≡ list_all is_bare next.now)) }
     ensures other { IfNone result (list_all is_bare text.now ≡ false) }
     ensures shorter { IfSome result (λ p. IfSome p.1 (λ next. length next.now < length text.now)) }
 {

@@ -1,11 +1,13 @@
 //! Lines about the same range.
-ghost use Rattle.std.specs.Prelude.{◌≡◌, ℕ, IfOk, IsTrue, AllPairs, filter, filter_map, length, map, OnOk, MatchOption, ◌++◌, option_to_list};
+ghost use Rattle.std.specs.Prelude.{◌≡◌, ℕ, IfOk, IsTrue, AllPairs, filter, filter_map, length};
+ghost use Rattle.std.specs.Prelude.{map, OnOk, MatchOption, ◌++◌, option_to_list};
 ghost use Rattle.std.specs.Option.{option_copied};
 ghost use Rattle.geo_addr.specs.Ranges.{Ends};
 ghost use Rattle.geo_terms.specs.Report.{same_ends};
 ghost use Rattle.geo_terms.specs.declared.place.Said.{Said};
 ghost use Rattle.indexmap.specs.IndexMap.{get};
-ghost use Rattle.csv_lines.specs.Repeats.{Rises, fate, fault_by, is_kept_by, kept, merged, repeat_faults, same_said};
+ghost use Rattle.csv_lines.specs.Repeats.{Rises, fate, fault_by, is_kept_by, kept, merged};
+ghost use Rattle.csv_lines.specs.Repeats.{repeat_faults, same_said};
 ghost use Rattle.csv_lines.specs.Seen.{IsBelow, fate_by, shown, with_row};
 ghost use Rattle.csv_lines.specs.declared.fate.Fate.{Fate};
 
@@ -115,8 +117,10 @@ pub fn judge<T: Accepted + Drop>(
     rules: RepeatRules,
 ) -> Result<Judged<T>, Memory>
     requires { Rises 0 (map T.line rows.items) }
-    ensures rows { IfOk result (λ judged. judged.rows.items ≡ kept T.line T.range T.said rows.items) }
-    ensures faults { IfOk result (λ judged. judged.faults.items ≡ merged (repeat_faults T.line T.range T.said rules rows.items) faults.items) }
+    ensures rows { IfOk result
+        (λ judged. judged.rows.items ≡ kept T.line T.range T.said rows.items) }
+    ensures faults { IfOk result (λ judged. judged.faults.items
+        ≡ merged (repeat_faults T.line T.range T.said rules rows.items) faults.items) }
 {
     if rises(rows.as_slice()) {
         return Ok(Judged { rows, faults });
@@ -167,7 +171,8 @@ fn is_below(one: Range, other: Range) -> bool
 // What becomes of each line.
 fn fates<T: Accepted>(alloc: Global, rows: &[T]) -> Result<Vec<Fate>, Memory>
     requires { Rises 0 (map T.line rows.now) }
-    ensures { IfOk result (λ fates. fates.items ≡ map (fate T.line T.range T.said rows.now) rows.now) }
+    ensures { IfOk result
+        (λ fates. fates.items ≡ map (fate T.line T.range T.said rows.now) rows.now) }
 {
     let seen = seen_in(alloc, rows)?;
     let mut fates = Vec::with_capacity(alloc, rows.len())?;
@@ -195,7 +200,8 @@ impl<'a> Model for Seen<'a> {
 
 // What the lines show, by their ranges.
 fn seen_in<T: Accepted>(alloc: Global, rows: &[T]) -> Result<IndexMap<Range, Seen<'_>>, Memory>
-    ensures { IfOk result (λ seen. (k : Ends) → get same_ends seen k ≡ shown T.line T.range T.said rows.now k) }
+    ensures { IfOk result
+        (λ seen. (k : Ends) → get same_ends seen k ≡ shown T.line T.range T.said rows.now k) }
 {
     let mut seen: IndexMap<Range, Seen<'_>> = IndexMap::with_capacity(alloc, rows.len())?;
     for row in rows {
@@ -206,7 +212,8 @@ fn seen_in<T: Accepted>(alloc: Global, rows: &[T]) -> Result<IndexMap<Range, See
 
 // Takes one more line.
 fn see<'a, T: Accepted>(seen: &mut IndexMap<Range, Seen<'a>>, row: &'a T) -> Result<(), Memory>
-    ensures { (k : Ends) → OnOk result (get same_ends seen.new k ≡ with_row T.line T.range T.said (get same_ends seen.old k) row.now k) }
+    ensures { (k : Ends) → OnOk result (get same_ends seen.new k
+        ≡ with_row T.line T.range T.said (get same_ends seen.old k) row.now k) }
 {
     let range = row.range();
     if let Some(found) = seen.get_mut(&range) {
@@ -270,7 +277,8 @@ fn repeat_faults<T: Accepted>(
     rules: RepeatRules,
 ) -> Result<Vec<Fault>, Memory>
     requires { length fates.now ≡ length rows.now }
-    ensures { (f : T → Fate) → fates.now ≡ map f rows.now → IfOk result (λ faults. faults.items ≡ filter_map (λ x. fault_by rules (T.line x) (f x)) rows.now) }
+    ensures { (f : T → Fate) → fates.now ≡ map f rows.now → IfOk result
+        (λ faults. faults.items ≡ filter_map (λ x. fault_by rules (T.line x) (f x)) rows.now) }
 {
     let mut faults = Vec::new(alloc);
     for (at, row) in rows.iter().enumerate() {
@@ -307,7 +315,8 @@ fn fault_of(rules: RepeatRules, line: u64, fate: Fate) -> Option<Fault>
 // Leaves the lines that are kept.
 fn keep<T: Drop>(rows: &mut Vec<T>, fates: &[Fate])
     requires { length fates.now ≡ length rows.old.items }
-    ensures { (f : T → Fate) → fates.now ≡ map f rows.old.items → rows.new.items ≡ filter (λ x. is_kept_by (f x)) rows.old.items }
+    ensures { (f : T → Fate) → fates.now ≡ map f rows.old.items
+        → rows.new.items ≡ filter (λ x. is_kept_by (f x)) rows.old.items }
 {
     let mut count = 0;
     for at in 0..fates.len() {

@@ -14,8 +14,8 @@ pub struct Fault {
     pub rule: Rule,
 }
 
-// Two lists of faults in line order as one: before each of the later list stand those of the earlier
-// list that have a lower line.
+// Two lists of faults in line order as one: before each of the later list stand those of the
+// earlier list that have a lower line.
 pub(crate) fn merged(alloc: Global, late: &[Fault], early: &[Fault]) -> Result<Vec<Fault>, Memory>
     ensures { IfOk result (λ all. all.items ≡ merged late.now early.now) }
 {
@@ -35,8 +35,10 @@ fn take_before<'a>(
     line: u64,
     all: &mut Vec<Fault>,
 ) -> Result<&'a [Fault], Memory>
-    ensures taken { OnOk result (all.new.items ≡ all.old.items ++ take_while (is_before line) faults.now) }
-    ensures left { IfOk result (λ left. left.now ≡ drop (prefix_len (is_before line) faults.now) faults.now) }
+    ensures taken { OnOk result
+        (all.new.items ≡ all.old.items ++ take_while (is_before line) faults.now) }
+    ensures left { IfOk result
+        (λ left. left.now ≡ drop (prefix_len (is_before line) faults.now) faults.now) }
 {
     let mut left = faults;
     while let [first, rest @ ..] = left {

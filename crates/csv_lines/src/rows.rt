@@ -1,10 +1,12 @@
 //! The fields of all lines that have any; one `csv` reader reads those with quotes.
-ghost use Rattle.std.specs.Prelude.{◌≡◌, ◌≢◌, [], ◌∷◌, ◌++◌, ◌<◌, ℕ, List, Some, IfOk, OnOk, option_map};
+ghost use Rattle.std.specs.Prelude.{◌≡◌, ◌≢◌, [], ◌∷◌, ◌++◌, ◌<◌, ℕ, List, Some, IfOk, OnOk};
+ghost use Rattle.std.specs.Prelude.{option_map};
 ghost use Rattle.geo_addr.specs.Lines.{numbered_lines};
 ghost use Rattle.csv.specs.Records.{field_at, fields_of};
 ghost use Rattle.csv_lines.specs.Clean.{AreTexts};
 ghost use Rattle.csv_lines.specs.Fields.{values_of};
-ghost use Rattle.csv_lines.specs.Rests.{CanRead, Stands, all_handed, column, content_of, handed, handed_text, rest_of, row_of, said_in};
+ghost use Rattle.csv_lines.specs.Rests.{CanRead, Stands, all_handed, column, content_of, handed};
+ghost use Rattle.csv_lines.specs.Rests.{handed_text, rest_of, row_of, said_in};
 ghost use Rattle.csv_lines.specs.declared.rest.Content.{Content};
 
 use crate::bare::{cut_row, is_unquoted};
@@ -74,9 +76,12 @@ pub fn next_row(
 ) -> Result<Content, Memory>
     requires { CanRead (λ s. Some s.now) reader.old line.now }
     ensures content { IfOk result (λ content. content ≡ content_of (rest_of line.now)) }
-    ensures row { IfOk result (λ content. content ≡ Content.Fields → fields_of row.new ≡ row_of (rest_of line.now)) }
-    ensures texts { IfOk result (λ content. content ≡ Content.Fields → AreTexts (fields_of row.new)) }
-    ensures stands { (left : List ℕ) → Stands (λ s. Some s.now) reader.old (handed line.now ++ left) → OnOk result (Stands (λ s. Some s.now) reader.new left) }
+    ensures row { IfOk result
+        (λ content. content ≡ Content.Fields → fields_of row.new ≡ row_of (rest_of line.now)) }
+    ensures texts { IfOk result
+        (λ content. content ≡ Content.Fields → AreTexts (fields_of row.new)) }
+    ensures stands { (left : List ℕ) → Stands (λ s. Some s.now) reader.old (handed line.now ++ left)
+        → OnOk result (Stands (λ s. Some s.now) reader.new left) }
 {
     let rest = rest_of(line);
     let content = content_of(rest);
@@ -91,7 +96,9 @@ pub fn next_row(
 
 // Takes the fields of a text that has them: without quotes they are its pieces, else the next row.
 fn take_row(reader: &mut Reader<&[u8]>, text: &[u8], row: &mut ByteRecord) -> Result<(), Memory>
-    ensures { (left : List ℕ) → (values : List (List ℕ)) → text.now ≢ [] → values_of text.now ≡ Some values → Stands (λ s. Some s.now) reader.old (handed_text text.now ++ left)
+    ensures { (left : List ℕ)
+        → (values : List (List ℕ)) → text.now ≢ [] → values_of text.now ≡ Some values
+        → Stands (λ s. Some s.now) reader.old (handed_text text.now ++ left)
         → OnOk result ((fields_of row.new ≡ values) × Stands (λ s. Some s.now) reader.new left) }
 {
     if is_unquoted(text) {
@@ -103,7 +110,8 @@ fn take_row(reader: &mut Reader<&[u8]>, text: &[u8], row: &mut ByteRecord) -> Re
 
 // Reads the next row.
 fn read_row(reader: &mut Reader<&[u8]>, row: &mut ByteRecord) -> Result<(), Memory>
-    ensures { (text left : List ℕ) → (values : List (List ℕ)) → text ≢ [] → values_of text ≡ Some values → Stands (λ s. Some s.now) reader.old (text ++ (10 ∷ left))
+    ensures { (text left : List ℕ) → (values : List (List ℕ)) → text ≢ []
+        → values_of text ≡ Some values → Stands (λ s. Some s.now) reader.old (text ++ (10 ∷ left))
         → OnOk result ((fields_of row.new ≡ values) × Stands (λ s. Some s.now) reader.new left) }
 {
     match reader.read_byte_record(row) {
@@ -139,8 +147,8 @@ pub fn column<R: Row>(row: &R, place: usize) -> &[u8]
     }
 }
 
-/// What four fields from a place on say of a location, or the first of their faults: country, region,
-/// city and postal code.
+/// What four fields from a place on say of a location, or the first of their faults: country,
+/// region, city and postal code.
 #[tactic(auto, using(crate::proofs::RestLemmas::fault_told))]
 pub fn said_in<R: Row>(
     texts: &mut Texts,

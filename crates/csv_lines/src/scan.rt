@@ -69,7 +69,8 @@ fn may_end(spot: Spot) -> bool
 // Where the text stands after one more byte, unless it cannot go on with that byte.
 #[tactic(auto, using(crate::proofs::ScanLemmas::ends_line, crate::proofs::ScanLemmas::start_quote, crate::proofs::ScanLemmas::start_comma, crate::proofs::ScanLemmas::start_other, crate::proofs::ScanLemmas::inside_quote, crate::proofs::ScanLemmas::inside_comma, crate::proofs::ScanLemmas::inside_other, crate::proofs::ScanLemmas::within_quote, crate::proofs::ScanLemmas::within_other, crate::proofs::ScanLemmas::closed_quote, crate::proofs::ScanLemmas::closed_comma, crate::proofs::ScanLemmas::closed_other))]
 fn next_spot(spot: Spot, byte: u8) -> Option<Spot>
-    ensures { MatchOption result ((left : List ℕ) → passes spot (byte ∷ left) ≡ false) (λ next. (left : List ℕ) → passes spot (byte ∷ left) ≡ passes next left) }
+    ensures { MatchOption result ((left : List ℕ) → passes spot (byte ∷ left) ≡ false)
+        (λ next. (left : List ℕ) → passes spot (byte ∷ left) ≡ passes next left) }
 {
     if byte == b'\n' || byte == b'\r' {
         return None;

@@ -14,4 +14,6 @@ pub record AreCutsOf (ranges : List Ends) (places : List ℕ) : Type 0 where
 
 -- the cut points of a list of ranges that lie inside one of several bounds
 abbrev pub AreCutsInside : List Ends → List Ends → List ℕ → Type 0
-AreCutsInside ranges bounds places = (c : ℕ) → Contains places c ↔ ((IsCut ranges c × IsWithin whole c) × Any (λ r. IsWithin r c) bounds)
+AreCutsInside ranges bounds places =
+    (c : ℕ)
+    → Contains places c ↔ ((IsCut ranges c × IsWithin whole c) × Any (λ r. IsWithin r c) bounds)

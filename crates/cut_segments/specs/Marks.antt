@@ -1,5 +1,7 @@
--- How segments are found: the marks of touched grounds and of cut points in ascending order, and one pass over them.
-use Rattle.std.specs.Prelude.{ℕ, ◌+◌, ◌-◌, nat_le, nat_lt, if◌then◌else◌, max, min, List, [], ◌∷◌, ◌++◌, map, Option, Some, None}
+-- How segments are found: the marks of touched grounds and of cut points in ascending order,
+-- and one pass over them.
+use Rattle.std.specs.Prelude.{ℕ, ◌+◌, ◌-◌, nat_le, nat_lt, if◌then◌else◌, max, min, List, [], ◌∷◌}
+use Rattle.std.specs.Prelude.{◌++◌, map, Option, Some, None}
 use Rattle.geo_addr.specs.Ranges.{Ends, ground_first}
 use Rattle.cut_segments.specs.declared.segments.Mark.{Mark}
 
@@ -19,7 +21,8 @@ abbrev pub past_of : Option ℕ → ℕ
 past_of None = 0
 past_of (Some last) = last + 1
 
--- the first place that is no longer of the piece: past all that was touched, or where the next mark stands
+-- the first place that is no longer of the piece: past all that was touched,
+-- or where the next mark stands
 abbrev pub stop_at : ℕ → Option ℕ → ℕ
 stop_at past None = past
 stop_at past (Some next) = min past next
@@ -28,7 +31,8 @@ stop_at past (Some next) = min past next
 abbrev pub from_ground : Ends → (List ℕ → List Mark) → List ℕ → List Mark
 from_ground r rest [] = ground_mark r ∷ rest []
 from_ground r rest (c ∷ cs) =
-    if nat_le (ground_first r) c then ground_mark r ∷ rest (c ∷ cs) else cut_mark c ∷ from_ground r rest cs
+    if nat_le (ground_first r) c then ground_mark r ∷ rest (c ∷ cs)
+    else cut_mark c ∷ from_ground r rest cs
 
 -- the marks of grounds and of cut points that ascend, in order
 abbrev pub merged : List Ends → List ℕ → List Mark

@@ -4,7 +4,8 @@ use Rattle.std.specs.List.{AllAdjacentBelow}
 use Rattle.geo_addr.specs.Ranges.{Ends, IsRange, IsWithin}
 use Rattle.source_changes.specs.Touched.{is_touched}
 
--- ascending ranges that have the touched addresses and no others, with no cut point above the first address of one
+-- ascending ranges that have the touched addresses and no others,
+-- with no cut point above the first address of one
 pub record AreSegments (touched : List Ends) (cuts : List ℕ) (out : List Ends) : Type 0 where
   pub ranges : All IsRange out
   pub apart : AllAdjacentBelow (λ r s. r.last < s.first) out (length out)

@@ -1,5 +1,6 @@
 //! The cut points of a source that lie inside given ranges, by halving.
-ghost use Rattle.std.specs.Prelude.{◌≡◌, ◌↔◌, ◌⊎◌, ◌&&◌, ◌++◌, ◌∷◌, ◌<◌, [], ℕ, if◌then◌else◌, All, Any, Contains, length, nat_le, OnOk};
+ghost use Rattle.std.specs.Prelude.{◌≡◌, ◌↔◌, ◌⊎◌, ◌&&◌, ◌++◌, ◌∷◌, ◌<◌, [], ℕ, if◌then◌else◌, All};
+ghost use Rattle.std.specs.Prelude.{Any, Contains, length, nat_le, OnOk};
 ghost use Rattle.std.specs.List.{AllAdjacentBelow, list_any};
 ghost use Rattle.std.specs.List.Sorted.{IsStrictlyIncreasing};
 ghost use Rattle.geo_addr.specs.Ranges.{IsRange, IsWithin};
@@ -13,7 +14,8 @@ pub fn push_inside(found: &mut Vec<u128>, places: &[u128], ranges: &[Range]) -> 
     requires ascending { IsStrictlyIncreasing places.now }
     requires ranges { All IsRange ranges.now }
     requires apart { AllAdjacentBelow (λ r t. r.last < t.first) ranges.now (length ranges.now) }
-    ensures { OnOk result ((c : ℕ) → Contains found.new.items c ↔ (Contains found.old.items c ⊎ (Contains places.now c × Any (λ r. IsWithin r c) ranges.now))) }
+    ensures { OnOk result ((c : ℕ) → Contains found.new.items c ↔ (Contains found.old.items c
+        ⊎ (Contains places.now c × Any (λ r. IsWithin r c) ranges.now))) }
 {
     if ranges.len() < places.len() {
         push_by_range(found, places, ranges)
@@ -24,7 +26,8 @@ pub fn push_inside(found: &mut Vec<u128>, places: &[u128], ranges: &[Range]) -> 
 
 fn push_by_range(found: &mut Vec<u128>, places: &[u128], ranges: &[Range]) -> Result<(), Memory>
     requires { IsStrictlyIncreasing places.now }
-    ensures { OnOk result ((c : ℕ) → Contains found.new.items c ↔ (Contains found.old.items c ⊎ (Contains places.now c × Any (λ r. IsWithin r c) ranges.now))) }
+    ensures { OnOk result ((c : ℕ) → Contains found.new.items c ↔ (Contains found.old.items c
+        ⊎ (Contains places.now c × Any (λ r. IsWithin r c) ranges.now))) }
 {
     for range in ranges {
         found.extend_from_slice(part_inside(places, *range))?;
@@ -47,7 +50,8 @@ fn part_inside(places: &[u128], range: Range) -> &[u128]
 fn push_by_place(found: &mut Vec<u128>, places: &[u128], ranges: &[Range]) -> Result<(), Memory>
     requires ranges { All IsRange ranges.now }
     requires apart { AllAdjacentBelow (λ r t. r.last < t.first) ranges.now (length ranges.now) }
-    ensures { OnOk result ((c : ℕ) → Contains found.new.items c ↔ (Contains found.old.items c ⊎ (Contains places.now c × Any (λ r. IsWithin r c) ranges.now))) }
+    ensures { OnOk result ((c : ℕ) → Contains found.new.items c ↔ (Contains found.old.items c
+        ⊎ (Contains places.now c × Any (λ r. IsWithin r c) ranges.now))) }
 {
     for place in places {
         push_if(found, *place, is_inside(ranges, *place))?;
@@ -56,7 +60,8 @@ fn push_by_place(found: &mut Vec<u128>, places: &[u128], ranges: &[Range]) -> Re
 }
 
 fn push_if(found: &mut Vec<u128>, place: u128, is_inside: bool) -> Result<(), Memory>
-    ensures { OnOk result (found.new.items ≡ found.old.items ++ (if is_inside then place ∷ [] else [])) }
+    ensures { OnOk result
+        (found.new.items ≡ found.old.items ++ (if is_inside then place ∷ [] else [])) }
 {
     if is_inside {
         found.push(place)?;

@@ -1,9 +1,11 @@
-ghost use Rattle.std.specs.Prelude.{◌≡◌, ◌∷◌, ◌+◌, ◌<◌, ◌≤◌, [], All, IfOk, IfSome, IsSome, IsTrue, MatchOption, length, max};
+ghost use Rattle.std.specs.Prelude.{◌≡◌, ◌∷◌, ◌+◌, ◌<◌, ◌≤◌, [], All, IfOk, IfSome, IsSome, IsTrue};
+ghost use Rattle.std.specs.Prelude.{MatchOption, length, max};
 ghost use Rattle.std.specs.List.{AllAdjacentBelow};
 ghost use Rattle.std.specs.List.Sorted.{IsNonDecreasing};
 ghost use Rattle.std.specs.Option.{option_to_list};
 ghost use Rattle.geo_addr.specs.Ranges.{IsRange, ground_first};
-ghost use Rattle.cut_segments.specs.Marks.{ground_mark, cut_mark, merged, next_place, past_of, piece, stop_at, sweep};
+ghost use Rattle.cut_segments.specs.Marks.{ground_mark, cut_mark, merged, next_place, past_of};
+ghost use Rattle.cut_segments.specs.Marks.{piece, stop_at, sweep};
 ghost use Rattle.cut_segments.specs.Segments.{AreSegments};
 
 use geo_addr::{Memory, Range};
@@ -54,7 +56,8 @@ pub fn segments_between(
 
 // Whether each ground begins where the one before it does, or behind that.
 fn are_in_order(grounds: &[Range]) -> bool
-    ensures { IsTrue result → AllAdjacentBelow (λ r t. ground_first r ≤ ground_first t) grounds.now (length grounds.now) }
+    ensures { IsTrue result → AllAdjacentBelow (λ r t. ground_first r ≤ ground_first t) grounds.now
+        (length grounds.now) }
 {
     for i in 1..grounds.len() {
         if grounds[i].ground_first() < grounds[i - 1].ground_first() {
@@ -102,8 +105,10 @@ fn sweep(alloc: Global, grounds: &[Range], places: &[u128]) -> Result<Vec<Range>
 
 // Takes the first mark of those that are left.
 fn take_mark(grounds: &mut &[Range], places: &mut &[u128]) -> Option<Mark>
-    ensures first { MatchOption result (merged grounds.old.now places.old.now ≡ []) (λ mark. merged grounds.old.now places.old.now ≡ mark ∷ merged grounds.new.now places.new.now) }
-    ensures fewer { IsSome result → length grounds.new.now + length places.new.now < length grounds.old.now + length places.old.now }
+    ensures first { MatchOption result (merged grounds.old.now places.old.now ≡ []) (λ mark.
+        merged grounds.old.now places.old.now ≡ mark ∷ merged grounds.new.now places.new.now) }
+    ensures fewer { IsSome result → length grounds.new.now + length places.new.now
+        < length grounds.old.now + length places.old.now }
 {
     match (grounds.split_first(), places.split_first()) {
         (Some((range, later)), None) => {

@@ -1,5 +1,6 @@
 -- Why an address has its record, in seven lines.
-use Rattle.std.specs.Prelude.{ℕ, ◌+◌, List, [], ◌∷◌, ◌++◌, flat_map, codes, decimal, option_map, Option, Some, None}
+use Rattle.std.specs.Prelude.{ℕ, ◌+◌, List, [], ◌∷◌, ◌++◌, flat_map, codes, decimal, option_map}
+use Rattle.std.specs.Prelude.{Option, Some, None}
 use Rattle.geo_addr.specs.Printing.{address_text, block_text, range_text}
 use Rattle.geo_addr.specs.Ranges.{Ends}
 use Rattle.split_core.specs.Walk.{blocks_of}
@@ -34,11 +35,13 @@ entry_word (At place) = codes "at"
 
 -- the line of the override, its range, and whether it sets a place
 abbrev pub override_words : Override → List ℕ
-override_words o = then (decimal o.line) ++ (then (range_text o.range) ++ then (override_word o.said))
+override_words o =
+    then (decimal o.line) ++ (then (range_text o.range) ++ then (override_word o.said))
 
 -- the dump of the speaker, the line of its reference, its range and its feed's URL
 abbrev pub speaker_words : Reference → List ℕ
-speaker_words r = then r.slot ++ (then (decimal r.line) ++ (then (range_text r.range) ++ then r.url))
+speaker_words r =
+    then r.slot ++ (then (decimal r.line) ++ (then (range_text r.range) ++ then r.url))
 
 -- the line of the entry, its block, and whether it says a place
 abbrev pub entry_words : Entry → List ℕ
@@ -46,7 +49,8 @@ entry_words e = then (decimal e.line) ++ (then (block_text e.block) ++ then (ent
 
 -- the statistics file of the delegation, its line, its range and its country
 abbrev pub delegation_words : DelegationParts → List ℕ
-delegation_words d = then d.slot ++ (then (decimal d.line) ++ (then (range_text d.range) ++ then d.place.country))
+delegation_words d =
+    then d.slot ++ (then (decimal d.line) ++ (then (range_text d.range) ++ then d.place.country))
 
 -- the fewest blocks that make a range
 unfoldable pub prefix_words : Ends → List ℕ
@@ -80,5 +84,7 @@ record_line place = line (codes "record") (option_map record_words place)
 -- the address, and why it has its record
 unfoldable pub explanation : ℕ → Reasons → List ℕ
 explanation at why =
-    codes "address " ++ (address_text at ++ (10 ∷ (override_line why.over ++ (speaker_line why.speaker ++ (entry_line why.entry
-    ++ (delegation_line why.delegation ++ (prefixes_line why.delegation ++ record_line why.place)))))))
+    codes "address " ++ (address_text at
+    ++ (10 ∷ (override_line why.over ++ (speaker_line why.speaker ++ (entry_line why.entry
+    ++ (delegation_line why.delegation
+    ++ (prefixes_line why.delegation ++ record_line why.place)))))))

@@ -5,7 +5,9 @@ ghost use Rattle.geo_addr.specs.Printing.{block_text};
 ghost use Rattle.split_core.specs.Walk.{blocks_of};
 ghost use Rattle.mmdb_file.specs.PlaceValue.{place_value};
 ghost use Rattle.json_values.specs.Json.{json};
-ghost use Rattle.explained.specs.Explanation.{delegation_line, entry_line, entry_word, override_line, override_word, prefix_words, prefixes_line, record_line, speaker_line};
+ghost use Rattle.explained.specs.Explanation.{delegation_line, entry_line, entry_word};
+ghost use Rattle.explained.specs.Explanation.{override_line, override_word, prefix_words};
+ghost use Rattle.explained.specs.Explanation.{prefixes_line, record_line, speaker_line};
 
 use geo_addr::{Memory, Range, Text, block_text, range_text};
 use geo_terms::{Delegation, Entry, Override, Place, Reference, Said};
@@ -41,7 +43,8 @@ fn override_word(said: &Said) -> &'static str
 
 #[tactic(auto, unfolding(crate::specs::Explanation::speaker_line))]
 pub(crate) fn speaker_line(alloc: Global, reference: Option<&Reference>) -> Result<String, Memory>
-    ensures { IfOk result (λ text. string_bytes text ≡ speaker_line (option_copied reference.entry)) }
+    ensures { IfOk result
+        (λ text. string_bytes text ≡ speaker_line (option_copied reference.entry)) }
 {
     let Some(reference) = reference else {
         let text = String::from_str(alloc, "speaker none\n")?;

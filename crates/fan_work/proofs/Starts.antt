@@ -5,7 +5,8 @@ use Rattle.std.proofs.Math.Nat.{div-mul-le_self, mul-div_cancel_left}
 use Rattle.fan_work.specs.Pieces.{piece_start}
 
 -- a later piece begins no earlier
-pub starts_ascend : (pieces count i j : ℕ) → 0 < pieces → i ≤ j → piece_start pieces count i ≤ piece_start pieces count j
+pub starts_ascend : (pieces count i j : ℕ) → 0 < pieces → i ≤ j
+    → piece_start pieces count i ≤ piece_start pieces count j
 unfolding piece_start
 starts_ascend pieces count i j some order =
     let below : i * count ≤ j * count = grind arith in

@@ -7,4 +7,5 @@ use Rattle.fan_work.specs.declared.part.Part.{Part}
 pub record IsPart (part : Part) (items : ℕ) : Type 0 where
   pub some : part.from < part.to
   pub within : part.to ≤ part.pieces
-  pub held : piece_start part.pieces part.count part.from + items ≡ piece_start part.pieces part.count part.to
+  pub held : piece_start part.pieces part.count part.from + items
+      ≡ piece_start part.pieces part.count part.to

@@ -1,4 +1,5 @@
-//! A map over a list whose pieces run side by side, with results that do not tell how many pieces there were.
+//! A map over a list whose pieces run side by side, with results that do not
+//! tell how many pieces there were.
 #![tactic(auto)]
 
 mod forks;

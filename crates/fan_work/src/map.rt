@@ -14,10 +14,10 @@ use std::alloc::Global;
 use std::marker::{Send, Sync};
 use std::thread::{Threads, join};
 
-/// The result of the work for each item, in the items' order. The items are cut into 1 to 64 pieces of equal
-/// numbers of items as far as may be: piece j has the items from `j * n / pieces` up to but not including
-/// `(j + 1) * n / pieces`, of n. Each piece that has items enters the gate before its first one, and runs on a
-/// thread of its own where one can be had.
+/// The result of the work for each item, in the items' order. The items are cut into 1 to 64 pieces
+/// of equal numbers of items as far as may be: piece j has the items from `j * n / pieces` up to
+/// but not including `(j + 1) * n / pieces`, of n. Each piece that has items enters the gate before
+/// its first one, and runs on a thread of its own where one can be had.
 pub fn map_pieces<R: Threads + Sync, A: Sync, B: Send + Drop, W: Work<A, B>, G: Gate>(
     forks: &Forks<R, G>,
     items: &[A],

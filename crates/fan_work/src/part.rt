@@ -3,8 +3,8 @@ ghost use Rattle.std.specs.Prelude.{◌≡◌, ◌+◌, ◌-◌, ◌≤◌, ◌<
 ghost use Rattle.fan_work.specs.Parts.{IsPart};
 ghost use Rattle.fan_work.specs.Pieces.{piece_start};
 
-/// Neighbouring pieces: those from `from` up to but not including `to`, where so many items are cut into so
-/// many pieces.
+/// Neighbouring pieces: those from `from` up to but not including `to`, where so many items are cut
+/// into so many pieces.
 #[derive(Clone, Copy)]
 pub(crate) struct Part {
     pub pieces: u32,

@@ -5,8 +5,8 @@ use geo_addr::Memory;
 use std::alloc::Global;
 use std::marker::Sync;
 
-/// Work that is done for each item of a list, on any thread. Its meaning is the relation between an item and
-/// a result: what is done for an item is related to it.
+/// Work that is done for each item of a list, on any thread. Its meaning is the relation between an
+/// item and a result: what is done for an item is related to it.
 pub trait Work<A, B>: Sync {
     ghost related: { Self → A → B → Type 0 };
 

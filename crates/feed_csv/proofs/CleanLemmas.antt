@@ -18,12 +18,14 @@ use Rattle.csv_lines.specs.declared.rest.Content.TheVariants.{Blank, NotText, No
 use Rattle.csv_lines.proofs.CleanLemmas.{places_are_clean}
 use Rattle.csv_lines.proofs.OrderLemmas.{all_members, kept_from, member_filter}
 use Rattle.csv_lines.proofs.TextLemmas.{fields_are_texts}
-use Rattle.feed_csv.specs.File.{AreClean, accepted, entries, entry_by, entry_line, entry_of, entry_range, entry_said}
+use Rattle.feed_csv.specs.File.{AreClean, accepted, entries, entry_by, entry_line, entry_of}
+use Rattle.feed_csv.specs.File.{entry_range, entry_said}
 use Rattle.feed_csv.specs.Verdicts.{accepted_at, located_at, verdict, verdict_by}
 use Rattle.feed_csv.specs.declared.verdict.Verdict.TheVariants.{Broken}
 
 accepted_clean : (at : Prefix) (r : Result Said PlaceFault) (n : ℕ) (e : Entry)
-    → ((said : Said) → r ≡ Ok said → IsCleanSaid said) → entry_by n (accepted_at at r) ≡ Some e → IsCleanSaid e.said
+    → ((said : Said) → r ≡ Ok said → IsCleanSaid said) → entry_by n (accepted_at at r) ≡ Some e
+    → IsCleanSaid e.said
 accepted_clean at (Err fault) n e k h = absurd cc
 accepted_clean at (Ok said) n e k h =
     let is : record { line = n; block = at; said = said } ≡ e = cc in
@@ -32,15 +34,19 @@ accepted_clean at (Ok said) n e k h =
 located_clean : (b : Result Prefix BlockFault) (row : List (List ℕ)) (n : ℕ) (e : Entry)
     → AreTexts row → entry_by n (located_at b row) ≡ Some e → IsCleanSaid e.said
 located_clean (Err fault) row n e texts h = absurd cc
-located_clean (Ok at) row n e texts h = accepted_clean at (said_in 1 row) n e (λ said is. places_are_clean 1 row said texts is) h
+located_clean (Ok at) row n e texts h =
+    accepted_clean at (said_in 1 row) n e (λ said is. places_are_clean 1 row said texts is) h
 
 row_clean : (x : Bool) (row : List (List ℕ)) (n : ℕ) (e : Entry)
-    → AreTexts row → entry_by n (cond x (Broken F03) (located_at (block_in (column 0 row)) row)) ≡ Some e → IsCleanSaid e.said
+    → AreTexts row
+    → entry_by n (cond x (Broken F03) (located_at (block_in (column 0 row)) row)) ≡ Some e
+    → IsCleanSaid e.said
 row_clean true row n e texts h = absurd cc
 row_clean false row n e texts h = located_clean (block_in (column 0 row)) row n e texts h
 
 content_clean : (c : Content) (line : List ℕ) (n : ℕ) (e : Entry)
-    → content_of (rest_of line) ≡ c → entry_by n (verdict_by c (row_of (rest_of line))) ≡ Some e → IsCleanSaid e.said
+    → content_of (rest_of line) ≡ c → entry_by n (verdict_by c (row_of (rest_of line))) ≡ Some e
+    → IsCleanSaid e.said
 content_clean Blank line n e is h = absurd cc
 content_clean NotText line n e is h = absurd cc
 content_clean NoFields line n e is h = absurd cc
@@ -55,6 +61,7 @@ entry_clean p e h = content_clean (content_of (rest_of p.1)) p.1 p.0 e refl h
 pub entries_clean : (file : List ℕ) → AreClean (entries file)
 entries_clean file = all_members (λ e. IsCleanSaid e.said) (entries file) (λ e m.
     let all = accepted file in
-    let (in_all, speaks) = member_filter (λ x. is_kept_by (fate entry_line entry_range entry_said all x)) all e m in
+    let (in_all, speaks) =
+    member_filter (λ x. is_kept_by (fate entry_line entry_range entry_said all x)) all e m in
     let (p, p_in, p_is) = kept_from entry_of (numbered_lines file) e in_all in
     entry_clean p e p_is)

@@ -59,10 +59,13 @@ repeat_rules = record { repeats = F07; differs = F08 }
 abbrev pub fault_among : List Entry → ℕ → Verdict → Option Fault
 fault_among all line Silent = None
 fault_among all line (Broken rule) = Some (record { line = line; rule = rule })
-fault_among all line (Accepted block said) = fault_by repeat_rules line (fate entry_line entry_range entry_said all (record { line = line; block = block; said = said }))
+fault_among all line (Accepted block said) =
+    fault_by repeat_rules line (fate entry_line entry_range entry_said all
+    (record { line = line; block = block; said = said }))
 
 abbrev pub faults : List ℕ → List Fault
-faults file = filter_map (λ line. fault_among (accepted file) line.0 (verdict line.1)) (numbered_lines file)
+faults file =
+    filter_map (λ line. fault_among (accepted file) line.0 (verdict line.1)) (numbered_lines file)
 
 abbrev pub note_of : List ℕ → Fault → Note
 note_of url fault = record { origin = Feed url; line = fault.line; rule = fault.rule }

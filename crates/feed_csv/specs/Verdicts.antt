@@ -16,7 +16,8 @@ use Rattle.csv_lines.specs.declared.rest.Content.TheVariants.{Blank, NotText, No
 use Rattle.feed_csv.specs.declared.verdict.Verdict.{Verdict}
 use Rattle.feed_csv.specs.declared.verdict.Verdict.TheVariants.{Silent, Broken, Accepted}
 
--- the rule that a first field breaks which is no prefix: an IPv6 prefix in the IPv4 space has its own
+-- the rule that a first field breaks which is no prefix: an IPv6
+-- prefix in the IPv4 space has its own
 abbrev pub block_rule : BlockFault → Rule
 block_rule block.Address = F04
 block_rule block.Length = F04
@@ -39,9 +40,11 @@ abbrev pub located_at : Result Prefix BlockFault → List (List ℕ) → Verdict
 located_at (Err fault) row = Broken (block_rule fault)
 located_at (Ok at) row = accepted_at at (said_in 1 row)
 
--- what fields say: prefix, country, region, city and postal code; the first rule that they break, else an entry
+-- what fields say: prefix, country, region, city and postal code;
+-- the first rule that they break, else an entry
 abbrev pub row_verdict : List (List ℕ) → Verdict
-row_verdict row = if is_empty (column 0 row) then Broken F03 else located_at (block_in (column 0 row)) row
+row_verdict row =
+    if is_empty (column 0 row) then Broken F03 else located_at (block_in (column 0 row)) row
 
 abbrev pub verdict_by : Content → List (List ℕ) → Verdict
 verdict_by Blank row = Silent

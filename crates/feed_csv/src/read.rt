@@ -1,7 +1,9 @@
 //! A feed.
-ghost use Rattle.std.specs.Prelude.{◌≡◌, ◌≢◌, ◌<◌, ◌≤◌, ◌↔◌, ◌++◌, ℕ, [], List, Some, length, map, IfOk, IsSome, OnOk, option_to_list};
+ghost use Rattle.std.specs.Prelude.{◌≡◌, ◌≢◌, ◌<◌, ◌≤◌, ◌↔◌, ◌++◌, ℕ, [], List, Some, length, map};
+ghost use Rattle.std.specs.Prelude.{IfOk, IsSome, OnOk, option_to_list};
 ghost use Rattle.csv_lines.specs.Rests.{CanRead, Stands, handed};
-ghost use Rattle.feed_csv.specs.File.{AreClean, accepted, refused, entry_of, fault_of, feed, longest, most, note_of};
+ghost use Rattle.feed_csv.specs.File.{AreClean, accepted, refused, entry_of, fault_of, feed};
+ghost use Rattle.feed_csv.specs.File.{longest, most, note_of};
 
 use crate::verdict::{Verdict, read_line};
 use csv::{ByteRecord, Reader};
@@ -16,8 +18,8 @@ const LONGEST: usize = 67_108_864;
 /// The most lines that pass the line rules.
 const MOST: usize = 2_097_152;
 
-/// For each so many bytes of a file room for one entry is taken ahead; few files have shorter lines on
-/// the average.
+/// For each so many bytes of a file room for one entry is taken ahead; few files have shorter lines
+/// on the average.
 const SHORT_LINE: usize = 16;
 
 /// Reads a geofeed (RFC 8805): the entries and the notes of its lines.
@@ -94,11 +96,17 @@ fn with_room(alloc: Global, bytes: &[u8]) -> Result<Vec<Entry>, Memory>
 fn take_line(line: Line, reader: &mut Reader<&[u8]>, found: &mut Found) -> Result<(), SourceFault>
     requires few { length found.old.entries.items ≤ most }
     requires reads { CanRead (λ s. Some s.now) reader.old line.text.now }
-    ensures entries { OnOk result (found.new.entries.items ≡ found.old.entries.items ++ option_to_list (entry_of (line.entry.number, line.entry.text.now))) }
-    ensures faults { OnOk result (found.new.faults.items ≡ found.old.faults.items ++ option_to_list (fault_of (line.entry.number, line.entry.text.now))) }
+    ensures entries { OnOk result (found.new.entries.items ≡ found.old.entries.items
+        ++ option_to_list (entry_of (line.entry.number, line.entry.text.now))) }
+    ensures faults { OnOk result (found.new.faults.items ≡ found.old.faults.items
+        ++ option_to_list (fault_of (line.entry.number, line.entry.text.now))) }
     ensures within { OnOk result (length found.new.entries.items ≤ most) }
-    ensures stands { (left : List ℕ) → Stands (λ s. Some s.now) reader.old (handed line.entry.text.now ++ left) → OnOk result (Stands (λ s. Some s.now) reader.new left) }
-    ensures too_many { result ≡ Err SourceFault.TooMany → IsSome (entry_of (line.entry.number, line.entry.text.now)) × (length found.old.entries.items ≡ most) }
+    ensures stands { (left : List ℕ)
+        → Stands (λ s. Some s.now) reader.old (handed line.entry.text.now ++ left)
+        → OnOk result (Stands (λ s. Some s.now) reader.new left) }
+    ensures too_many { result ≡ Err SourceFault.TooMany
+        → IsSome (entry_of (line.entry.number, line.entry.text.now))
+        × (length found.old.entries.items ≡ most) }
     ensures too_long { result ≢ Err SourceFault.TooLong }
 {
     match read_line(reader, line.text, &mut found.row, &mut found.texts)? {

@@ -6,7 +6,8 @@ use std::test::Fail;
 
 const MARK: &[u8] = b"\xEF\xBB\xBF";
 
-// What a feed says: the line, the block and the texts of each entry, and the notes as a report prints them.
+// What a feed says: the line, the block and the texts of each entry,
+// and the notes as a report prints them.
 fn shown(alloc: Global, feed: &Feed) -> Result<String, Fail> {
     let mut text = String::new(alloc);
     for entry in feed.entries.as_slice() {

@@ -2,7 +2,8 @@
 ghost use Rattle.std.specs.Prelude.{◌≡◌, ◌++◌, ℕ, List, Some, IfOk, OnOk};
 ghost use Rattle.csv_lines.specs.Clean.{AreTexts};
 ghost use Rattle.csv_lines.specs.Rests.{CanRead, Stands, handed, said_in};
-ghost use Rattle.feed_csv.specs.Verdicts.{accepted_at, block_rule, place_rule, row_verdict, verdict};
+ghost use Rattle.feed_csv.specs.Verdicts.{accepted_at, block_rule, place_rule, row_verdict};
+ghost use Rattle.feed_csv.specs.Verdicts.{verdict};
 
 use csv::{ByteRecord, Reader};
 use csv_lines::{Content, Row, bare_row, column, next_row, said_in};
@@ -27,7 +28,8 @@ pub(crate) fn read_line(
 ) -> Result<Verdict, Memory>
     requires { CanRead (λ s. Some s.now) reader.old line.now }
     ensures verdict { IfOk result (λ found. found ≡ verdict line.now) }
-    ensures stands { (left : List ℕ) → Stands (λ s. Some s.now) reader.old (handed line.now ++ left) → OnOk result (Stands (λ s. Some s.now) reader.new left) }
+    ensures stands { (left : List ℕ) → Stands (λ s. Some s.now) reader.old (handed line.now ++ left)
+        → OnOk result (Stands (λ s. Some s.now) reader.new left) }
 {
     if let Some(bare) = bare_row(line) {
         return row_verdict(texts, &bare);

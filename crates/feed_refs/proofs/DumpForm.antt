@@ -18,12 +18,17 @@ pub in_form : (slot text : List ℕ) → IsDump (dump_parts slot text)
 in_form slot text =
     let f = (text_fits slot text).2 in
     record {
-      slots = All-from_recursion (λ (r : Reference). r.slot ≡ slot) (references slot (objects text)) f.slots;
+      slots =
+          All-from_recursion (λ (r : Reference). r.slot ≡ slot)
+          (references slot (objects text)) f.slots;
       ordered = increasing_from_rises 1 _ f.refs;
       notes = record {
-        origins = All-from_recursion (λ (n : Note). n.origin ≡ Rpsl slot) (in_line_order (noted slot (objects text)))
+        origins =
+            All-from_recursion (λ (n : Note). n.origin ≡ Rpsl slot)
+            (in_line_order (noted slot (objects text)))
             (all_from_each (λ n. n.origin ≡ Rpsl slot) (in_line_order (noted slot (objects text)))
-            (λ m h. each (λ n. n.origin ≡ Rpsl slot) (noted slot (objects text)) f.own m ((has_ordered (noted slot (objects text)) m).0 h)));
+            (λ m h. each (λ n. n.origin ≡ Rpsl slot) (noted slot (objects text)) f.own m
+            ((has_ordered (noted slot (objects text)) m).0 h)));
         ordered = increasing_from_rises 0 _ (ordered_rises (noted slot (objects text)) f.distinct);
       };
     }

@@ -1,5 +1,6 @@
 -- What a call of a reader of a dump leaves, over the text that the reader was fed.
-use Rattle.std.proofs.Common.{◌≡◌, ℕ, ◌+◌, ◌-◌, ◌<◌, ◌≤◌, List, ◌++◌, length, take, Option, Some, None, Result, Ok, Err, sym, ap, subst, arith, ◌∙◌}
+use Rattle.std.proofs.Common.{◌≡◌, ℕ, ◌+◌, ◌-◌, ◌<◌, ◌≤◌, List, ◌++◌, length, take, Option, Some}
+use Rattle.std.proofs.Common.{None, Result, Ok, Err, sym, ap, subst, arith, ◌∙◌}
 use Rattle.std.proofs.lemmas.List.{length-take, take_all}
 use Rattle.geo_terms.specs.SourceForm.{DumpParts, IsDump}
 use Rattle.geo_terms.specs.declared.note.Note.{Note}
@@ -10,10 +11,14 @@ use Rattle.rpsl_reader.specs.Objects.{objects}
 use Rattle.rpsl_reader.specs.Reading.{after, given, last}
 use Rattle.rpsl_reader.specs.Selections.{Wanted, wanted}
 use Rattle.rpsl_reader.specs.declared.item.Item.{Item}
-use Rattle.feed_refs.specs.Dumps.{AreApart, dump, dump_parts, in_line_order, longest, most, noted, references, so_far}
-use Rattle.feed_refs.specs.Readings.{Kept, Reading, WasFed, kept_by, kept_if, kept_of, ours, reading}
+use Rattle.feed_refs.specs.Dumps.{AreApart, dump, dump_parts, in_line_order, longest, most, noted}
+use Rattle.feed_refs.specs.Dumps.{references, so_far}
+use Rattle.feed_refs.specs.Readings.{Kept, Reading, WasFed, kept_by, kept_if, kept_of, ours}
+use Rattle.feed_refs.specs.Readings.{reading}
 use Rattle.feed_refs.proofs.DumpForm.{in_form, notes_apart}
-use Rattle.feed_refs.proofs.ReadingLemmas.{Opened, fault_opened, fault_reading, fault_stays, next_long, next_many, next_ok, next_reading, opened, end_fault, end_many, end_noted, end_ok, end_parts}
+use Rattle.feed_refs.proofs.ReadingLemmas.{Opened, fault_opened, fault_reading, fault_stays}
+use Rattle.feed_refs.proofs.ReadingLemmas.{next_long, next_many, next_ok, next_reading, opened}
+use Rattle.feed_refs.proofs.ReadingLemmas.{end_fault, end_many, end_noted, end_ok, end_parts}
 use Rattle.feed_refs.proofs.WantedLemmas.{noted_wanted, references_wanted}
 
 -- a reading with something kept, and one with a fault
@@ -28,7 +33,8 @@ pub fault_read : (slot : List ℕ) (f : SourceFault) (v : Reading) → faulty sl
     → (text piece : List ℕ) → v ≡ reading v.slot text
     → (v ≡ reading v.slot (text ++ piece)) × (Err f ≡ so_far v.slot (text ++ piece))
 fault_read slot f v is =
-    subst (λ (w : Reading). (text piece : List ℕ) → w ≡ reading w.slot text → (w ≡ reading w.slot (text ++ piece)) × (Err f ≡ so_far w.slot (text ++ piece))) is
+    subst (λ (w : Reading). (text piece : List ℕ) → w ≡ reading w.slot text
+    → (w ≡ reading w.slot (text ++ piece)) × (Err f ≡ so_far w.slot (text ++ piece))) is
     (λ text piece h.
     let now : so_far slot text ≡ Err f =
     fault_opened slot text f (ap (λ (w : Reading). w.kept) h) in
@@ -57,20 +63,32 @@ module _ (slot : List ℕ) (k : Kept) (fault : Option SourceFault) (none : fault
     pub fault_held : WasFed (record { slot = slot; kept = kept_by fault k })
         → WasFed (faulty slot f)
     fault_held was =
-        let w = was_holding was in
-        (w.0 ++ piece, (λ i. record { slot = slot; kept = fault_reading slot (w.0 ++ piece) f (leads w.0 (holds_opened slot k w.0 w.1)) i }))
+        let w = was_holding was in (
+          w.0 ++ piece,
+          (λ i. record {
+            slot = slot;
+            kept = fault_reading slot (w.0 ++ piece) f (leads w.0 (holds_opened slot k w.0 w.1)) i;
+          }),
+        )
 
     pub fault_found : (v : Reading) → record { slot = slot; kept = kept_by fault k } ≡ v
         → (text : List ℕ) → v ≡ reading v.slot text
         → (faulty slot f ≡ reading v.slot (text ++ piece)) × (Err f ≡ so_far v.slot (text ++ piece))
     fault_found v is =
-        subst (λ (w : Reading). (text : List ℕ) → w ≡ reading w.slot text → (faulty slot f ≡ reading w.slot (text ++ piece)) × (Err f ≡ so_far w.slot (text ++ piece))) (is_holding v is)
+        subst (λ (w : Reading). (text : List ℕ) → w ≡ reading w.slot text
+        → (faulty slot f ≡ reading w.slot (text ++ piece))
+        × (Err f ≡ so_far w.slot (text ++ piece))) (is_holding v is)
         (λ text h.
-        let then : so_far slot (text ++ piece) ≡ Err f = leads text (holds_opened slot k text h) in
-        ((λ i. record { slot = slot; kept = fault_reading slot (text ++ piece) f then i }), sym then))
+        let then : so_far slot (text ++ piece) ≡ Err f =
+        leads text (holds_opened slot k text h) in (
+          (λ i. record { slot = slot; kept = fault_reading slot (text ++ piece) f then i }),
+          sym then,
+        ))
 
   -- a piece leads on
-  module _ (piece : List ℕ) (k' : Kept) (leads : (text : List ℕ) → Opened slot text k → (so_far slot (text ++ piece) ≡ Ok tt) × (Ok k' ≡ kept_if (so_far slot (text ++ piece)) (kept_of slot (text ++ piece)))) where
+  module _ (piece : List ℕ) (k' : Kept)
+      (leads : (text : List ℕ) → Opened slot text k → (so_far slot (text ++ piece) ≡ Ok tt)
+      × (Ok k' ≡ kept_if (so_far slot (text ++ piece)) (kept_of slot (text ++ piece)))) where
     on_reading : (text : List ℕ) → Opened slot text k
         → record { slot = slot; kept = kept_by fault k' } ≡ reading slot (text ++ piece)
     on_reading text o =
@@ -85,9 +103,12 @@ module _ (slot : List ℕ) (k : Kept) (fault : Option SourceFault) (none : fault
 
     pub read_on : (v : Reading) → record { slot = slot; kept = kept_by fault k } ≡ v
         → (text : List ℕ) → v ≡ reading v.slot text
-        → (record { slot = slot; kept = kept_by fault k' } ≡ reading v.slot (text ++ piece)) × (Ok tt ≡ so_far v.slot (text ++ piece))
+        → (record { slot = slot; kept = kept_by fault k' } ≡ reading v.slot (text ++ piece))
+        × (Ok tt ≡ so_far v.slot (text ++ piece))
     read_on v is =
-        subst (λ (w : Reading). (text : List ℕ) → w ≡ reading w.slot text → (record { slot = slot; kept = kept_by fault k' } ≡ reading w.slot (text ++ piece)) × (Ok tt ≡ so_far w.slot (text ++ piece))) (is_holding v is)
+        subst (λ (w : Reading). (text : List ℕ) → w ≡ reading w.slot text
+        → (record { slot = slot; kept = kept_by fault k' } ≡ reading w.slot (text ++ piece))
+        × (Ok tt ≡ so_far w.slot (text ++ piece))) (is_holding v is)
         (λ text h. let o = holds_opened slot k text h in (on_reading text o, sym (leads text o).0))
 
 -- what items say, of which those were asked for that matter
@@ -142,7 +163,8 @@ length-cut-le fed piece cut e =
 module _ (slot : List ℕ) (k : Kept) (piece cut : List ℕ) (rs : List Reference)
     (is_cut : cut ≡ take (longest - k.reader.fed) piece)
     (said : rs ≡ references slot (given k.reader.state cut)) where
-  said_count : length rs ≡ length (references slot (given k.reader.state (take (longest - k.reader.fed) piece)))
+  said_count : length rs
+      ≡ length (references slot (given k.reader.state (take (longest - k.reader.fed) piece)))
   said_count = ap length (said ∙ ap (λ t. references slot (given k.reader.state t)) is_cut)
 
   pub leads_many : most < length k.refs + length rs → (text : List ℕ) → Opened slot text k
@@ -151,12 +173,17 @@ module _ (slot : List ℕ) (k : Kept) (piece cut : List ℕ) (rs : List Referenc
 
   pub leads_long : length k.refs + length rs ≤ most → length cut < length piece → (text : List ℕ)
       → Opened slot text k → so_far slot (text ++ piece) ≡ Err TooLong
-  leads_long few lt text o = next_long slot text piece k o (omega (arith, said_count)) (goes_past k.reader.fed piece cut is_cut lt)
+  leads_long few lt text o =
+      next_long slot text piece k o (omega (arith, said_count))
+      (goes_past k.reader.fed piece cut is_cut lt)
 
   pub leads_on : length k.refs + length rs ≤ most → length piece ≤ length cut → (ns : List Note)
       → ns ≡ noted slot (given k.reader.state cut)
-      → (k' : Kept) → k'.reader.fed ≡ k.reader.fed + length cut → k'.reader.state ≡ after k.reader.state cut → k'.refs ≡ k.refs ++ rs → k'.notes ≡ k.notes ++ ns
-      → (text : List ℕ) → Opened slot text k → (so_far slot (text ++ piece) ≡ Ok tt) × (Ok k' ≡ kept_if (so_far slot (text ++ piece)) (kept_of slot (text ++ piece)))
+      → (k' : Kept) → k'.reader.fed ≡ k.reader.fed + length cut
+      → k'.reader.state ≡ after k.reader.state cut → k'.refs ≡ k.refs ++ rs
+      → k'.notes ≡ k.notes ++ ns
+      → (text : List ℕ) → Opened slot text k → (so_far slot (text ++ piece) ≡ Ok tt)
+      × (Ok k' ≡ kept_if (so_far slot (text ++ piece)) (kept_of slot (text ++ piece)))
   leads_on few le ns told k' fed state refs notes text o =
       let whole = is_whole k.reader.fed piece cut (omega (arith, o.fed, o.short)) is_cut le in
       let good = next_ok slot text piece k o (omega (arith, said_count)) whole.0 in (
@@ -164,8 +191,10 @@ module _ (slot : List ℕ) (k : Kept) (piece cut : List ℕ) (rs : List Referenc
         next_reading slot text piece k o k'
             (fed ∙ ap (λ t. k.reader.fed + length t) whole.1)
             (state ∙ ap (λ t. after k.reader.state t) whole.1)
-            (refs ∙ ap (λ t. k.refs ++ t) (said ∙ ap (λ t. references slot (given k.reader.state t)) whole.1))
-            (notes ∙ ap (λ t. k.notes ++ t) (told ∙ ap (λ t. noted slot (given k.reader.state t)) whole.1))
+            (refs ∙ ap (λ t. k.refs ++ t)
+            (said ∙ ap (λ t. references slot (given k.reader.state t)) whole.1))
+            (notes
+            ∙ ap (λ t. k.notes ++ t) (told ∙ ap (λ t. noted slot (given k.reader.state t)) whole.1))
             good,
       )
 
@@ -186,7 +215,8 @@ module _ (slot : List ℕ) (k : Kept) (rs : List Reference)
         → (text : List ℕ) → Opened slot text k → d ≡ dump_parts slot text
     ends_parts d e refs notes text o =
         let is : raw ≡ noted slot (objects text) = told ∙ sym (end_noted slot text k o) in
-        end_parts slot text k o d e (refs ∙ ap (λ t. k.refs ++ t) said) (notes ∙ order (subst AreApart (sym is) (notes_apart slot text)) ∙ ap in_line_order told)
+        end_parts slot text k o d e (refs ∙ ap (λ t. k.refs ++ t) said)
+        (notes ∙ order (subst AreApart (sym is) (notes_apart slot text)) ∙ ap in_line_order told)
 
     pub ends_ok : length k.refs + length rs ≤ most → (d : DumpParts) → d.slot ≡ slot
         → d.refs ≡ k.refs ++ rs → d.notes ≡ sorted → (text : List ℕ) → Opened slot text k
@@ -206,7 +236,9 @@ module _ (slot : List ℕ) (k : Kept) (rs : List Reference)
 -- what is told at the end holds of whatever text was fed
 pub ends_read : (slot : List ℕ) (k : Kept) (fault : Option SourceFault) → fault ≡ None
     → (v : Reading) → record { slot = slot; kept = kept_by fault k } ≡ v
-    → (r : Result DumpParts SourceFault) → ((text : List ℕ) → Opened slot text k → r ≡ dump slot text) → (text : List ℕ) → v ≡ reading v.slot text → r ≡ dump v.slot text
+    → (r : Result DumpParts SourceFault)
+    → ((text : List ℕ) → Opened slot text k → r ≡ dump slot text) → (text : List ℕ)
+    → v ≡ reading v.slot text → r ≡ dump v.slot text
 ends_read slot k fault none v is r told =
     subst (λ (w : Reading). (text : List ℕ) → w ≡ reading w.slot text → r ≡ dump w.slot text)
     (is_holding slot k fault none v is)
@@ -216,4 +248,5 @@ pub fault_dump : (slot : List ℕ) (f : SourceFault) (v : Reading) → faulty sl
     → (text : List ℕ) → v ≡ reading v.slot text → Err f ≡ dump v.slot text
 fault_dump slot f v is =
     subst (λ (w : Reading). (text : List ℕ) → w ≡ reading w.slot text → Err f ≡ dump w.slot text) is
-    (λ text h. sym (end_fault slot text f (fault_opened slot text f (ap (λ (w : Reading). w.kept) h))))
+    (λ text h.
+    sym (end_fault slot text f (fault_opened slot text f (ap (λ (w : Reading). w.kept) h))))

@@ -1,7 +1,10 @@
--- What the objects of a text say stands on its lines: references in order, and notes on lines of their own.
-use Rattle.std.proofs.Common.{◌≡◌, ℕ, ◌+◌, ◌<◌, ◌≤◌, Bool, true, List, [], ◌∷◌, ◌++◌, map, filter, ◌⊎◌, inl, inr, refl, sym, subst, ap, ◌∙◌, arith}
+-- What the objects of a text say stands on its lines: references in order,
+-- and notes on lines of their own.
+use Rattle.std.proofs.Common.{◌≡◌, ℕ, ◌+◌, ◌<◌, ◌≤◌, Bool, true, List, [], ◌∷◌, ◌++◌, map, filter}
+use Rattle.std.proofs.Common.{◌⊎◌, inl, inr, refl, sym, subst, ap, ◌∙◌, arith}
 use Rattle.std.specs.Prelude.{nat_eq, nat_lt, not}
-use Rattle.std.specs.List.{AllByRecursion, IsDistinct, enumerate_from, flat_map, onto_first, slice_split}
+use Rattle.std.specs.List.{AllByRecursion, IsDistinct, enumerate_from, flat_map, onto_first}
+use Rattle.std.specs.List.{slice_split}
 use Rattle.std.proofs.lemmas.Bool.{and_parts, both_ways, cond_both, not-true}
 use Rattle.std.proofs.lemmas.Grind.{flat_map-append}
 use Rattle.std.proofs.lemmas.List.{append-nil, map-append}
@@ -12,15 +15,19 @@ use Rattle.geo_terms.specs.declared.note.Origin.TheVariants.{Rpsl}
 use Rattle.geo_terms.specs.declared.note.Rule.{Rule}
 use Rattle.geo_terms.specs.declared.note.Rule.TheVariants.{P01, P02}
 use Rattle.geo_terms.specs.declared.statement.Reference.{Reference}
-use Rattle.rpsl_reader.specs.Attributes.{Numbered, attribute, attributes, continues, is_attribute, is_comment, is_end, is_stray}
-use Rattle.rpsl_reader.specs.Objects.{group_items, groups, items, longest, objects, size, stray, strays, too_long}
+use Rattle.rpsl_reader.specs.Attributes.{Numbered, attribute, attributes, continues, is_attribute}
+use Rattle.rpsl_reader.specs.Attributes.{is_comment, is_end, is_stray}
+use Rattle.rpsl_reader.specs.Objects.{group_items, groups, items, longest, objects, size, stray}
+use Rattle.rpsl_reader.specs.Objects.{strays, too_long}
 use Rattle.rpsl_reader.specs.declared.item.Item.{Item}
 use Rattle.rpsl_reader.specs.declared.item.Item.TheVariants.{Whole, Passed}
 use Rattle.rpsl_reader.specs.declared.item.Object.{Object}
 use Rattle.feed_refs.specs.Dumps.{noted, notes_of, reference_in, references, references_of}
 use Rattle.feed_refs.specs.References.{found}
 use Rattle.feed_refs.proofs.ObjectLines.{Stands, part_lines, reference_lines, stands}
-use Rattle.feed_refs.proofs.Rising.{In, Rises, distinct-append, distinct_from_rises, in-append, in-lt-past, low-le-in, low-le-past, past, rises-append, rises_from_less}
+use Rattle.feed_refs.proofs.Rising.{In, Rises, distinct-append, distinct_from_rises, in-append}
+use Rattle.feed_refs.proofs.Rising.{in-lt-past, low-le-in, low-le-past, past, rises-append}
+use Rattle.feed_refs.proofs.Rising.{rises_from_less}
 
 abbrev numbers : List Numbered → List ℕ
 numbers = map (λ l. l.0)
@@ -48,13 +55,16 @@ strays_rise slot low (l ∷ ls) r =
     let later = strays_rise slot (l.0 + 1) ls r.1 in
     cond_both (is_stray l.1) (l ∷ filter (λ m. is_stray m.1) ls) (filter (λ m. is_stray m.1) ls)
     (λ ms. Rises low (note_lines (noted slot (map stray ms))))
-    (λ e. (r.0, later)) (λ e. rises_from_less low (l.0 + 1) (note_lines (stray_notes slot ls)) (omega (arith, r.0)) later)
+    (λ e. (r.0, later)) (λ e. rises_from_less low (l.0 + 1) (note_lines (stray_notes slot ls))
+    (omega (arith, r.0)) later)
 
 attribute_in : (l : Numbered) (ls : List Numbered) (x : ℕ) → In x (part_lines (attributes (l ∷ ls)))
     → ((x ≡ l.0) × (is_attribute l.1 ≡ true)) ⊎ In x (part_lines (attributes ls))
 unfolding attributes
 attribute_in l ls x =
-    cond_both (is_attribute l.1) (attribute l ls ∷ attributes ls) (attributes ls) (λ ps. In x (part_lines ps) → ((x ≡ l.0) × (is_attribute l.1 ≡ true)) ⊎ In x (part_lines (attributes ls)))
+    cond_both (is_attribute l.1)
+    (attribute l ls ∷ attributes ls) (attributes ls) (λ ps. In x (part_lines ps)
+    → ((x ≡ l.0) × (is_attribute l.1 ≡ true)) ⊎ In x (part_lines (attributes ls)))
     (λ e i. elim i [ inl h ↦ inl (h, e) | inr j ↦ inr j ]) (λ e i. inr i)
 
 stray_in : (slot : List ℕ) (l : Numbered) (ls : List Numbered) (x : ℕ)
@@ -63,7 +73,8 @@ stray_in : (slot : List ℕ) (l : Numbered) (ls : List Numbered) (x : ℕ)
 unfolding noted
 stray_in slot l ls x =
     cond_both (is_stray l.1) (l ∷ filter (λ m. is_stray m.1) ls) (filter (λ m. is_stray m.1) ls)
-    (λ ms. In x (note_lines (noted slot (map stray ms))) → ((x ≡ l.0) × (is_stray l.1 ≡ true)) ⊎ In x (note_lines (stray_notes slot ls)))
+    (λ ms. In x (note_lines (noted slot (map stray ms)))
+    → ((x ≡ l.0) × (is_stray l.1 ≡ true)) ⊎ In x (note_lines (stray_notes slot ls)))
     (λ e i. elim i [ inl h ↦ inl (h, e) | inr j ↦ inr j ]) (λ e i. inr i)
 
 attribute_none : (x : ℕ) → In x (part_lines (attributes [])) → ⊥
@@ -77,11 +88,14 @@ apart slot low [] r x y i j e = absurd (attribute_none x i)
 apart slot low (l ∷ ls) r x y i j e =
     elim (attribute_in l ls x i) [
       | inl a ↦ elim (stray_in slot l ls y j) [
-        | inl s ↦ both_ways (is_attribute l.1) (not-true (is_attribute l.1) (and_parts (not (is_attribute l.1)) (not (continues l.1)) s.1).0) a.1
-        | inr k ↦ let h : l.0 + 1 ≤ y = low-le-in (l.0 + 1) (note_lines (stray_notes slot ls)) y (strays_rise slot (l.0 + 1) ls r.1) k in let g : x ≡ l.0 = a.0 in omega arith
+        | inl s ↦ both_ways (is_attribute l.1) (not-true (is_attribute l.1)
+            (and_parts (not (is_attribute l.1)) (not (continues l.1)) s.1).0) a.1
+        | inr k ↦ let h : l.0 + 1 ≤ y = low-le-in (l.0 + 1) (note_lines (stray_notes slot ls)) y
+            (strays_rise slot (l.0 + 1) ls r.1) k in let g : x ≡ l.0 = a.0 in omega arith
       ]
       | inr k ↦ elim (stray_in slot l ls y j) [
-        | inl s ↦ let h : l.0 + 1 ≤ x = low-le-in (l.0 + 1) (part_lines (attributes ls)) x (attributes_rise (l.0 + 1) ls r.1) k in let g : y ≡ l.0 = s.0 in omega arith
+        | inl s ↦ let h : l.0 + 1 ≤ x = low-le-in (l.0 + 1) (part_lines (attributes ls)) x
+            (attributes_rise (l.0 + 1) ls r.1) k in let g : y ≡ l.0 = s.0 in omega arith
         | inr m ↦ apart slot (l.0 + 1) ls r.1 x y k m e
       ]
     ]
@@ -97,7 +111,14 @@ pub record Fits (slot : List ℕ) (low high : ℕ) (these : List Item) : Type 0 
 
 fits_nothing : (slot : List ℕ) (low high : ℕ) → Fits slot low high []
 unfolding noted references IsDistinct
-fits_nothing slot low high = record { distinct = tt; between = λ x i. absurd i; own = tt; refs = tt; refs_below = λ x i. absurd i; slots = tt }
+fits_nothing slot low high = record {
+  distinct = tt;
+  between = λ x i. absurd i;
+  own = tt;
+  refs = tt;
+  refs_below = λ x i. absurd i;
+  slots = tt;
+}
 
 all-append : {X : Type 0} (P : X → Type 0) (xs ys : List X) → AllByRecursion P xs
     → AllByRecursion P ys → AllByRecursion P (xs ++ ys)
@@ -117,26 +138,43 @@ references-append slot xs ys = flat_map-append (references_of slot) xs ys
 fits-append : (slot : List ℕ) (low mid high : ℕ) (xs ys : List Item) → low ≤ mid → mid ≤ high
     → Fits slot low mid xs → Fits slot mid high ys → Fits slot low high (xs ++ ys)
 fits-append slot low mid high xs ys le le' f g =
-    let lines : note_lines (noted slot (xs ++ ys)) ≡ note_lines (noted slot xs) ++ note_lines (noted slot ys) =
+    let lines : note_lines (noted slot (xs ++ ys))
+    ≡ note_lines (noted slot xs) ++ note_lines (noted slot ys) =
     ap note_lines (noted-append slot xs ys)
     ∙ map-append (λ (n : Note). n.line) (noted slot xs) (noted slot ys) in
-    let ref_lines : reference_lines (references slot (xs ++ ys)) ≡ reference_lines (references slot xs) ++ reference_lines (references slot ys) =
+    let ref_lines : reference_lines (references slot (xs ++ ys))
+    ≡ reference_lines (references slot xs) ++ reference_lines (references slot ys) =
     ap reference_lines (references-append slot xs ys)
     ∙ map-append (λ (r : Reference). r.line) (references slot xs) (references slot ys) in
     record {
-      distinct = subst (λ l. IsDistinct nat_eq l) (sym lines) (distinct-append (note_lines (noted slot xs)) (note_lines (noted slot ys)) f.distinct g.distinct
-          (λ x y i j e. let h : x < mid = (f.between x i).1 in let k : mid ≤ y = (g.between y j).0 in omega arith));
-      between = λ x i. elim (in-append (note_lines (noted slot xs)) (note_lines (noted slot ys)) x (subst (λ l. In x l) lines i)) [
-        | inl j ↦ let h = f.between x j in (omega (arith, h.0), omega (arith, h.1))
-        | inr j ↦ let h = g.between x j in (omega (arith, h.0), omega (arith, h.1))
-      ];
-      own = subst (λ l. AllByRecursion (λ n. n.origin ≡ Rpsl slot) l) (sym (noted-append slot xs ys)) (all-append (λ n. n.origin ≡ Rpsl slot) (noted slot xs) (noted slot ys) f.own g.own);
-      refs = subst (λ l. Rises low l) (sym ref_lines) (rises-append low mid (reference_lines (references slot xs)) (reference_lines (references slot ys)) le f.refs f.refs_below g.refs);
-      refs_below = λ x i. elim (in-append (reference_lines (references slot xs)) (reference_lines (references slot ys)) x (subst (λ l. In x l) ref_lines i)) [
-        | inl j ↦ let h : x < mid = f.refs_below x j in omega arith
-        | inr j ↦ g.refs_below x j
-      ];
-      slots = subst (λ l. AllByRecursion (λ r. r.slot ≡ slot) l) (sym (references-append slot xs ys)) (all-append (λ r. r.slot ≡ slot) (references slot xs) (references slot ys) f.slots g.slots);
+      distinct =
+          subst (λ l. IsDistinct nat_eq l) (sym lines) (distinct-append (note_lines (noted slot xs))
+          (note_lines (noted slot ys)) f.distinct g.distinct
+          (λ x y i j e. let h : x < mid = (f.between x i).1 in
+          let k : mid ≤ y = (g.between y j).0 in omega arith));
+      between =
+          λ x i. elim (in-append (note_lines (noted slot xs)) (note_lines (noted slot ys)) x
+          (subst (λ l. In x l) lines i)) [
+            | inl j ↦ let h = f.between x j in (omega (arith, h.0), omega (arith, h.1))
+            | inr j ↦ let h = g.between x j in (omega (arith, h.0), omega (arith, h.1))
+          ];
+      own =
+          subst (λ l. AllByRecursion (λ n. n.origin ≡ Rpsl slot) l) (sym (noted-append slot xs ys))
+          (all-append (λ n. n.origin ≡ Rpsl slot) (noted slot xs) (noted slot ys) f.own g.own);
+      refs =
+          subst (λ l. Rises low l)
+          (sym ref_lines) (rises-append low mid (reference_lines (references slot xs))
+          (reference_lines (references slot ys)) le f.refs f.refs_below g.refs);
+      refs_below =
+          λ x i. elim (in-append (reference_lines (references slot xs))
+          (reference_lines (references slot ys)) x (subst (λ l. In x l) ref_lines i)) [
+            | inl j ↦ let h : x < mid = f.refs_below x j in omega arith
+            | inr j ↦ g.refs_below x j
+          ];
+      slots =
+          subst (λ l. AllByRecursion (λ r. r.slot ≡ slot) l)
+          (sym (references-append slot xs ys)) (all-append (λ r. r.slot ≡ slot) (references slot xs)
+          (references slot ys) f.slots g.slots);
     }
 
 -- a note alone
@@ -178,20 +216,25 @@ stray_number slot (l ∷ ls) x i =
     elim (stray_in slot l ls x i) [ inl h ↦ inl h.0 | inr j ↦ inr (stray_number slot ls x j) ]
 
 whole_lines : (slot : List ℕ) (o : Object) (ls : List Numbered)
-    → note_lines (noted slot (Whole o ∷ strays ls)) ≡ note_lines (found slot o).notes ++ note_lines (stray_notes slot ls)
+    → note_lines (noted slot (Whole o ∷ strays ls))
+    ≡ note_lines (found slot o).notes ++ note_lines (stray_notes slot ls)
 unfolding noted
 whole_lines slot o ls = map-append (λ (n : Note). n.line) (found slot o).notes (stray_notes slot ls)
 
 whole_references : (slot : List ℕ) (o : Object) (ls : List Numbered)
     → references slot (Whole o ∷ strays ls) ≡ reference_in (found slot o).what
 unfolding references
-whole_references slot o ls = ap (λ t. reference_in (found slot o).what ++ t) (strays_none slot (filter (λ m. is_stray m.1) ls)) ∙ append-nil (reference_in (found slot o).what)
+whole_references slot o ls =
+    ap (λ t. reference_in (found slot o).what ++ t) (strays_none slot
+    (filter (λ m. is_stray m.1) ls)) ∙ append-nil (reference_in (found slot o).what)
 
 whole_own : (slot : List ℕ) (o : Object) (ls : List Numbered)
     → AllByRecursion (λ n. n.origin ≡ Rpsl slot) (found slot o).notes
     → AllByRecursion (λ n. n.origin ≡ Rpsl slot) (noted slot (Whole o ∷ strays ls))
 unfolding noted
-whole_own slot o ls own = all-append (λ n. n.origin ≡ Rpsl slot) (found slot o).notes (stray_notes slot ls) own (strays_own slot (filter (λ m. is_stray m.1) ls))
+whole_own slot o ls own =
+    all-append (λ n. n.origin ≡ Rpsl slot) (found slot o).notes (stray_notes slot ls) own
+    (strays_own slot (filter (λ m. is_stray m.1) ls))
 
 part_in_below : (low : ℕ) (ls : List Numbered) (x : ℕ) → Rises low (numbers ls)
     → In x (part_lines (attributes ls)) → x < past low (numbers ls)
@@ -219,11 +262,14 @@ object_fits slot low l ls o made r =
     [ inl e ↦ omega (arith, e) | inr j ↦ part_in_below (l.0 + 1) ls x r.1 j ] in
     let stray_rise : Rises (l.0 + 1) (note_lines (stray_notes slot ls)) =
     strays_rise slot (l.0 + 1) ls r.1 in
-    let lines : note_lines (noted slot (Whole o ∷ strays ls)) ≡ note_lines (found slot o).notes ++ note_lines (stray_notes slot ls) = whole_lines slot o ls in
+    let lines : note_lines (noted slot (Whole o ∷ strays ls))
+    ≡ note_lines (found slot o).notes ++ note_lines (stray_notes slot ls) = whole_lines slot o ls in
     let refs : references slot (Whole o ∷ strays ls) ≡ reference_in (found slot o).what =
     whole_references slot o ls in
     record {
-      distinct = subst (λ t. IsDistinct nat_eq t) (sym lines) (distinct-append (note_lines (found slot o).notes) (note_lines (stray_notes slot ls))
+      distinct =
+          subst (λ t. IsDistinct nat_eq t) (sym lines)
+          (distinct-append (note_lines (found slot o).notes) (note_lines (stray_notes slot ls))
           (distinct_from_rises low (note_lines (found slot o).notes) s.rises)
           (distinct_from_rises (l.0 + 1) (note_lines (stray_notes slot ls)) stray_rise)
           (λ x y i j e. elim (on_part x (s.inside x i)) [
@@ -231,10 +277,17 @@ object_fits slot low l ls o made r =
                 low-le-in (l.0 + 1) (note_lines (stray_notes slot ls)) y stray_rise j in omega arith
             | inr h ↦ apart slot (l.0 + 1) ls r.1 x y h j e
           ]));
-      between = λ x i. elim (in-append (note_lines (found slot o).notes) (note_lines (stray_notes slot ls)) x (subst (λ t. In x t) lines i)) [
-        | inl j ↦ (low-le-in low (note_lines (found slot o).notes) x s.rises j, part_below x (s.inside x j))
-        | inr j ↦ let k : l.0 + 1 ≤ x = low-le-in (l.0 + 1) (note_lines (stray_notes slot ls)) x stray_rise j in (omega (arith, r.0), stray_in_below slot (l.0 + 1) ls x r.1 j)
-      ];
+      between =
+          λ x i. elim (in-append (note_lines (found slot o).notes)
+          (note_lines (stray_notes slot ls)) x (subst (λ t. In x t) lines i)) [
+            | inl j ↦ (
+              low-le-in low (note_lines (found slot o).notes) x s.rises j,
+              part_below x (s.inside x j),
+            )
+            | inr j ↦ let k : l.0 + 1 ≤ x =
+                low-le-in (l.0 + 1) (note_lines (stray_notes slot ls)) x stray_rise j in
+                (omega (arith, r.0), stray_in_below slot (l.0 + 1) ls x r.1 j)
+          ];
       own = whole_own slot o ls s.own;
       refs = subst (λ t. Rises low (reference_lines t)) (sym refs) s.refs_rise;
       refs_below =
@@ -259,7 +312,8 @@ items_fit slot low (l ∷ ls) r =
     cond_both (is_attribute l.1)
     (Whole (record { line = l.0; parts = attribute l ls ∷ attributes ls }) ∷ strays ls)
     (stray l ∷ items ls) (λ these. Fits slot low high these)
-    (λ e. object_fits slot low l ls (record { line = l.0; parts = attribute l ls ∷ attributes ls }) refl r)
+    (λ e. object_fits slot low l ls
+    (record { line = l.0; parts = attribute l ls ∷ attributes ls }) refl r)
     (λ e. fits-append slot low (l.0 + 1) high (stray l ∷ []) (items ls) (omega (arith, r.0)) least
     (fits_passed slot low (l.0 + 1) l.0 P02 r.0 (omega arith)) (items_fit slot (l.0 + 1) ls r.1))
 
@@ -316,8 +370,12 @@ groups_fit slot low [] r = (low, omega arith, fits_nothing slot low low)
 groups_fit slot low (g ∷ gs) r =
     let later = groups_fit slot (past low (numbers g)) gs r.1 in
     let le : low ≤ past low (numbers g) = low-le-past low (numbers g) r.0 in
-    let le' : past low (numbers g) ≤ later.0 = later.1 in
-    (later.0, omega arith, fits-append slot low (past low (numbers g)) later.0 (group_items g) (flat_map group_items gs) le le' (group_fits slot low g r.0) later.2)
+    let le' : past low (numbers g) ≤ later.0 = later.1 in (
+      later.0,
+      omega arith,
+      fits-append slot low (past low (numbers g)) later.0 (group_items g)
+          (flat_map group_items gs) le le' (group_fits slot low g r.0) later.2,
+    )
 
 -- what a text says fits on its lines
 pub text_fits : (slot text : List ℕ) → (high : ℕ) × (1 ≤ high) × Fits slot 1 high (objects text)
@@ -325,4 +383,5 @@ unfolding objects
 text_fits slot text =
     groups_fit slot 1 (groups (numbered_lines text))
     (split_rises (λ l. is_end l.1) 1 (filter (λ l. not (is_comment l.1)) (numbered_lines text))
-    (filter_rises (λ l. not (is_comment l.1)) 1 (numbered_lines text) (numbers_rise 1 (lines_of (without_mark text)))))
+    (filter_rises (λ l. not (is_comment l.1)) 1 (numbered_lines text)
+    (numbers_rise 1 (lines_of (without_mark text)))))

@@ -1,10 +1,13 @@
 -- Notes in line order: of the lists of the same notes only one rises.
-use Rattle.std.proofs.Common.{◌≡◌, ℕ, zero, suc, ◌+◌, ◌<◌, ◌≤◌, false, List, [], ◌∷◌, get_or, ◌⊎◌, inl, inr, refl, sym, ap, subst, arith, ◌∙◌}
+use Rattle.std.proofs.Common.{◌≡◌, ℕ, zero, suc, ◌+◌, ◌<◌, ◌≤◌, false, List, [], ◌∷◌, get_or, ◌⊎◌}
+use Rattle.std.proofs.Common.{inl, inr, refl, sym, ap, subst, arith, ◌∙◌}
 use Rattle.std.specs.Prelude.{nat_eq, nat_lt}
 use Rattle.std.specs.List.{Contains, IsDistinct, AllByRecursion}
 use Rattle.std.specs.List.Sorted.{IsPermutation, IsNonDecreasingBy}
-use Rattle.std.proofs.lemmas.Bool.{cond_both, ltb-true, ltb-false, eqb-false, ne_eqb, eq-eqb, cases_eq}
-use Rattle.std.proofs.lemmas.List.Sorted.{Contains-permutation, IsPermutation-map, IsPermutation-sym}
+use Rattle.std.proofs.lemmas.Bool.{cond_both, ltb-true, ltb-false, eqb-false, ne_eqb, eq-eqb}
+use Rattle.std.proofs.lemmas.Bool.{cases_eq}
+use Rattle.std.proofs.lemmas.List.Sorted.{Contains-permutation, IsPermutation-map}
+use Rattle.std.proofs.lemmas.List.Sorted.{IsPermutation-sym}
 use Rattle.std.proofs.lemmas.Map.Keys.{IsDistinct-IsPermutation}
 use Rattle.geo_terms.specs.SourceForm.{note_lines}
 use Rattle.geo_terms.specs.declared.note.Note.{Note}
@@ -60,11 +63,15 @@ one_order low (x ∷ xs) (y ∷ ys) r s there back =
     one_order (x.line + 1) xs ys r.1
     (subst (λ (k : ℕ). Rises (k + 1) (note_lines ys)) (sym line) s.1)
     (λ n h. elim (there n (inr h)) [
-      | inl e ↦ let a : x.line + 1 ≤ n.line = low-le-line (x.line + 1) xs n r.1 h in let b : n.line ≡ y.line = ap (λ (m : Note). m.line) e in absurd (omega arith)
+      | inl e ↦ let a : x.line + 1 ≤ n.line = low-le-line (x.line + 1) xs n r.1 h in
+          let b : n.line ≡ y.line = ap (λ (m : Note). m.line) e in
+          absurd (omega arith)
       | inr i ↦ i
     ])
     (λ n h. elim (back n (inr h)) [
-      | inl e ↦ let a : y.line + 1 ≤ n.line = low-le-line (y.line + 1) ys n s.1 h in let b : n.line ≡ x.line = ap (λ (m : Note). m.line) e in absurd (omega arith)
+      | inl e ↦ let a : y.line + 1 ≤ n.line = low-le-line (y.line + 1) ys n s.1 h in
+          let b : n.line ≡ x.line = ap (λ (m : Note). m.line) e in
+          absurd (omega arith)
       | inr i ↦ i
     ]) in
     λ i. head i ∷ tail i
@@ -78,8 +85,14 @@ has_placed n (k ∷ ks) m =
     cond_both (nat_lt k.line n.line) (k ∷ placed n ks) (n ∷ k ∷ ks)
     (λ l. (Has l m → Has (n ∷ k ∷ ks) m) × (Has (n ∷ k ∷ ks) m → Has l m))
     (λ lt. (
-      λ h. elim h [ inl e ↦ inr (inl e) | inr i ↦ elim (later.0 i) [ inl e ↦ inl e | inr j ↦ inr (inr j) ] ],
-      λ h. elim h [ inl e ↦ inr (later.1 (inl e)) | inr i ↦ elim i [ inl e ↦ inl e | inr j ↦ inr (later.1 (inr j)) ] ],
+      λ h. elim h [
+        | inl e ↦ inr (inl e)
+        | inr i ↦ elim (later.0 i) [ inl e ↦ inl e | inr j ↦ inr (inr j) ]
+      ],
+      λ h. elim h [
+        | inl e ↦ inr (later.1 (inl e))
+        | inr i ↦ elim i [ inl e ↦ inl e | inr j ↦ inr (later.1 (inr j)) ]
+      ],
     ))
     (λ ge. (λ h. h, λ h. h))
 
@@ -114,7 +127,8 @@ rises_placed : (low : ℕ) (n : Note) (ns : List Note) → low ≤ n.line → Ri
 rises_placed low n [] le r other = (le, tt)
 rises_placed low n (m ∷ ms) le r other =
     cond_both (nat_lt m.line n.line) (m ∷ placed n ms) (n ∷ m ∷ ms) (λ l. Rises low (note_lines l))
-    (λ lt. let h : m.line < n.line = ltb-true m.line n.line lt in (r.0, rises_placed (m.line + 1) n ms (omega arith) r.1 other.1))
+    (λ lt. let h : m.line < n.line = ltb-true m.line n.line lt in
+    (r.0, rises_placed (m.line + 1) n ms (omega arith) r.1 other.1))
     (λ ge.
     let h : n.line ≤ m.line = ltb-false m.line n.line ge in
     let ne : n.line ≡ m.line → ⊥ = eqb-false n.line m.line other.0 in
@@ -128,7 +142,8 @@ ordered_rises [] d = tt
 ordered_rises (n ∷ ns) d =
     rises_placed 0 n (in_line_order ns) (omega arith) (ordered_rises ns d.1)
     (all_from_each (λ m. nat_eq n.line m.line ≡ false) (in_line_order ns)
-    (λ m h. each (λ k. nat_eq n.line k.line ≡ false) ns (all_of_lines (λ l. nat_eq n.line l ≡ false) ns d.0) m ((has_ordered ns m).0 h)))
+    (λ m h. each (λ k. nat_eq n.line k.line ≡ false) ns
+    (all_of_lines (λ l. nat_eq n.line l ≡ false) ns d.0) m ((has_ordered ns m).0 h)))
 
 -- the first of notes whose lines do not fall is on no later line than another
 first_le : (y : Note) (ys : List Note) → IsNonDecreasingBy (λ n. n.line) (y ∷ ys) → (m : Note)
@@ -149,7 +164,9 @@ rises_sorted low (y ∷ ys) from up d = (
   rises_sorted (y.line + 1) ys
       (λ m h.
       let le : y.line ≤ m.line = first_le y ys up m h in
-      let ne : y.line ≡ m.line → ⊥ = eqb-false y.line m.line (each (λ k. nat_eq y.line k.line ≡ false) ys (all_of_lines (λ l. nat_eq y.line l ≡ false) ys d.0) m h) in
+      let ne : y.line ≡ m.line → ⊥ =
+      eqb-false y.line m.line (each (λ k. nat_eq y.line k.line ≡ false) ys
+      (all_of_lines (λ l. nat_eq y.line l ≡ false) ys d.0) m h) in
       omega (arith, ne))
       (λ i j e le below. up (suc i) (suc j) e (omega arith) (omega arith)) d.1,
 )
@@ -169,5 +186,7 @@ sorted_is xs ys same up d =
     (IsPermutation-map (λ (n : Note). n.line) xs ys same) d in
     one_order 0 ys (in_line_order xs) (rises_sorted 0 ys (λ m h. omega arith) up e)
     (ordered_rises xs d)
-    (λ m h. (has_ordered xs m).1 (has_from_contains xs m (Contains-permutation ys xs m (IsPermutation-sym xs ys same) (contains_from_has ys m h))))
-    (λ m h. has_from_contains ys m (Contains-permutation xs ys m same (contains_from_has xs m ((has_ordered xs m).0 h))))
+    (λ m h. (has_ordered xs m).1 (has_from_contains xs m
+    (Contains-permutation ys xs m (IsPermutation-sym xs ys same) (contains_from_has ys m h))))
+    (λ m h. has_from_contains ys m
+    (Contains-permutation xs ys m same (contains_from_has xs m ((has_ordered xs m).0 h))))

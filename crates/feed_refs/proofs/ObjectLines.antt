@@ -1,5 +1,6 @@
 -- The lines on which an object's notes and its reference stand are those of its attributes.
-use Rattle.std.proofs.Common.{◌≡◌, ℕ, ◌+◌, ◌≤◌, Bool, false, cond, List, [], ◌∷◌, ◌++◌, map, filter, Option, Some, None, ◌⊎◌, inl, inr, refl, sym, subst, arith}
+use Rattle.std.proofs.Common.{◌≡◌, ℕ, ◌+◌, ◌≤◌, Bool, false, cond, List, [], ◌∷◌, ◌++◌, map, filter}
+use Rattle.std.proofs.Common.{Option, Some, None, ◌⊎◌, inl, inr, refl, sym, subst, arith}
 use Rattle.std.specs.Prelude.{◌||◌, option_to_list}
 use Rattle.std.specs.List.{AllByRecursion}
 use Rattle.std.proofs.lemmas.Bool.{cond_both}
@@ -20,7 +21,8 @@ use Rattle.feed_refs.specs.declared.reference.Class.TheVariants.{Other, Unread, 
 use Rattle.feed_refs.specs.declared.reference.FoundRef.{FoundRef}
 use Rattle.feed_refs.specs.Dumps.{reference_in}
 use Rattle.feed_refs.specs.Kinds.{is_last_modified, is_of_kind, used_kind, url_text}
-use Rattle.feed_refs.specs.References.{class_named, found, found_among, found_as, found_by, found_in_parts, note_by, notes_from, rule_on}
+use Rattle.feed_refs.specs.References.{class_named, found, found_among, found_as, found_by}
+use Rattle.feed_refs.specs.References.{found_in_parts, note_by, notes_from, rule_on}
 use Rattle.feed_refs.specs.Urls.{url_read}
 use Rattle.feed_refs.proofs.Rising.{In, Rises, low-le-in, rises_from_less}
 
@@ -64,7 +66,8 @@ module _ (slot : List ℕ) (kind : Kind) (used : Option Rule) where
       → In x (note_lines (notes_from slot kind used seen parts)) → In x (part_lines parts)
   notes_in seen [] x i = i
   notes_in seen (a ∷ more) x i =
-      elim (one_in slot a.line (rule_on kind used seen a) (notes_from slot kind used (seen || is_last_modified a) more) x i) [
+      elim (one_in slot a.line (rule_on kind used seen a)
+      (notes_from slot kind used (seen || is_last_modified a) more) x i) [
         | inl e ↦ inl e
         | inr j ↦ inr (notes_in (seen || is_last_modified a) more x j)
       ]
@@ -72,7 +75,9 @@ module _ (slot : List ℕ) (kind : Kind) (used : Option Rule) where
   notes_own : (seen : Bool) (parts : List Attribute)
       → AllByRecursion (λ n. n.origin ≡ Rpsl slot) (notes_from slot kind used seen parts)
   notes_own seen [] = tt
-  notes_own seen (a ∷ more) = one_of slot a.line (rule_on kind used seen a) (notes_from slot kind used (seen || is_last_modified a) more) (notes_own (seen || is_last_modified a) more)
+  notes_own seen (a ∷ more) =
+      one_of slot a.line (rule_on kind used seen a) (notes_from slot kind used
+      (seen || is_last_modified a) more) (notes_own (seen || is_last_modified a) more)
 
 -- what is found of an object stands on lines of its attributes, in order
 pub record Stands (slot : List ℕ) (low : ℕ) (parts : List Attribute) (f : FoundRef) : Type 0 where
@@ -87,7 +92,8 @@ some_in : (p : Attribute → Bool) (parts : List Attribute) (x : ℕ)
     → In x (part_lines (filter p parts)) → In x (part_lines parts)
 some_in p [] x i = i
 some_in p (a ∷ more) x i =
-    let one : In x (part_lines (cond (p a) (a ∷ filter p more) (filter p more))) → In x (part_lines (a ∷ more)) =
+    let one : In x (part_lines (cond (p a) (a ∷ filter p more) (filter p more)))
+    → In x (part_lines (a ∷ more)) =
     cond_both (p a) (a ∷ filter p more) (filter p more)
     (λ ps. In x (part_lines ps) → In x (part_lines (a ∷ more)))
     (λ e j. elim j [ inl h ↦ inl h | inr k ↦ inr (some_in p more x k) ])
@@ -119,13 +125,23 @@ module _ (slot : List ℕ) (low : ℕ) (range : Ends) (parts : List Attribute)
     inside = notes_in slot (used_kind parts) None false parts;
     own = notes_own slot (used_kind parts) None false parts;
     refs_rise = (low-le-in low (part_lines parts) a.line r here, tt);
-    refs_inside = λ x i. elim i [ inl e ↦ subst (λ y. In y (part_lines parts)) (sym e) here | inr j ↦ absurd j ];
+    refs_inside = λ x i. elim i [
+      | inl e ↦ subst (λ y. In y (part_lines parts)) (sym e) here
+      | inr j ↦ absurd j
+    ];
     slots = (refl, tt);
   }
 
   stands_among : (us : List Attribute) → ((x : ℕ) → In x (part_lines us) → In x (part_lines parts))
       → Stands slot low parts (found_among slot range parts us)
-  stands_among [] inside = record { rises = tt; inside = λ x i. absurd i; own = tt; refs_rise = tt; refs_inside = λ x i. absurd i; slots = tt }
+  stands_among [] inside = record {
+    rises = tt;
+    inside = λ x i. absurd i;
+    own = tt;
+    refs_rise = tt;
+    refs_inside = λ x i. absurd i;
+    slots = tt;
+  }
   stands_among (a ∷ []) inside =
       stands_by a (url_read (url_text (used_kind parts) a)) (inside a.line (inl refl))
   stands_among (a ∷ b ∷ more) inside = record {
@@ -140,7 +156,14 @@ module _ (slot : List ℕ) (low : ℕ) (range : Ends) (parts : List Attribute)
 stands_as : (slot : List ℕ) (low : ℕ) (a : Attribute) (more : List Attribute) (c : Class)
     → Rises low (part_lines (a ∷ more))
     → Stands slot low (a ∷ more) (found_as slot a.line (a ∷ more) c)
-stands_as slot low a more Other r = record { rises = tt; inside = λ x i. absurd i; own = tt; refs_rise = tt; refs_inside = λ x i. absurd i; slots = tt }
+stands_as slot low a more Other r = record {
+  rises = tt;
+  inside = λ x i. absurd i;
+  own = tt;
+  refs_rise = tt;
+  refs_inside = λ x i. absurd i;
+  slots = tt;
+}
 stands_as slot low a more Unread r = record {
   rises = (r.0, tt);
   inside = λ x i. elim i [ inl e ↦ inl e | inr j ↦ absurd j ];
@@ -149,16 +172,26 @@ stands_as slot low a more Unread r = record {
   refs_inside = λ x i. absurd i;
   slots = tt;
 }
-stands_as slot low a more (Inet range) r = stands_among slot low range (a ∷ more) r (filter (is_of_kind (used_kind (a ∷ more))) (a ∷ more)) (some_in (is_of_kind (used_kind (a ∷ more))) (a ∷ more))
+stands_as slot low a more (Inet range) r =
+    stands_among slot low range (a ∷ more) r (filter (is_of_kind (used_kind (a ∷ more))) (a ∷ more))
+    (some_in (is_of_kind (used_kind (a ∷ more))) (a ∷ more))
 
 pub stands : (slot : List ℕ) (low : ℕ) (o : Object) → Rises low (part_lines o.parts)
     → Stands slot low o.parts (found slot o)
 unfolding found
 stands slot low o r =
-    let one : (parts : List Attribute) → Rises low (part_lines parts) → Stands slot low parts (found_in_parts slot parts) =
+    let one : (parts : List Attribute)
+    → Rises low (part_lines parts) → Stands slot low parts (found_in_parts slot parts) =
     λ parts. elim parts as
     (λ ps. Rises low (part_lines ps) → Stands slot low ps (found_in_parts slot ps)) [
-      | [] ↦ λ h. record { rises = tt; inside = λ x i. absurd i; own = tt; refs_rise = tt; refs_inside = λ x i. absurd i; slots = tt }
+      | [] ↦ λ h. record {
+        rises = tt;
+        inside = λ x i. absurd i;
+        own = tt;
+        refs_rise = tt;
+        refs_inside = λ x i. absurd i;
+        slots = tt;
+      }
       | a ∷ more ↦ λ h. stands_as slot low a more (class_named a) h
     ] in
     one o.parts r

@@ -1,7 +1,9 @@
 -- What a reader holds, and what one more piece makes of it.
-use Rattle.std.proofs.Common.{◌≡◌, ℕ, ◌+◌, ◌-◌, ◌<◌, ◌≤◌, List, [], ◌++◌, length, take, Result, Ok, Err, ◌⊎◌, inl, inr, refl, sym, ap, subst, arith, ◌∙◌}
+use Rattle.std.proofs.Common.{◌≡◌, ℕ, ◌+◌, ◌-◌, ◌<◌, ◌≤◌, List, [], ◌++◌, length, take, Result, Ok}
+use Rattle.std.proofs.Common.{Err, ◌⊎◌, inl, inr, refl, sym, ap, subst, arith, ◌∙◌}
 use Rattle.std.specs.Prelude.{nat_lt}
-use Rattle.std.proofs.lemmas.Bool.{cond-true, cond-false, cases_Bool, cases_lt, lt-ltb, le-ltb, ltb-true, ltb-false}
+use Rattle.std.proofs.lemmas.Bool.{cond-true, cond-false, cases_Bool, cases_lt, lt-ltb, le-ltb}
+use Rattle.std.proofs.lemmas.Bool.{ltb-true, ltb-false}
 use Rattle.std.proofs.lemmas.Grind.{flat_map-append}
 use Rattle.std.proofs.lemmas.List.{length-append, take_all, take-append-le}
 use Rattle.std.proofs.Math.Seq.{take-append-add}
@@ -14,7 +16,9 @@ use Rattle.rpsl_reader.specs.Reading.{after, given, last, start}
 use Rattle.rpsl_reader.specs.declared.item.Item.{Item}
 use Rattle.rpsl_reader.proofs.Pieces.{after-append, given-append}
 use Rattle.rpsl_reader.proofs.WholeText.{given_is_whole}
-use Rattle.feed_refs.specs.Dumps.{dump, dump_parts, in_line_order, judged, last_references, longest, most, noted, notes_of, references, references_of, so_far, whole_references, within}
+use Rattle.feed_refs.specs.Dumps.{dump, dump_parts, in_line_order, judged, last_references, longest}
+use Rattle.feed_refs.specs.Dumps.{most, noted, notes_of, references, references_of, so_far}
+use Rattle.feed_refs.specs.Dumps.{whole_references, within}
 use Rattle.feed_refs.specs.Readings.{Kept, kept_if, kept_of}
 
 pub noted-append : (slot : List ℕ) (xs ys : List Item)
@@ -50,7 +54,9 @@ is_fine : {T : Type 0} (rs : List Reference) (text : List ℕ) (x y : T) → jud
 is_fine rs text x y e = elim (cases_Bool (nat_lt most (length rs))) [
   | inl b ↦ absurd (let f = sym (many rs text x (ltb-true most (length rs) b)) ∙ e in cc)
   | inr b ↦ elim (cases_Bool (nat_lt longest (length text))) [
-    | inl d ↦ absurd (let f = sym (long rs text x (ltb-false most (length rs) b) (ltb-true longest (length text) d)) ∙ e in cc)
+    | inl d ↦ absurd (let f =
+        sym (long rs text x (ltb-false most (length rs) b) (ltb-true longest (length text) d))
+        ∙ e in cc)
     | inr d ↦ (ltb-false most (length rs) b, ltb-false longest (length text) d)
   ]
 ]
@@ -58,12 +64,16 @@ is_fine rs text x y e = elim (cases_Bool (nat_lt most (length rs))) [
 -- a fault has its cause
 is_fault : {T : Type 0} (rs : List Reference) (text : List ℕ) (x : T) (f : SourceFault)
     → judged rs text x ≡ Err f
-    → ((most < length rs) × (f ≡ TooMany)) ⊎ ((longest < length text) × (length rs ≤ most) × (f ≡ TooLong))
+    → ((most < length rs) × (f ≡ TooMany))
+    ⊎ ((longest < length text) × (length rs ≤ most) × (f ≡ TooLong))
 is_fault rs text x f e = elim (cases_Bool (nat_lt most (length rs))) [
   | inl b ↦ let h = ltb-true most (length rs) b in inl (h, (let g = sym e ∙ many rs text x h in cc))
   | inr b ↦ elim (cases_Bool (nat_lt longest (length text))) [
-    | inl d ↦ let h = ltb-false most (length rs) b in let k = ltb-true longest (length text) d in inr (k, h, (let g = sym e ∙ long rs text x h k in cc))
-    | inr d ↦ absurd (let g = sym (fine rs text x (ltb-false most (length rs) b) (ltb-false longest (length text) d)) ∙ e in cc)
+    | inl d ↦ let h = ltb-false most (length rs) b in let k = ltb-true longest (length text) d in
+        inr (k, h, (let g = sym e ∙ long rs text x h k in cc))
+    | inr d ↦ absurd (let g =
+        sym (fine rs text x (ltb-false most (length rs) b) (ltb-false longest (length text) d))
+        ∙ e in cc)
   ]
 ]
 
@@ -102,7 +112,8 @@ refs_next slot text piece =
     ∙ references-append slot (given start text) (given (after start text) piece)
 
 whole_next : (slot text piece : List ℕ) → length text ≤ longest
-    → whole_references slot (text ++ piece) ≡ refs_of slot text ++ more_refs slot text (take (longest - length text) piece)
+    → whole_references slot (text ++ piece)
+    ≡ refs_of slot text ++ more_refs slot text (take (longest - length text) piece)
 whole_next slot text piece h =
     ap (λ t. references slot (given start t)) (next_within text piece h)
     ∙ refs_next slot text (take (longest - length text) piece)
@@ -168,33 +179,47 @@ unfolding so_far
 so_far_ok slot text few h = fine (whole_references slot text) text tt few h
 
 so_far_fault : (slot text : List ℕ) (f : SourceFault) → so_far slot text ≡ Err f
-    → ((most < length (whole_references slot text)) × (f ≡ TooMany)) ⊎ ((longest < length text) × (length (whole_references slot text) ≤ most) × (f ≡ TooLong))
+    → ((most < length (whole_references slot text)) × (f ≡ TooMany))
+    ⊎ ((longest < length text) × (length (whole_references slot text) ≤ most) × (f ≡ TooLong))
 unfolding so_far
 so_far_fault slot text f e = is_fault (whole_references slot text) text tt f e
 
 -- what one more piece gives to such a reader
 module _ (slot text piece : List ℕ) (k : Kept) (o : Opened slot text k) where
-  cut_refs : whole_references slot (text ++ piece) ≡ k.refs ++ references slot (given k.reader.state (take (longest - k.reader.fed) piece))
+  cut_refs : whole_references slot (text ++ piece)
+      ≡ k.refs ++ references slot (given k.reader.state (take (longest - k.reader.fed) piece))
   cut_refs = rw (o.refs, o.state, o.fed) (whole_next slot text piece o.short)
 
-  cut_count : length (whole_references slot (text ++ piece)) ≡ length k.refs + length (references slot (given k.reader.state (take (longest - k.reader.fed) piece)))
-  cut_count = ap length cut_refs ∙ length-append k.refs (references slot (given k.reader.state (take (longest - k.reader.fed) piece)))
+  cut_count : length (whole_references slot (text ++ piece)) ≡ length k.refs
+      + length (references slot (given k.reader.state (take (longest - k.reader.fed) piece)))
+  cut_count =
+      ap length cut_refs ∙ length-append k.refs
+      (references slot (given k.reader.state (take (longest - k.reader.fed) piece)))
 
-  pub next_many : most < length k.refs + length (references slot (given k.reader.state (take (longest - k.reader.fed) piece)))
+  pub next_many : most < length k.refs
+      + length (references slot (given k.reader.state (take (longest - k.reader.fed) piece)))
       → so_far slot (text ++ piece) ≡ Err TooMany
   next_many h = so_far_many slot (text ++ piece) (omega (arith, cut_count))
 
-  pub next_long : length k.refs + length (references slot (given k.reader.state (take (longest - k.reader.fed) piece))) ≤ most
+  pub next_long : length k.refs
+      + length (references slot (given k.reader.state (take (longest - k.reader.fed) piece))) ≤ most
       → longest < k.reader.fed + length piece → so_far slot (text ++ piece) ≡ Err TooLong
-  next_long few h = so_far_long slot (text ++ piece) (omega (arith, cut_count)) (omega (arith, length-append text piece, o.fed))
+  next_long few h =
+      so_far_long slot (text ++ piece) (omega (arith, cut_count))
+      (omega (arith, length-append text piece, o.fed))
 
-  pub next_ok : length k.refs + length (references slot (given k.reader.state (take (longest - k.reader.fed) piece))) ≤ most
+  pub next_ok : length k.refs
+      + length (references slot (given k.reader.state (take (longest - k.reader.fed) piece))) ≤ most
       → k.reader.fed + length piece ≤ longest → so_far slot (text ++ piece) ≡ Ok tt
-  next_ok few h = so_far_ok slot (text ++ piece) (omega (arith, cut_count)) (omega (arith, length-append text piece, o.fed))
+  next_ok few h =
+      so_far_ok slot (text ++ piece) (omega (arith, cut_count))
+      (omega (arith, length-append text piece, o.fed))
 
   next_kept : (k' : Kept) → k'.reader.fed ≡ k.reader.fed + length piece
       → k'.reader.state ≡ after k.reader.state piece
-      → k'.refs ≡ k.refs ++ references slot (given k.reader.state piece) → k'.notes ≡ k.notes ++ noted slot (given k.reader.state piece) → k' ≡ kept_of slot (text ++ piece)
+      → k'.refs ≡ k.refs ++ references slot (given k.reader.state piece)
+      → k'.notes ≡ k.notes ++ noted slot (given k.reader.state piece)
+      → k' ≡ kept_of slot (text ++ piece)
   unfolding kept_of
   next_kept k' fed state refs notes =
       let e1 : k'.reader.fed ≡ length (text ++ piece) =
@@ -204,13 +229,16 @@ module _ (slot text piece : List ℕ) (k : Kept) (o : Opened slot text k) where
       let e3 : k'.refs ≡ refs_of slot (text ++ piece) =
       refs ∙ (rw (o.refs, o.state) refl) ∙ sym (refs_next slot text piece) in
       let e4 : k'.notes ≡ noted slot (given start (text ++ piece)) =
-      notes ∙ (rw (o.notes, o.state) refl) ∙ sym (ap (noted slot) (given_next text piece) ∙ noted-append slot (given start text) (given (after start text) piece)) in
+      notes ∙ (rw (o.notes, o.state) refl) ∙ sym (ap (noted slot) (given_next text piece)
+      ∙ noted-append slot (given start text) (given (after start text) piece)) in
       λ i. record { reader = record { fed = e1 i; state = e2 i }; refs = e3 i; notes = e4 i }
 
   pub next_reading : (k' : Kept) → k'.reader.fed ≡ k.reader.fed + length piece
       → k'.reader.state ≡ after k.reader.state piece
-      → k'.refs ≡ k.refs ++ references slot (given k.reader.state piece) → k'.notes ≡ k.notes ++ noted slot (given k.reader.state piece)
-      → so_far slot (text ++ piece) ≡ Ok tt → Ok k' ≡ kept_if (so_far slot (text ++ piece)) (kept_of slot (text ++ piece))
+      → k'.refs ≡ k.refs ++ references slot (given k.reader.state piece)
+      → k'.notes ≡ k.notes ++ noted slot (given k.reader.state piece)
+      → so_far slot (text ++ piece) ≡ Ok tt
+      → Ok k' ≡ kept_if (so_far slot (text ++ piece)) (kept_of slot (text ++ piece))
   next_reading k' fed state refs notes good =
       ap (λ q. Ok q) (next_kept k' fed state refs notes)
       ∙ sym (ap (λ r. kept_if r (kept_of slot (text ++ piece))) good)
@@ -222,10 +250,26 @@ fault_stays slot text piece f e =
     let both : (longest < length text) ⊎ (length text ≤ longest) = cases_lt longest (length text) in
     elim (so_far_fault slot text f e) [
       | inl h ↦ elim both [
-        | inr short ↦ so_far_many slot (text ++ piece) (omega (arith, ap length (whole_next slot text piece short), length-append (refs_of slot text) (more_refs slot text (take (longest - length text) piece)), ap length (whole_now slot text short), h.0)) ∙ ap (λ g. Err g) (sym h.1)
-        | inl over ↦ so_far_many slot (text ++ piece) (omega (arith, ap (λ t. length (references slot (given start t))) (none_within text piece (omega arith)), h.0)) ∙ ap (λ g. Err g) (sym h.1)
+        | inr short ↦ so_far_many slot (text ++ piece) (omega (
+          arith,
+          ap length (whole_next slot text piece short),
+          length-append (refs_of slot text)
+              (more_refs slot text (take (longest - length text) piece)),
+          ap length (whole_now slot text short),
+          h.0,
+        )) ∙ ap (λ g. Err g) (sym h.1)
+        | inl over ↦ so_far_many slot (text ++ piece) (omega (
+          arith,
+          ap (λ t. length (references slot (given start t))) (none_within text piece (omega arith)),
+          h.0,
+        )) ∙ ap (λ g. Err g) (sym h.1)
       ]
-      | inr h ↦ so_far_long slot (text ++ piece) (omega (arith, ap (λ t. length (references slot (given start t))) (none_within text piece (omega (arith, h.0))), h.1)) (omega (arith, length-append text piece, h.0)) ∙ ap (λ g. Err g) (sym h.2)
+      | inr h ↦ so_far_long slot (text ++ piece) (omega (
+        arith,
+        ap (λ t. length (references slot (given start t)))
+            (none_within text piece (omega (arith, h.0))),
+        h.1,
+      )) (omega (arith, length-append text piece, h.0)) ∙ ap (λ g. Err g) (sym h.2)
     ]
 
 pub fault_opened : (slot text : List ℕ) (f : SourceFault)
@@ -252,7 +296,11 @@ first_reading slot k reader refs notes =
     let good : so_far slot [] ≡ Ok tt =
     so_far_ok slot [] (rw (whole_now slot [] (omega arith), nothing_given) (omega arith))
     (omega arith) in
-    let same : k ≡ kept_of slot [] = λ i. record { reader = reader i; refs = (refs ∙ sym (nothing_given slot)) i; notes = (notes ∙ sym (nothing_noted slot)) i } in
+    let same : k ≡ kept_of slot [] = λ i. record {
+      reader = reader i;
+      refs = (refs ∙ sym (nothing_given slot)) i;
+      notes = (notes ∙ sym (nothing_noted slot)) i;
+    } in
     ap (λ q. Ok q) same ∙ sym (ap (λ r. kept_if r (kept_of slot [])) good)
 
 -- the end of the text
@@ -285,7 +333,8 @@ module _ (slot text : List ℕ) (k : Kept) (o : Opened slot text k) where
   end_last : last_references slot text ≡ references slot (objects text)
   end_last = cond-false (nat_lt longest (length text)) _ _ (le-ltb longest (length text) o.short)
 
-  end_count : length (last_references slot text) ≡ length k.refs + length (references slot (last k.reader.state))
+  end_count : length (last_references slot text)
+      ≡ length k.refs + length (references slot (last k.reader.state))
   end_count =
       ap length (end_last ∙ end_refs) ∙ length-append k.refs (references slot (last k.reader.state))
 
@@ -298,7 +347,9 @@ module _ (slot text : List ℕ) (k : Kept) (o : Opened slot text k) where
   pub end_ok : length k.refs + length (references slot (last k.reader.state)) ≤ most
       → dump slot text ≡ Ok (dump_parts slot text)
   unfolding dump
-  end_ok few = fine (last_references slot text) text (dump_parts slot text) (omega (arith, end_count)) o.short
+  end_ok few =
+      fine (last_references slot text) text (dump_parts slot text)
+      (omega (arith, end_count)) o.short
 
 pub end_fault : (slot text : List ℕ) (f : SourceFault) → so_far slot text ≡ Err f
     → dump slot text ≡ Err f
@@ -313,9 +364,20 @@ end_fault slot text f e =
       | inl h ↦ elim both [
         | inr short ↦
             many (last_references slot text) text (dump_parts slot text)
-            (omega (arith, ap length (cond-false (nat_lt longest (length text)) (whole_references slot text) (references slot (objects text)) (le-ltb longest (length text) short)), ap (λ t. length (references slot t)) (whole_given text), ap length (references-append slot (given start text) (last (after start text))), length-append (refs_of slot text) (references slot (last (after start text))), ap length (whole_now slot text short), h.0))
+            (omega (
+              arith,
+              ap length (cond-false (nat_lt longest (length text)) (whole_references slot text)
+                  (references slot (objects text)) (le-ltb longest (length text) short)),
+              ap (λ t. length (references slot t)) (whole_given text),
+              ap length (references-append slot (given start text) (last (after start text))),
+              length-append (refs_of slot text) (references slot (last (after start text))),
+              ap length (whole_now slot text short),
+              h.0,
+            ))
             ∙ ap (λ g. Err g) (sym h.1)
-        | inl over ↦ many (last_references slot text) text (dump_parts slot text) (omega (arith, ap length (over_last over), h.0)) ∙ ap (λ g. Err g) (sym h.1)
+        | inl over ↦ many (last_references slot text) text (dump_parts slot text)
+            (omega (arith, ap length (over_last over), h.0)) ∙ ap (λ g. Err g) (sym h.1)
       ]
-      | inr h ↦ long (last_references slot text) text (dump_parts slot text) (omega (arith, ap length (over_last h.0), h.1)) h.0 ∙ ap (λ g. Err g) (sym h.2)
+      | inr h ↦ long (last_references slot text) text (dump_parts slot text)
+          (omega (arith, ap length (over_last h.0), h.1)) h.0 ∙ ap (λ g. Err g) (sym h.2)
     ]

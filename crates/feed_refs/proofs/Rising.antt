@@ -1,5 +1,6 @@
 -- Numbers that rise, and what is kept of them.
-use Rattle.std.proofs.Common.{◌≡◌, ℕ, zero, suc, ◌+◌, ◌<◌, ◌≤◌, false, List, [], ◌∷◌, ◌++◌, ◌⊎◌, inl, inr, refl, sym, subst, arith}
+use Rattle.std.proofs.Common.{◌≡◌, ℕ, zero, suc, ◌+◌, ◌<◌, ◌≤◌, false, List, [], ◌∷◌, ◌++◌, ◌⊎◌}
+use Rattle.std.proofs.Common.{inl, inr, refl, sym, subst, arith}
 use Rattle.std.specs.Prelude.{nat_eq}
 use Rattle.std.specs.List.{IsDistinct, AllByRecursion}
 use Rattle.std.specs.List.Sorted.{IsStrictlyIncreasing}
@@ -80,8 +81,11 @@ in-append (z ∷ xs) ys x i = elim i [
 pub distinct_from_rises : (low : ℕ) (xs : List ℕ) → Rises low xs → IsDistinct nat_eq xs
 unfolding IsDistinct
 distinct_from_rises low [] r = tt
-distinct_from_rises low (x ∷ xs) r =
-    (all_from_in (λ y. nat_eq x y ≡ false) xs (λ y i. let h : x + 1 ≤ y = low-le-in (x + 1) xs y r.1 i in ne_eqb x y (λ e. omega (arith, e))), distinct_from_rises (x + 1) xs r.1)
+distinct_from_rises low (x ∷ xs) r = (
+  all_from_in (λ y. nat_eq x y ≡ false) xs (λ y i. let h : x + 1 ≤ y =
+      low-le-in (x + 1) xs y r.1 i in ne_eqb x y (λ e. omega (arith, e))),
+  distinct_from_rises (x + 1) xs r.1,
+)
 
 -- two lists of distinct numbers that share none
 pub distinct-append : (xs ys : List ℕ) → IsDistinct nat_eq xs → IsDistinct nat_eq ys

@@ -1,5 +1,6 @@
 -- What a registry dump says of feeds (RFC 9632), and the limits of a dump.
-use Rattle.std.specs.Prelude.{ℕ, ◌^◌, nat_eq, nat_lt, List, [], ◌∷◌, length, take, flat_map, Result, Ok, Err, if◌then◌else◌}
+use Rattle.std.specs.Prelude.{ℕ, ◌^◌, nat_eq, nat_lt, List, [], ◌∷◌, length, take, flat_map, Result}
+use Rattle.std.specs.Prelude.{Ok, Err, if◌then◌else◌}
 use Rattle.std.specs.List.{IsDistinct}
 use Rattle.geo_terms.specs.SourceForm.{DumpParts, note_lines}
 use Rattle.geo_terms.specs.declared.note.Note.{Note}
@@ -55,7 +56,8 @@ in_line_order (n ∷ ns) = placed n (in_line_order ns)
 unfoldable pub noted : List ℕ → List Item → List Note
 noted slot items = flat_map (notes_of slot) items
 
--- the notes that items make, in line order: a line that was passed over may stand before an attribute of its object
+-- the notes that items make, in line order: a line that was passed over may stand before an
+-- attribute of its object
 abbrev pub notes : List ℕ → List Item → List Note
 notes slot items = in_line_order (noted slot items)
 
@@ -63,13 +65,16 @@ notes slot items = in_line_order (noted slot items)
 unfoldable pub within : List ℕ → List ℕ
 within text = take longest text
 
--- the references of the objects that are whole while more may follow: those that end within the bytes that count
+-- the references of the objects that are whole while more may follow:
+-- those that end within the bytes that count
 abbrev pub whole_references : List ℕ → List ℕ → List Reference
 whole_references slot text = references slot (given start (within text))
 
 -- a dump that is too long is so whatever follows, and one with too many references too
 abbrev pub judged : {T : Type 0} → List Reference → List ℕ → T → Result T SourceFault
-judged found text x = if nat_lt most (length found) then Err TooMany else (if nat_lt longest (length text) then Err TooLong else Ok x)
+judged found text x =
+    if nat_lt most (length found) then Err TooMany
+    else (if nat_lt longest (length text) then Err TooLong else Ok x)
 
 -- what is said of the text of a dump while more may follow
 unfoldable pub so_far : (slot text : List ℕ) → Result (Unit {0}) SourceFault
@@ -77,11 +82,14 @@ so_far slot text = judged (whole_references slot text) text tt
 
 -- what a dump says, if it is not too long
 abbrev pub dump_parts : (slot text : List ℕ) → DumpParts
-dump_parts slot text = record { slot = slot; refs = references slot (objects text); notes = notes slot (objects text) }
+dump_parts slot text =
+    record { slot = slot; refs = references slot (objects text); notes = notes slot (objects text) }
 
 -- the end of a text ends its last object, where all of it counts
 abbrev pub last_references : List ℕ → List ℕ → List Reference
-last_references slot text = if nat_lt longest (length text) then whole_references slot text else references slot (objects text)
+last_references slot text =
+    if nat_lt longest (length text) then whole_references slot text
+    else references slot (objects text)
 
 -- the dump that a text is
 unfoldable pub dump : (slot text : List ℕ) → Result DumpParts SourceFault

@@ -1,5 +1,7 @@
--- The attributes of an object that matter here: references to a feed (RFC 9632, section 3), and `last-modified`.
-use Rattle.std.specs.Prelude.{ℕ, ◌&&◌, ◌||◌, Bool, false, nat_eq, List, [], ◌∷◌, drop, codes, Option, None, Some, is_some, unwrap_or, if◌then◌else◌}
+-- The attributes of an object that matter here: references to a feed (RFC 9632, section 3),
+-- and `last-modified`.
+use Rattle.std.specs.Prelude.{ℕ, ◌&&◌, ◌||◌, Bool, false, nat_eq, List, [], ◌∷◌, drop, codes}
+use Rattle.std.specs.Prelude.{Option, None, Some, is_some, unwrap_or, if◌then◌else◌}
 use Rattle.std.specs.List.{starts_with, before_first, list_any}
 use Rattle.geo_addr.specs.Lines.{is_blank, trimmed}
 use Rattle.geo_terms.specs.PlaceForm.{same_text}
@@ -27,7 +29,8 @@ first_word text = before_first is_blank (trimmed text)
 -- a remark that begins with `Geofeed`, then blanks, then a word with `://` in it, names that word
 unfoldable pub remark_url : List ℕ → Option (List ℕ)
 remark_url value =
-    if starts_with nat_eq value (codes "Geofeed") && begins_blank (drop 7 value) && holds_word (codes "://") (first_word (drop 7 value))
+    if starts_with nat_eq value (codes "Geofeed") && begins_blank (drop 7 value)
+    && holds_word (codes "://") (first_word (drop 7 value))
     then Some (first_word (drop 7 value)) else None
 
 -- a `remarks` attribute is a reference where its value is such a remark

@@ -1,5 +1,6 @@
 -- What a reader of a dump holds once it was fed a text.
-use Rattle.std.specs.Prelude.{◌≡◌, ℕ, List, [], ◌∷◌, length, codes, Option, None, Some, Result, Ok, Err, false}
+use Rattle.std.specs.Prelude.{◌≡◌, ℕ, List, [], ◌∷◌, length, codes, Option, None, Some, Result, Ok}
+use Rattle.std.specs.Prelude.{Err, false}
 use Rattle.geo_terms.specs.declared.note.Note.{Note}
 use Rattle.geo_terms.specs.declared.source.SourceFault.{SourceFault}
 use Rattle.geo_terms.specs.declared.statement.Reference.{Reference}
@@ -51,7 +52,8 @@ kept_by None kept = Ok kept
 kept_by (Some fault) kept = Err fault
 
 -- what a reader keeps in its fields
-pub record IsHeld (slot : List ℕ) (selection : Wanted) (count : ℕ) (fault : Option SourceFault) (kept : Kept) : Type 0 where
+pub record IsHeld (slot : List ℕ) (selection : Wanted) (count : ℕ) (fault : Option SourceFault)
+    (kept : Kept) : Type 0 where
   pub asked : selection ≡ ours
   pub counted : count ≡ kept.reader.fed
   pub fed : WasFed (record { slot = slot; kept = kept_by fault kept })

@@ -1,5 +1,7 @@
 -- The reference of an object to a feed, and the notes on its attributes (RFC 9632, section 3).
-use Rattle.std.specs.Prelude.{ℕ, ◌&&◌, ◌||◌, not, Bool, false, List, [], ◌∷◌, ◌++◌, codes, filter, find, Option, None, Some, is_none, unwrap_or, option_to_list, Result, Ok, Err, if◌then◌else◌}
+use Rattle.std.specs.Prelude.{ℕ, ◌&&◌, ◌||◌, not, Bool, false, List, [], ◌∷◌, ◌++◌, codes, filter}
+use Rattle.std.specs.Prelude.{find, Option, None, Some, is_none, unwrap_or, option_to_list, Result}
+use Rattle.std.specs.Prelude.{Ok, Err, if◌then◌else◌}
 use Rattle.geo_addr.specs.Prefixes.{block_in}
 use Rattle.geo_addr.specs.Ranges.{Ends, is_v4}
 use Rattle.geo_addr.specs.Spans.{span_in, range_of_read}
@@ -19,7 +21,8 @@ use Rattle.feed_refs.specs.declared.reference.Class.TheVariants.{Other, Unread, 
 use Rattle.feed_refs.specs.declared.reference.FoundRef.{FoundRef}
 use Rattle.feed_refs.specs.declared.reference.What.TheVariants.{NotInet, Nothing, One, Void}
 use Rattle.feed_refs.specs.Dates.{modified}
-use Rattle.feed_refs.specs.Kinds.{is_reference_remark, is_last_modified, is_of_kind, used_kind, url_text}
+use Rattle.feed_refs.specs.Kinds.{is_reference_remark, is_last_modified, is_of_kind, used_kind}
+use Rattle.feed_refs.specs.Kinds.{url_text}
 use Rattle.feed_refs.specs.Urls.{url_read}
 
 -- the addresses of an `inetnum` are an IPv4 span, and those of an `inet6num` an IPv6 prefix
@@ -35,7 +38,8 @@ v6_class (Err fault) = Unread
 unfoldable pub class_named : Attribute → Class
 class_named a =
     if same_text a.name (codes "inetnum") then v4_class (span_in a.value)
-    else (if same_text a.name (codes "inet6num") then v6_class (range_of_read (block_in a.value)) else Other)
+    else (if same_text a.name (codes "inet6num")
+    then v6_class (range_of_read (block_in a.value)) else Other)
 
 -- the first `last-modified` counts, and is 0 where it is missing or not read
 abbrev pub modified_in : Option Attribute → ℕ
@@ -45,8 +49,8 @@ modified_in (Some a) = unwrap_or (modified a.value) 0
 abbrev pub modified_of : List Attribute → ℕ
 modified_of parts = modified_in (find is_last_modified parts)
 
--- the rule on an attribute: on a reference of the used kind what is found of that, on a remark beside `geofeed` attributes P10,
--- and P07 on the first `last-modified` where it is not read
+-- the rule on an attribute: on a reference of the used kind what is found of that, on a remark
+-- beside `geofeed` attributes P10, and P07 on the first `last-modified` where it is not read
 abbrev pub rule_on : Kind → Option Rule → Bool → Attribute → Option Rule
 rule_on kind used seen a =
     if is_of_kind kind a then used
@@ -61,32 +65,45 @@ note_by slot line (Some rule) = Some (record { origin = Rpsl slot; line = line; 
 abbrev pub notes_from : List ℕ → Kind → Option Rule → Bool → List Attribute → List Note
 notes_from slot kind used seen [] = []
 notes_from slot kind used seen (a ∷ more) =
-    option_to_list (note_by slot a.line (rule_on kind used seen a)) ++ notes_from slot kind used (seen || is_last_modified a) more
+    option_to_list (note_by slot a.line (rule_on kind used seen a))
+    ++ notes_from slot kind used (seen || is_last_modified a) more
 
 abbrev pub notes_on : List ℕ → Kind → Option Rule → List Attribute → List Note
 notes_on slot kind used parts = notes_from slot kind used false parts
 
 -- what the only reference of the used kind comes to
 abbrev pub found_by : List ℕ → Ends → List Attribute → Attribute → UrlRead → FoundRef
-found_by slot range parts a Refused = record { what = Nothing; notes = notes_on slot (used_kind parts) (Some P05) parts }
-found_by slot range parts a OtherScheme = record { what = Nothing; notes = notes_on slot (used_kind parts) (Some P06) parts }
+found_by slot range parts a Refused =
+    record { what = Nothing; notes = notes_on slot (used_kind parts) (Some P05) parts }
+found_by slot range parts a OtherScheme =
+    record { what = Nothing; notes = notes_on slot (used_kind parts) (Some P06) parts }
 found_by slot range parts a (Https url) = record {
-  what = One (record { slot = slot; line = a.line; range = range; modified = modified_of parts; url = url });
+  what = One (record {
+    slot = slot;
+    line = a.line;
+    range = range;
+    modified = modified_of parts;
+    url = url;
+  });
   notes = notes_on slot (used_kind parts) None parts;
 }
 
 -- what the references of the used kind come to: one counts, and more are void
 abbrev pub found_among : List ℕ → Ends → List Attribute → List Attribute → FoundRef
 found_among slot range parts [] = record { what = Nothing; notes = [] }
-found_among slot range parts (a ∷ []) = found_by slot range parts a (url_read (url_text (used_kind parts) a))
-found_among slot range parts (a ∷ b ∷ more) = record { what = Void; notes = notes_on slot (used_kind parts) (Some P04) parts }
+found_among slot range parts (a ∷ []) =
+    found_by slot range parts a (url_read (url_text (used_kind parts) a))
+found_among slot range parts (a ∷ b ∷ more) =
+    record { what = Void; notes = notes_on slot (used_kind parts) (Some P04) parts }
 
 abbrev pub found_in : List ℕ → Ends → List Attribute → FoundRef
-found_in slot range parts = found_among slot range parts (filter (is_of_kind (used_kind parts)) parts)
+found_in slot range parts =
+    found_among slot range parts (filter (is_of_kind (used_kind parts)) parts)
 
 -- an object whose addresses are not read has one note, on its first attribute
 abbrev pub found_unread : List ℕ → ℕ → FoundRef
-found_unread slot line = record { what = Nothing; notes = option_to_list (note_by slot line (Some P03)) }
+found_unread slot line =
+    record { what = Nothing; notes = option_to_list (note_by slot line (Some P03)) }
 
 -- by the class of an object whose first attribute stands on a line
 abbrev pub found_as : List ℕ → ℕ → List Attribute → Class → FoundRef

@@ -40,9 +40,15 @@ impl Model for DumpReader {
 
     ghost Value = { Reading };
 
-    ghost view = { λ r. record { slot = r.slot; kept = kept_by r.fault (record { reader = r.reader; refs = r.found.refs.items; notes = r.found.notes.items }) } };
+    ghost view = { λ r. record {
+      slot = r.slot;
+      kept =
+          kept_by r.fault
+          (record { reader = r.reader; refs = r.found.refs.items; notes = r.found.notes.items });
+    } };
 
-    ghost invariant = { λ r. IsHeld r.slot r.selection r.fed r.fault (record { reader = r.reader; refs = r.found.refs.items; notes = r.found.notes.items }) };
+    ghost invariant = { λ r. IsHeld r.slot r.selection r.fed r.fault
+        (record { reader = r.reader; refs = r.found.refs.items; notes = r.found.notes.items }) };
 }
 
 impl DumpReader {
@@ -68,8 +74,12 @@ impl DumpReader {
     ///
     /// A dump that is too long or has too many references stays so, whatever follows.
     pub fn feed(&mut self, piece: &[u8]) -> Result<(), SourceFault>
-        ensures read { result ≢ Err SourceFault.Memory → (text : List ℕ) → self.old ≡ reading self.old.slot text → self.new ≡ reading self.old.slot (text ++ piece.now) }
-        ensures answer { result ≢ Err SourceFault.Memory → (text : List ℕ) → self.old ≡ reading self.old.slot text → result ≡ so_far self.old.slot (text ++ piece.now) }
+        ensures read { result ≢ Err SourceFault.Memory
+            → (text : List ℕ) → self.old ≡ reading self.old.slot text
+            → self.new ≡ reading self.old.slot (text ++ piece.now) }
+        ensures answer { result ≢ Err SourceFault.Memory
+            → (text : List ℕ) → self.old ≡ reading self.old.slot text
+            → result ≡ so_far self.old.slot (text ++ piece.now) }
         ensures memory { result ≡ Err SourceFault.Memory → self.new ≡ self.old }
     {
         if let Some(fault) = self.fault {
@@ -97,7 +107,8 @@ impl DumpReader {
 
     /// Ends the dump, and with it its last object.
     pub fn finish(self) -> Result<Dump, SourceFault>
-        ensures { result ≢ Err SourceFault.Memory → (text : List ℕ) → self ≡ reading self.slot text → result ≡ dump self.slot text }
+        ensures { result ≢ Err SourceFault.Memory → (text : List ℕ) → self ≡ reading self.slot text
+            → result ≡ dump self.slot text }
     {
         if let Some(fault) = self.fault {
             return Err(fault);

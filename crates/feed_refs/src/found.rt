@@ -1,6 +1,7 @@
 //! What the items of a dump say.
 ghost use Rattle.std.specs.Prelude.{◌≡◌, ◌+◌, ◌≤◌, ◌++◌, [], IfOk, OnOk, vec_capacity, vec_len};
-ghost use Rattle.feed_refs.specs.Dumps.{AreApart, in_line_order, noted, notes_of, reference_in, references, references_of};
+ghost use Rattle.feed_refs.specs.Dumps.{AreApart, in_line_order, noted, notes_of, reference_in};
+ghost use Rattle.feed_refs.specs.Dumps.{references, references_of};
 ghost use Rattle.feed_refs.specs.References.{found as found_of};
 
 use crate::reference::{What, found_of};
@@ -45,8 +46,10 @@ impl Found {
     pub fn reserve(&mut self, more: &Found) -> Result<(), Memory>
         ensures refs { self.new.refs.items ≡ self.old.refs.items }
         ensures notes { self.new.notes.items ≡ self.old.notes.items }
-        ensures room_refs { OnOk result (vec_len self.new.refs + vec_len more.now.refs ≤ vec_capacity self.new.refs) }
-        ensures room_notes { OnOk result (vec_len self.new.notes + vec_len more.now.notes ≤ vec_capacity self.new.notes) }
+        ensures room_refs { OnOk result
+            (vec_len self.new.refs + vec_len more.now.refs ≤ vec_capacity self.new.refs) }
+        ensures room_notes { OnOk result
+            (vec_len self.new.notes + vec_len more.now.notes ≤ vec_capacity self.new.notes) }
     {
         self.refs.reserve(more.refs.len())?;
         self.notes.reserve(more.notes.len())?;
@@ -55,8 +58,10 @@ impl Found {
 
     /// Adds what more items say, for which there is room.
     pub fn join(&mut self, more: Found)
-        requires room_refs { vec_len self.old.refs + vec_len more.refs ≤ vec_capacity self.old.refs }
-        requires room_notes { vec_len self.old.notes + vec_len more.notes ≤ vec_capacity self.old.notes }
+        requires room_refs { vec_len self.old.refs + vec_len more.refs
+            ≤ vec_capacity self.old.refs }
+        requires room_notes { vec_len self.old.notes + vec_len more.notes
+            ≤ vec_capacity self.old.notes }
         ensures refs { self.new.refs.items ≡ self.old.refs.items ++ more.refs.items }
         ensures notes { self.new.notes.items ≡ self.old.notes.items ++ more.notes.items }
     {
@@ -74,8 +79,10 @@ fn take_item(
     urls: &mut Texts,
     found: &mut Found,
 ) -> Result<(), Memory>
-    ensures refs { OnOk result (found.new.refs.items ≡ found.old.refs.items ++ references_of slot.now item.now) }
-    ensures notes { OnOk result (found.new.notes.items ≡ found.old.notes.items ++ notes_of slot.now item.now) }
+    ensures refs { OnOk result
+        (found.new.refs.items ≡ found.old.refs.items ++ references_of slot.now item.now) }
+    ensures notes { OnOk result
+        (found.new.notes.items ≡ found.old.notes.items ++ notes_of slot.now item.now) }
 {
     match item {
         Item::Whole(object) => take_object(alloc, slot, object, urls, found),
@@ -98,8 +105,10 @@ fn take_object(
     urls: &mut Texts,
     found: &mut Found,
 ) -> Result<(), Memory>
-    ensures refs { OnOk result (found.new.refs.items ≡ found.old.refs.items ++ reference_in (found_of slot.now object.now).what) }
-    ensures notes { OnOk result (found.new.notes.items ≡ found.old.notes.items ++ (found_of slot.now object.now).notes) }
+    ensures refs { OnOk result (found.new.refs.items
+        ≡ found.old.refs.items ++ reference_in (found_of slot.now object.now).what) }
+    ensures notes { OnOk result
+        (found.new.notes.items ≡ found.old.notes.items ++ (found_of slot.now object.now).notes) }
 {
     let told = found_of(alloc, slot, object)?;
     let mut notes = told.notes.into_vec();
@@ -131,7 +140,8 @@ fn with_shared_url(reference: Reference, urls: &mut Texts) -> Result<Reference, 
 
 /// Notes on distinct lines, in line order.
 pub(crate) fn in_line_order(notes: Vec<Note>) -> Result<Vec<Note>, Memory>
-    ensures { IfOk result (λ sorted. AreApart notes.items → sorted.items ≡ in_line_order notes.items) }
+    ensures { IfOk result
+        (λ sorted. AreApart notes.items → sorted.items ≡ in_line_order notes.items) }
 {
     let mut notes = notes;
     notes.sort_by_key(|note| note.line)?;

@@ -3,7 +3,9 @@ ghost use Rattle.std.specs.Prelude.{◌≡◌, ◌<◌, length, position, IfSome
 ghost use Rattle.std.specs.List.{list_any};
 ghost use Rattle.std.specs.Option.{option_copied};
 ghost use Rattle.geo_addr.specs.Lines.{is_blank};
-ghost use Rattle.feed_refs.specs.Kinds.{begins_blank, first_word, holds_word, is_geofeed, is_last_modified, is_of_kind, is_reference_remark, remark_url, url_text, used_kind};
+ghost use Rattle.feed_refs.specs.Kinds.{begins_blank, first_word, holds_word, is_geofeed};
+ghost use Rattle.feed_refs.specs.Kinds.{is_last_modified, is_of_kind, is_reference_remark};
+ghost use Rattle.feed_refs.specs.Kinds.{remark_url, url_text, used_kind};
 
 use geo_addr::{is_blank, trim_blanks};
 use rpsl_reader::Attribute;

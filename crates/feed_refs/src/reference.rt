@@ -1,9 +1,12 @@
 //! The reference of an object.
-ghost use Rattle.std.specs.Prelude.{◌≡◌, ◌++◌, ◌∷◌, [], List, IfOk, OnOk, OnErr, MatchOption, Some, find, filter, option_to_list};
+ghost use Rattle.std.specs.Prelude.{◌≡◌, ◌++◌, ◌∷◌, [], List, IfOk, OnOk, OnErr, MatchOption, Some};
+ghost use Rattle.std.specs.Prelude.{find, filter, option_to_list};
 ghost use Rattle.std.specs.Option.{option_copied};
 ghost use Rattle.rpsl_reader.specs.declared.item.Attribute.{Attribute};
 ghost use Rattle.feed_refs.specs.Kinds.{is_of_kind, is_last_modified, url_text, used_kind};
-ghost use Rattle.feed_refs.specs.References.{class_named, found, found_by, found_in, found_unread, modified_of, note_by, notes_from, notes_on, rule_on, v4_class, v6_class};
+ghost use Rattle.feed_refs.specs.References.{class_named, found, found_by, found_in, found_unread};
+ghost use Rattle.feed_refs.specs.References.{modified_of, note_by, notes_from, notes_on, rule_on};
+ghost use Rattle.feed_refs.specs.References.{v4_class, v6_class};
 ghost use Rattle.feed_refs.specs.Urls.{url_read};
 ghost use Rattle.geo_addr.specs.Prefixes.{block_in};
 ghost use Rattle.geo_addr.specs.Spans.{range_of_read, span_in};
@@ -176,7 +179,8 @@ fn used_among<'a>(kind: Kind, parts: &'a [Attribute]) -> Used<'a>
 }
 
 fn one_more<'a>(used: Used<'a>, next: &'a Attribute) -> Used<'a>
-    ensures { (before : List Attribute) → IsUsed before used.entry → IsUsed (before ++ next.entry.now ∷ []) result }
+    ensures { (before : List Attribute) → IsUsed before used.entry
+        → IsUsed (before ++ next.entry.now ∷ []) result }
 {
     match used {
         Used::Nobody => Used::One(next),
@@ -193,7 +197,8 @@ fn read_only(
     parts: &[Attribute],
     only: &Attribute,
 ) -> Result<FoundRef, Memory>
-    ensures { IfOk result (λ told. told ≡ found_by slot.now range parts.now only.now (url_read (url_text (used_kind parts.now) only.now))) }
+    ensures { IfOk result (λ told. told ≡ found_by slot.now range parts.now only.now
+        (url_read (url_text (used_kind parts.now) only.now))) }
 {
     let kind = used_kind(parts);
     let (what, rule) = match read_url(alloc, url_text(kind, only))? {
@@ -272,7 +277,8 @@ fn push_note(
     rule: Option<Rule>,
     notes: &mut Vec<Note>,
 ) -> Result<(), Memory>
-    ensures { OnOk result (notes.new.items ≡ notes.old.items ++ option_to_list (note_by slot.now line rule)) }
+    ensures { OnOk result
+        (notes.new.items ≡ notes.old.items ++ option_to_list (note_by slot.now line rule)) }
 {
     if let Some(rule) = rule {
         let origin = Origin::Rpsl(slot.copied()?);

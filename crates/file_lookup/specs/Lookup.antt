@@ -1,5 +1,6 @@
 -- What `lookup` prints of an address in a file.
-use Rattle.std.specs.Prelude.{◌≡◌, ℕ, List, [], ◌++◌, codes, decimal, Option, Some, None, Result, Ok, Err}
+use Rattle.std.specs.Prelude.{◌≡◌, ℕ, List, [], ◌++◌, codes, decimal, Option, Some, None, Result}
+use Rattle.std.specs.Prelude.{Ok, Err}
 use Rattle.geo_addr.specs.Bits.{bits_of}
 use Rattle.mmdb_data.specs.declared.fault.DataCause.{DataCause}
 use Rattle.mmdb_data.specs.declared.fault.DataCause.TheVariants as causes
@@ -64,7 +65,8 @@ cause_name causes.Many = codes "Many"
 cause_name causes.Size = codes "Size"
 cause_name causes.Big = codes "Big"
 
--- the line that a lookup prints where the file is damaged on the way to an address: the cause, and the offset of a value that cannot be read
+-- the line that a lookup prints where the file is damaged on the way to an address:
+-- the cause, and the offset of a value that cannot be read
 unfoldable pub file_line : LookupFault → List ℕ
 file_line faults.NoMarker = codes "stop file NoMarker\n"
 file_line faults.Metadata = codes "stop file Metadata\n"
@@ -72,5 +74,6 @@ file_line faults.Version = codes "stop file Version\n"
 file_line faults.TreeCut = codes "stop file TreeCut\n"
 file_line faults.NotEnded = codes "stop file NotEnded\n"
 file_line faults.OutOfSection = codes "stop file OutOfSection\n"
-file_line (faults.Value at cause) = codes "stop file " ++ (cause_name cause ++ (codes " " ++ (decimal at ++ codes "\n")))
+file_line (faults.Value at cause) =
+    codes "stop file " ++ (cause_name cause ++ (codes " " ++ (decimal at ++ codes "\n")))
 file_line faults.Memory = []

@@ -5,7 +5,8 @@ ghost use Rattle.mmdb_data.specs.View.{tree};
 ghost use Rattle.mmdb_data.specs.Reading.{reads};
 ghost use Rattle.mmdb_file.specs.Walk.{value_at as value_behind, value_read, place_at};
 ghost use Rattle.json_values.specs.Json.{json};
-ghost use Rattle.file_lookup.specs.Lookup.{answer, answer_of, answer_text, cause_name, file_line, Gives, open_fault};
+ghost use Rattle.file_lookup.specs.Lookup.{answer, answer_of, answer_text, cause_name, file_line};
+ghost use Rattle.file_lookup.specs.Lookup.{Gives, open_fault};
 
 use geo_addr::{Addr, Memory, Text};
 use json_values::json_text;
@@ -38,8 +39,8 @@ pub enum LookupFault {
 
 /// What is printed of an address in a file: its record as JSON, or `none`, and a line feed.
 ///
-/// The file is walked by the format's rules (MaxMind DB 2.0), whoever wrote it. A fault is one that stands in
-/// the way of this address; what is wrong elsewhere in the file is not seen.
+/// The file is walked by the format's rules (MaxMind DB 2.0), whoever wrote it. A fault is one that
+/// stands in the way of this address; what is wrong elsewhere in the file is not seen.
 #[tactic(auto, using(crate::proofs::LookupLemmas::answer_by_parts))]
 pub fn lookup_text(alloc: Global, bytes: &[u8], at: Addr) -> Result<Text, LookupFault>
     ensures { Gives result (answer bytes.now at.0) }
@@ -51,7 +52,8 @@ pub fn lookup_text(alloc: Global, bytes: &[u8], at: Addr) -> Result<Text, Lookup
 }
 
 fn found_text(alloc: Global, file: &Mmdb<'_>, at: Addr) -> Result<Text, LookupFault>
-    ensures { Gives result (answer_of (value_behind file.now (place_at file.now (bits_of 128 at.0)))) }
+    ensures { Gives result
+        (answer_of (value_behind file.now (place_at file.now (bits_of 128 at.0)))) }
 {
     match file.find(at) {
         Ok(Some(place)) => value_text(alloc, file.section(), place),
@@ -129,7 +131,8 @@ pub fn file_line(alloc: Global, fault: LookupFault) -> Result<Text, Memory>
 }
 
 fn value_line(alloc: Global, at: u64, cause: DataCause) -> Result<Text, Memory>
-    ensures { IfOk result (λ text. text ≡ codes "stop file " ++ (cause_name cause ++ (codes " " ++ (decimal at ++ codes "\n")))) }
+    ensures { IfOk result (λ text. text
+        ≡ codes "stop file " ++ (cause_name cause ++ (codes " " ++ (decimal at ++ codes "\n")))) }
 {
     let name = cause_name(cause);
     let text = format!(in alloc; "stop file {name} {at}\n")?;

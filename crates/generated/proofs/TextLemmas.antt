@@ -1,5 +1,6 @@
 -- What a short number and a generated block are printed as, part by part.
-use Rattle.std.proofs.Common.{◌≡◌, ℕ, ◌+◌, ◌*◌, ◌/◌, ◌%◌, ◌^◌, ◌<◌, ◌≤◌, not, List, [], ◌∷◌, ◌++◌, codes, decimal, ap, ◌∙◌, arith, lit≤, lit<}
+use Rattle.std.proofs.Common.{◌≡◌, ℕ, ◌+◌, ◌*◌, ◌/◌, ◌%◌, ◌^◌, ◌<◌, ◌≤◌, not, List, [], ◌∷◌, ◌++◌}
+use Rattle.std.proofs.Common.{codes, decimal, ap, ◌∙◌, arith, lit≤, lit<}
 use Rattle.std.proofs.lemmas.Fmt.{decimal_digit, decimal_step}
 use Rattle.std.specs.Net.Text.{dotted_text}
 use Rattle.geo_addr.specs.Printing.{block_text, four_octets, number_text, printed_length, text4}
@@ -13,7 +14,8 @@ one_digit n below =
 
 pub two_digits : (n : ℕ) → 10 ≤ n → n < 100 → decimal n ≡ (48 + n / 10 % 10) ∷ (48 + n % 10) ∷ []
 two_digits n least below =
-    decimal_step n least (omega arith) ∙ ap (λ ds. ds ++ ((48 + n % 10) ∷ [])) (one_digit (n / 10) (omega arith))
+    decimal_step n least (omega arith)
+    ∙ ap (λ ds. ds ++ ((48 + n % 10) ∷ [])) (one_digit (n / 10) (omega arith))
 
 pub three_digits : (n : ℕ) → 100 ≤ n → n < 1000
     → decimal n ≡ (48 + n / 100) ∷ (48 + n / 10 % 10) ∷ (48 + n % 10) ∷ []
@@ -41,7 +43,8 @@ block : (i : ℕ) → i < 1000000
     ≡ dotted_text 10 (16 * i / 65536) (16 * i / 256 % 256) (16 * i % 256) ++ codes "/" ++ decimal 28
 block i small =
     let first : ℕ = 10 * 2 ^ 24 + 16 * i in
-    ap (λ v4. number_text (not v4) first ++ codes "/" ++ decimal (printed_length (block_at i))) (is_low i small)
+    ap (λ v4. number_text (not v4) first ++ codes "/" ++ decimal (printed_length (block_at i)))
+    (is_low i small)
     ∙ ap (λ n. text4 first ++ codes "/" ++ decimal n) (length_is i small)
     ∙ ap (λ ds. ds ++ codes "/" ++ decimal 28) (address i small)
 

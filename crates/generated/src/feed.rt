@@ -8,9 +8,9 @@ use std::alloc::Global;
 // As many bytes as the longest lines have: `10.100.100.240/28,IT,,City 215,` and a line feed.
 const LINE_ROOM: usize = 32;
 
-/// The bytes of a generated feed (RFC 8805): `lines` lines of the blocks `/28` from `10.0.0.0` on, with
-/// three countries in turn and a thousand cities. The second feed has another country in its first
-/// line, and is the first one else.
+/// The bytes of a generated feed (RFC 8805): `lines` lines of the blocks `/28` from `10.0.0.0` on,
+/// with three countries in turn and a thousand cities. The second feed has another country in its
+/// first line, and is the first one else.
 pub fn gen_feed(alloc: Global, lines: u32, second: bool) -> Result<Vec<u8>, Memory>
     requires few { lines ≤ 1000000 }
     ensures { IfOk result (λ bytes. bytes.items ≡ feed second lines) }

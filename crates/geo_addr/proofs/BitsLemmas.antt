@@ -1,8 +1,11 @@
--- Lemmas on the bits of an address: how the list begins in each half of a block, and that it says which address it is.
-use Rattle.std.proofs.Common.{◌≡◌, ℕ, zero, suc, ◌+◌, ◌-◌, ◌*◌, ◌/◌, ◌%◌, ◌^◌, ◌<◌, inl, inr, Bool, true, false, List, [], ◌∷◌, length, refl, ◌∙◌, ap, subst, arith}
+-- Lemmas on the bits of an address: how the list begins in each half of a block,
+-- and that it says which address it is.
+use Rattle.std.proofs.Common.{◌≡◌, ℕ, zero, suc, ◌+◌, ◌-◌, ◌*◌, ◌/◌, ◌%◌, ◌^◌, ◌<◌, inl, inr, Bool}
+use Rattle.std.proofs.Common.{true, false, List, [], ◌∷◌, length, refl, ◌∙◌, ap, subst, arith}
 use Rattle.std.specs.Int.{bit_at}
 use Rattle.std.proofs.lemmas.Bool.{cases_lt}
-use Rattle.std.proofs.Math.Nat.{two-pow-succ, add-div_left, pow-suc, mul_assoc, add-mul-div_left, add-mul-mod_self_left, div-eq_of_lt}
+use Rattle.std.proofs.Math.Nat.{two-pow-succ, add-div_left, pow-suc, mul_assoc, add-mul-div_left}
+use Rattle.std.proofs.Math.Nat.{add-mul-mod_self_left, div-eq_of_lt}
 use Rattle.geo_addr.specs.Bits.{bits_of, number_of, OneListOfBits}
 
 -- a list of bits is as long as is asked
@@ -20,7 +23,8 @@ pow-positive (suc n) = omega (arith, two-pow-succ n, pow-positive n)
 pub bit_at-add_multiple : (n a k : ℕ) → bit_at (a + 2 ^ suc n * k) n ≡ bit_at a n
 bit_at-add_multiple n a k =
     let power : 2 ^ suc n * k ≡ 2 ^ n * (2 * k) = rw (pow-suc, mul_assoc) refl in
-    rw power (ap (λ x. x % 2) (add-mul-div_left a (2 * k) (pow-positive n)) ∙ add-mul-mod_self_left (a / 2 ^ n) 2 k)
+    rw power (ap (λ x. x % 2) (add-mul-div_left a (2 * k) (pow-positive n))
+    ∙ add-mul-mod_self_left (a / 2 ^ n) 2 k)
 
 -- and so all lower bits
 pub bits_of-add_multiple : (n a k : ℕ) → bits_of n (a + 2 ^ n * k) ≡ bits_of n a
@@ -43,7 +47,8 @@ bits_of-lower n a h =
 pub bits_of-upper : (n a : ℕ) → a < 2 ^ n → bits_of (suc n) (2 ^ n + a) ≡ true ∷ bits_of n a
 unfolding bits_of
 bits_of-upper n a h =
-    let high : (2 ^ n + a) / 2 ^ n ≡ 1 = let below : a / 2 ^ n ≡ 0 = div-eq_of_lt h in omega (arith, add-div_left a (pow-positive n)) in
+    let high : (2 ^ n + a) / 2 ^ n ≡ 1 =
+    let below : a / 2 ^ n ≡ 0 = div-eq_of_lt h in omega (arith, add-div_left a (pow-positive n)) in
     let rest : bits_of n (2 ^ n + a) ≡ bits_of n a =
     ap (bits_of n) (grind arith) ∙ bits_of-add_multiple n a 1 in
     rw (high, rest) refl
@@ -58,8 +63,12 @@ number_of-lt (true ∷ w) = omega (arith, number_of-lt w, two-pow-succ (length w
 pub bits_of-number_of : (w : List Bool) → bits_of (length w) (number_of w) ≡ w
 unfolding bits_of
 bits_of-number_of [] = refl
-bits_of-number_of (false ∷ w) = bits_of-lower (length w) (number_of w) (number_of-lt w) ∙ ap (λ v. false ∷ v) (bits_of-number_of w)
-bits_of-number_of (true ∷ w) = bits_of-upper (length w) (number_of w) (number_of-lt w) ∙ ap (λ v. true ∷ v) (bits_of-number_of w)
+bits_of-number_of (false ∷ w) =
+    bits_of-lower (length w) (number_of w) (number_of-lt w)
+    ∙ ap (λ v. false ∷ v) (bits_of-number_of w)
+bits_of-number_of (true ∷ w) =
+    bits_of-upper (length w) (number_of w) (number_of-lt w)
+    ∙ ap (λ v. true ∷ v) (bits_of-number_of w)
 
 -- the number of the bits of a number below 2 ^ n is the number
 pub number_of-bits_of : (n a : ℕ) → a < 2 ^ n → number_of (bits_of n a) ≡ a
@@ -72,7 +81,8 @@ number_of-bits_of (suc n) a h =
           let r : ℕ = a - 2 ^ n in
           let is : a ≡ 2 ^ n + r = omega arith in
           let less : r < 2 ^ n = omega (arith, two-pow-succ n) in
-          let same : number_of (bits_of (suc n) a) ≡ 2 ^ length (bits_of n r) + number_of (bits_of n r) =
+          let same : number_of (bits_of (suc n) a)
+          ≡ 2 ^ length (bits_of n r) + number_of (bits_of n r) =
           ap (λ b. number_of (bits_of (suc n) b)) is ∙ ap number_of (bits_of-upper n r less) in
           let power : 2 ^ length (bits_of n r) ≡ 2 ^ n = ap (λ x. 2 ^ x) (length-bits_of n r) in
           omega (arith, same, power, number_of-bits_of n r less, is)

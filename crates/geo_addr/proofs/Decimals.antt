@@ -1,5 +1,6 @@
 -- Lemmas on decimal digits.
-use Rattle.std.proofs.Common.{◌≡◌, ℕ, ◌+◌, ◌-◌, ◌*◌, ◌^◌, ◌<◌, ◌≤◌, true, List, length, take, get_or, arith, add-one, ap, ◌∙◌, IsTrue}
+use Rattle.std.proofs.Common.{◌≡◌, ℕ, ◌+◌, ◌-◌, ◌*◌, ◌^◌, ◌<◌, ◌≤◌, true, List, length, take}
+use Rattle.std.proofs.Common.{get_or, arith, add-one, ap, ◌∙◌, IsTrue}
 use Rattle.std.specs.Char.{digit_value, is_ascii_digit}
 use Rattle.std.specs.List.{list_all}
 use Rattle.std.specs.Str.Parse.{digits_value}
@@ -15,24 +16,29 @@ value_of : (c : ℕ) → 48 ≤ c → c ≤ 57 → digit_value c ≡ c - 48
 value_of c low high = grind (arith, nat_tests)
 
 -- each byte of a text of digits is a digit
-pub digit_at : (xs : List ℕ) (i : ℕ) → IsTrue (list_all is_ascii_digit xs) → i < length xs → (48 ≤ get_or xs i 0) × (get_or xs i 0 ≤ 57)
-digit_at xs i digits within = digit_range (get_or xs i 0) (AllPass-from_list_all is_ascii_digit xs digits i 0 within)
+pub digit_at : (xs : List ℕ) (i : ℕ) → IsTrue (list_all is_ascii_digit xs) → i < length xs
+    → (48 ≤ get_or xs i 0) × (get_or xs i 0 ≤ 57)
+digit_at xs i digits within =
+    digit_range (get_or xs i 0) (AllPass-from_list_all is_ascii_digit xs digits i 0 within)
 
 -- one more digit multiplies the value by ten and adds it
 pub value_more : (xs : List ℕ) (i : ℕ) → IsTrue (list_all is_ascii_digit xs) → i < length xs →
     digits_value 10 (take (i + 1) xs) ≡ digits_value 10 (take i xs) * 10 + (get_or xs i 0 - 48)
 value_more xs i digits within =
     let range : (48 ≤ get_or xs i 0) × (get_or xs i 0 ≤ 57) = digit_at xs i digits within in
-    let digit : digit_value (get_or xs i 0) ≡ get_or xs i 0 - 48 = value_of (get_or xs i 0) range.0 range.1 in
+    let digit : digit_value (get_or xs i 0) ≡ get_or xs i 0 - 48 =
+    value_of (get_or xs i 0) range.0 range.1 in
     digits_value_more 10 xs i within ∙ ap (λ d. digits_value 10 (take i xs) * 10 + d) digit
 
 -- a number of fewer than 38 digits has room for one more
 pub room : (value digit i : ℕ) → value < 10 ^ i → digit ≤ 9 → i < 38 → value * 10 + digit < 2 ^ 128
 room value digit i small one few =
-    let most : 10 ^ i ≤ 10 ^ 37 = pow-le-pow_right {n = 10} (omega arith) {i = i} {j = 37} (omega arith) in
+    let most : 10 ^ i ≤ 10 ^ 37 =
+    pow-le-pow_right {n = 10} (omega arith) {i = i} {j = 37} (omega arith) in
     omega arith
 
-pub next_power : (value digit i : ℕ) → value < 10 ^ i → digit ≤ 9 → value * 10 + digit < 10 ^ (i + 1)
+pub next_power : (value digit i : ℕ) → value < 10 ^ i → digit ≤ 9
+    → value * 10 + digit < 10 ^ (i + 1)
 next_power value digit i small one =
     let power : 10 ^ (i + 1) ≡ 10 ^ i * 10 = rw add-one (pow-suc 10 i) in
     omega arith

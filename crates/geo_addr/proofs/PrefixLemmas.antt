@@ -8,21 +8,34 @@ use Rattle.geo_addr.specs.AddressTexts.{is_six, number_in}
 use Rattle.geo_addr.specs.Prefixes.{address_length, block_in, block_of, cut_first, length_in}
 
 -- a text without the separator is not cut
-cut_first-free : (separator : ℕ) (text : List ℕ) → All (λ b. b ≢ separator) text → cut_first separator text ≡ (text, None)
+cut_first-free : (separator : ℕ) (text : List ℕ) → All (λ b. b ≢ separator) text
+    → cut_first separator text ≡ (text, None)
 cut_first-free separator [] free = refl
 cut_first-free separator (b ∷ bs) free =
-    rw (ne_eqb b separator (free 0 0 (omega arith)), cut_first-free separator bs (λ k d l. free (suc k) d (omega arith))) refl
+    rw (
+      ne_eqb b separator (free 0 0 (omega arith)),
+      cut_first-free separator bs (λ k d l. free (suc k) d (omega arith)),
+    ) refl
 
 -- a text is cut at the separator that has none before it
-pub cut_first-at : (separator : ℕ) (before after : List ℕ) → All (λ b. b ≢ separator) before → cut_first separator (before ++ separator ∷ after) ≡ (before, Some after)
+pub cut_first-at : (separator : ℕ) (before after : List ℕ) → All (λ b. b ≢ separator) before
+    → cut_first separator (before ++ separator ∷ after) ≡ (before, Some after)
 cut_first-at separator [] after free = rw (eq-eqb separator separator refl) refl
 cut_first-at separator (b ∷ bs) after free =
-    rw (ne_eqb b separator (free 0 0 (omega arith)), cut_first-at separator bs after (λ k d l. free (suc k) d (omega arith))) refl
+    rw (
+      ne_eqb b separator (free 0 0 (omega arith)),
+      cut_first-at separator bs after (λ k d l. free (suc k) d (omega arith)),
+    ) refl
 
 -- what `cut_at` says of its result
-pub cut_first-is : (separator : ℕ) (text before : List ℕ) (after : Option (Bor (List ℕ))) → All (λ b. b ≢ separator) before → MatchOption after (text ≡ before) (λ rest. text ≡ before ++ separator ∷ rest.now) → cut_first separator text ≡ (before, option_copied after)
-cut_first-is separator text before None free joined = rw joined (cut_first-free separator before free)
-cut_first-is separator text before (Some after) free joined = rw joined (cut_first-at separator before after.now free)
+pub cut_first-is : (separator : ℕ) (text before : List ℕ) (after : Option (Bor (List ℕ)))
+    → All (λ b. b ≢ separator) before
+    → MatchOption after (text ≡ before) (λ rest. text ≡ before ++ separator ∷ rest.now)
+    → cut_first separator text ≡ (before, option_copied after)
+cut_first-is separator text before None free joined =
+    rw joined (cut_first-free separator before free)
+cut_first-is separator text before (Some after) free joined =
+    rw joined (cut_first-at separator before after.now free)
 
 -- the block of a text with no slash
 pub block_in-alone : (text before : List ℕ) (after : Option (Bor (List ℕ))) (six : Bool)

@@ -1,5 +1,7 @@
--- The bits of an address, most significant first: the way through a search tree that the address takes (MaxMind DB 2.0, "Binary Search Tree Section").
-use Rattle.std.specs.Prelude.{◌≡◌, ℕ, zero, suc, ◌+◌, ◌^◌, ◌<◌, ◌==◌, Bool, true, false, List, [], ◌∷◌, length}
+-- The bits of an address, most significant first: the way through a search tree that the address
+-- takes (MaxMind DB 2.0, "Binary Search Tree Section").
+use Rattle.std.specs.Prelude.{◌≡◌, ℕ, zero, suc, ◌+◌, ◌^◌, ◌<◌, ◌==◌, Bool, true, false, List, []}
+use Rattle.std.specs.Prelude.{◌∷◌, length}
 use Rattle.std.specs.Int.{bit_at}
 
 -- the low n bits of a number, most significant first

@@ -1,5 +1,6 @@
 -- IPv4 texts: four decimal numbers with dots between them (RFC 4291, section 2.2, item 3).
-use Rattle.std.specs.Prelude.{ℕ, ◌==◌, Bool, false, ◌&&◌, ◌||◌, not, nat_lt, nat_le, if◌then◌else◌, List, [], ◌∷◌, length, map, slice_index, Result, Ok, Err}
+use Rattle.std.specs.Prelude.{ℕ, ◌==◌, Bool, false, ◌&&◌, ◌||◌, not, nat_lt, nat_le, if◌then◌else◌}
+use Rattle.std.specs.Prelude.{List, [], ◌∷◌, length, map, slice_index, Result, Ok, Err}
 use Rattle.std.specs.Str.Parse.{digits_value}
 use Rattle.std.specs.Int.Digits.{number_from_digits}
 use Rattle.geo_addr.specs.declared.fault.AddrFault.{AddrFault}
@@ -13,7 +14,8 @@ is_part part = has_digits 1 3 part
 
 -- an octet: a part with no zero in front of another digit, and at most 255
 unfoldable pub is_octet : List ℕ → Bool
-is_octet part = (nat_lt (length part) 2 || not (slice_index part 0 == 48)) && nat_le (digits_value 10 part) 255
+is_octet part =
+    (nat_lt (length part) 2 || not (slice_index part 0 == 48)) && nat_le (digits_value 10 part) 255
 
 -- there are four, and each passes the test
 abbrev pub are_four : (List ℕ → Bool) → List (List ℕ) → Bool

@@ -1,5 +1,7 @@
 -- IPv6 texts: groups of hexadecimal digits with colons between them (RFC 4291, section 2.2).
-use Rattle.std.specs.Prelude.{ℕ, suc, ◌+◌, ◌-◌, ◌/◌, ◌%◌, ◌==◌, Bool, true, false, ◌&&◌, ◌||◌, not, nat_eq, nat_le, if◌then◌else◌, List, [], ◌∷◌, ◌++◌, length, take, drop, flat_map, replicate, Option, None, Some, Result, Ok, Err}
+use Rattle.std.specs.Prelude.{ℕ, suc, ◌+◌, ◌-◌, ◌/◌, ◌%◌, ◌==◌, Bool, true, false, ◌&&◌, ◌||◌, not}
+use Rattle.std.specs.Prelude.{nat_eq, nat_le, if◌then◌else◌, List, [], ◌∷◌, ◌++◌, length, take}
+use Rattle.std.specs.Prelude.{drop, flat_map, replicate, Option, None, Some, Result, Ok, Err}
 use Rattle.std.specs.Option.{option_map}
 use Rattle.std.specs.List.{list_any, list_all, starts_with}
 use Rattle.std.specs.Char.{is_digit}
@@ -12,7 +14,8 @@ use Rattle.geo_addr.specs.Lines.{pieces}
 
 -- a group: one to four hexadecimal digits of either case
 unfoldable pub is_group : List ℕ → Bool
-is_group part = nat_le 1 (length part) && nat_le (length part) 4 && list_all (λ b. is_digit b 16) part
+is_group part =
+    nat_le 1 (length part) && nat_le (length part) 4 && list_all (λ b. is_digit b 16) part
 
 -- a dotted part: four decimal parts between dots
 unfoldable pub is_dotted : List ℕ → Bool
@@ -58,20 +61,23 @@ groups_number groups = number_from_digits 65536 groups
 -- the place of the first `::`
 abbrev pub double_at : List ℕ → Option ℕ
 double_at [] = None
-double_at (b ∷ bs) = if starts_with nat_eq (b ∷ bs) (58 ∷ 58 ∷ []) then Some 0 else option_map suc (double_at bs)
+double_at (b ∷ bs) =
+    if starts_with nat_eq (b ∷ bs) (58 ∷ 58 ∷ []) then Some 0 else option_map suc (double_at bs)
 
 -- the address of a text without `::`: a list of eight groups
 unfoldable pub whole_address : List ℕ → Result ℕ AddrFault
 whole_address text =
     if not (is_list true text) then Err Form
     else (if any_bad_octet text then Err Octet
-    else (if not (length (groups_in text) == 8) then Err Groups else Ok (groups_number (groups_in text))))
+    else (if not (length (groups_in text) == 8) then Err Groups
+    else Ok (groups_number (groups_in text))))
 
 -- the groups on both sides of `::`, and as many zeros between them as make eight
 abbrev pub filled : List ℕ → List ℕ → List ℕ
 filled left right = left ++ replicate (8 - length left - length right) 0 ++ right
 
--- the address of a text with `::`, which stands for one group or more, from the lists on its two sides
+-- the address of a text with `::`, which stands for one group or more,
+-- from the lists on its two sides
 unfoldable pub elided_address : List ℕ → List ℕ → Result ℕ AddrFault
 elided_address left right =
     if not (is_list false left && is_list true right) then Err Form

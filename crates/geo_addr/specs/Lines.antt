@@ -1,6 +1,7 @@
 -- The shapes that all text files share: pieces between a separator, lines and blanks.
 -- A byte is its number: 9 is the tab, 10 the line feed, 13 the carriage return, 32 the space.
-use Rattle.std.specs.Prelude.{ℕ, ◌-◌, ◌||◌, ◌==◌, Bool, nat_eq, if◌then◌else◌, List, [], ◌∷◌, Option, None, Some, length, take, drop}
+use Rattle.std.specs.Prelude.{ℕ, ◌-◌, ◌||◌, ◌==◌, Bool, nat_eq, if◌then◌else◌, List, [], ◌∷◌}
+use Rattle.std.specs.Prelude.{Option, None, Some, length, take, drop}
 use Rattle.std.specs.Str.Lines.{strip_carriage_return}
 use Rattle.std.specs.List.{enumerate_from, prefix_len, slice_split, starts_with, suffix_len}
 

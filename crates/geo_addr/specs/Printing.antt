@@ -1,5 +1,6 @@
 -- What is printed of addresses, blocks and ranges (RFC 5952; IPv6 in hexadecimal groups alone).
-use Rattle.std.specs.Prelude.{ℕ, zero, suc, ◌-◌, ◌/◌, ◌%◌, ◌^◌, Bool, not, nat_le, if◌then◌else◌, List, [], ◌∷◌, ◌++◌, codes, decimal}
+use Rattle.std.specs.Prelude.{ℕ, zero, suc, ◌-◌, ◌/◌, ◌%◌, ◌^◌, Bool, not, nat_le, if◌then◌else◌}
+use Rattle.std.specs.Prelude.{List, [], ◌∷◌, ◌++◌, codes, decimal}
 use Rattle.std.specs.Net.Text.{ipv4_text, hex_groups_text}
 use Rattle.geo_addr.specs.Ranges.{Ends, Prefix, is_v4, range_of_block}
 
@@ -39,9 +40,11 @@ printed_length block = if is_v4 (range_of_block block) then block.len - 96 else 
 -- a block: its first address, in the form of its family, and its length
 abbrev pub block_text : Prefix → List ℕ
 block_text block =
-    number_text (not (is_v4 (range_of_block block))) block.first ++ codes "/" ++ decimal (printed_length block)
+    number_text (not (is_v4 (range_of_block block))) block.first
+    ++ codes "/" ++ decimal (printed_length block)
 
 -- a range: its first and its last address, both in the form of its family
 abbrev pub range_text : Ends → List ℕ
 range_text range =
-    number_text (not (is_v4 range)) range.first ++ codes "-" ++ number_text (not (is_v4 range)) range.last
+    number_text (not (is_v4 range)) range.first
+    ++ codes "-" ++ number_text (not (is_v4 range)) range.last

@@ -1,6 +1,7 @@
 -- Addresses, ranges, blocks, grounds and cut points.
 -- An address is a number below 2 ^ 128; the IPv4 addresses are the numbers below 2 ^ 32.
-use Rattle.std.specs.Prelude.{◌≡◌, ℕ, ◌+◌, ◌-◌, ◌%◌, ◌^◌, ◌<◌, ◌≤◌, ◌↔◌, ◌⊎◌, ◌&&◌, Bool, nat_lt, nat_le, max, if◌then◌else◌, List, [], ◌∷◌, Any, Contains}
+use Rattle.std.specs.Prelude.{◌≡◌, ℕ, ◌+◌, ◌-◌, ◌%◌, ◌^◌, ◌<◌, ◌≤◌, ◌↔◌, ◌⊎◌, ◌&&◌, Bool, nat_lt}
+use Rattle.std.specs.Prelude.{nat_le, max, if◌then◌else◌, List, [], ◌∷◌, Any, Contains}
 
 -- a range: its first and its last address, both in it
 pub record Ends : Type 0 where

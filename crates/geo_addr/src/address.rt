@@ -33,8 +33,8 @@ pub(crate) fn read_number(text: &[u8]) -> (bool, Result<u128, AddrFault>)
 
 /// The address that a text spells (RFC 4291, section 2.2).
 ///
-/// A text with a colon in it is read as IPv6, any other as IPv4, so that `::1` and `0.0.0.1` are one
-/// address.
+/// A text with a colon in it is read as IPv6, any other as IPv4, so that `::1` and `0.0.0.1` are
+/// one address.
 pub fn parse_addr(text: &[u8]) -> Result<Addr, AddrFault>
     ensures { result ≡ address_in text.now }
 {

@@ -5,7 +5,8 @@ ghost use Rattle.std.specs.List.{list_all};
 ghost use Rattle.std.specs.Str.Parse.{digits_value};
 ghost use Rattle.geo_addr.specs.Decimals.{decimal};
 
-/// The number that a text of decimal digits writes, where it has at least `least` and at most `most` digits.
+/// The number that a text of decimal digits writes, where it has at least
+/// `least` and at most `most` digits.
 ///
 /// Leading zeros count as digits. It is `None` for any other text.
 pub fn decimal(text: &[u8], least: usize, most: usize) -> Option<u128>

@@ -16,7 +16,8 @@ pub enum AddrFault {
 
 /// What is wrong with the text of a block or of a range.
 ///
-/// Where several things are, it is the first that is found in the order of `parse_block` or `parse_span`.
+/// Where several things are, it is the first that is found in the order of
+/// `parse_block` or `parse_span`.
 #[derive(Clone, Copy, Debug, PartialEq, Eq, Error)]
 pub enum BlockFault {
     /// Where an address should stand is none, or two addresses are of different families.

@@ -1,14 +1,17 @@
-ghost use Rattle.std.specs.Prelude.{◌≡◌, ◌+◌, ◌-◌, ◌<◌, ◌≤◌, ◌^◌, ◌∷◌, ◌++◌, ◌==◌, length, MatchOption, All, ◌≢◌};
+ghost use Rattle.std.specs.Prelude.{◌≡◌, ◌+◌, ◌-◌, ◌<◌, ◌≤◌, ◌^◌, ◌∷◌, ◌++◌, ◌==◌, length};
+ghost use Rattle.std.specs.Prelude.{MatchOption, All, ◌≢◌};
 ghost use Rattle.std.specs.Iterator.{YieldsFirstBy, item_count};
 ghost use Rattle.std.specs.List.{position, position_or_len};
 ghost use Rattle.std.specs.Option.{option_copied};
-ghost use Rattle.geo_addr.specs.Lines.{is_blank, lines_of, numbered_lines, pieces, pieces_after, trimmed, trimmed_start, trimmed_end, without_mark};
+ghost use Rattle.geo_addr.specs.Lines.{is_blank, lines_of, numbered_lines, pieces, pieces_after};
+ghost use Rattle.geo_addr.specs.Lines.{trimmed, trimmed_start, trimmed_end, without_mark};
 ghost use Rattle.std.specs.Str.Lines.{strip_carriage_return};
 
 use memchr::memchr;
 use std::marker::Model;
 
-/// The text before the first `separator`, and the text after it, which is `None` where there is no separator.
+/// The text before the first `separator`, and the text after it,
+/// which is `None` where there is no separator.
 
 pub fn cut_at(text: &[u8], separator: u8) -> (&[u8], Option<&[u8]>)
     ensures pieces { pieces separator text.now

@@ -1,6 +1,7 @@
 ghost use Rattle.std.specs.Prelude.{◌≡◌, ◌≤◌};
 ghost use Rattle.std.specs.Option.{ForSome};
-ghost use Rattle.geo_addr.specs.Prefixes.{address_length, aligned_block, block_in, block_of, length_in};
+ghost use Rattle.geo_addr.specs.Prefixes.{address_length, aligned_block, block_in, block_of};
+ghost use Rattle.geo_addr.specs.Prefixes.{length_in};
 
 use crate::address::read_number;
 use crate::block::{Block, is_aligned};

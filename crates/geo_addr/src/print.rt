@@ -2,7 +2,8 @@ ghost use Rattle.std.specs.Prelude.{◌≡◌, ◌/◌, ◌%◌, ◌^◌, ◌<�
 ghost use Rattle.std.specs.Net.Addr.{ipv4_octets, ipv6_segments};
 ghost use Rattle.geo_addr.specs.AddressTexts.{address_in};
 ghost use Rattle.geo_addr.specs.Prefixes.{block_in};
-ghost use Rattle.geo_addr.specs.Printing.{address_text, block_text, eight_groups, four_octets, number_text, printed_length, range_text};
+ghost use Rattle.geo_addr.specs.Printing.{address_text, block_text, eight_groups, four_octets};
+ghost use Rattle.geo_addr.specs.Printing.{number_text, printed_length, range_text};
 ghost use Rattle.geo_addr.specs.Spans.{span_in};
 
 use crate::addr::Addr;

@@ -1,4 +1,5 @@
-ghost use Rattle.std.specs.Prelude.{◌≡◌, ◌+◌, ◌*◌, ◌^◌, ◌<◌, ◌≤◌, true, false, [], ◌∷◌, length, MatchOption, IfOk};
+ghost use Rattle.std.specs.Prelude.{◌≡◌, ◌+◌, ◌*◌, ◌^◌, ◌<◌, ◌≤◌, true, false, [], ◌∷◌, length};
+ghost use Rattle.std.specs.Prelude.{MatchOption, IfOk};
 ghost use Rattle.std.specs.Str.Parse.{digits_value};
 ghost use Rattle.geo_addr.specs.Ipv6Texts.{is_group};
 ghost use Rattle.geo_addr.specs.Sides.{Adds, IsSmall, ReadsMembers, ReadsSide, no_groups};
@@ -7,7 +8,8 @@ use crate::fault::AddrFault;
 use crate::line::cut_at;
 use crate::v4::read_v4;
 
-/// The groups of a list as they are read: how many, counted up to nine, and the number that they make.
+/// The groups of a list as they are read: how many, counted up to nine,
+/// and the number that they make.
 #[derive(Clone, Copy)]
 pub(crate) struct Side {
     pub groups: u32,
@@ -46,7 +48,8 @@ impl Side {
 fn group(text: &[u8]) -> Option<u128>
     ensures { MatchOption result
         (is_group text.now ≡ false)
-        (λ value. (is_group text.now ≡ true) × (value ≡ digits_value 16 text.now) × (value < 65536)) }
+        (λ value. (is_group text.now ≡ true) × (value ≡ digits_value 16 text.now)
+        × (value < 65536)) }
 {
     if text.is_empty() {
         return None;
@@ -61,7 +64,8 @@ fn group(text: &[u8]) -> Option<u128>
     Some(value)
 }
 
-/// Reads a list: groups with colons between them, of which the last may be a dotted part where `dots`.
+/// Reads a list: groups with colons between them, of which the last may
+/// be a dotted part where `dots`.
 pub(crate) fn read_side(text: &[u8], dots: bool) -> Result<Side, AddrFault>
     ensures reads { ReadsSide dots text.now result }
     ensures small { IfOk result IsSmall }

@@ -7,8 +7,8 @@ use crate::line::{cut_at, trim_end, trim_start};
 use crate::prefix::parse_block;
 use crate::range::{Range, range_of};
 
-/// The range that a span text spells: its first and its last address with a hyphen between them, or a
-/// prefix text.
+/// The range that a span text spells: its first and its last address with a hyphen between them, or
+/// a prefix text.
 ///
 /// Blanks beside the hyphen do not count. The faults of two addresses are tried in the order
 /// `Address`, `Reversed`, `InV4Space`; a prefix text has those of `parse_block`.

@@ -1,4 +1,5 @@
-ghost use Rattle.std.specs.Prelude.{◌≡◌, ◌∷◌, ◌≤◌, true, false, ◌<◌, ◌^◌, IfOk, MatchBool, MatchOption};
+ghost use Rattle.std.specs.Prelude.{◌≡◌, ◌∷◌, ◌≤◌, true, false, ◌<◌, ◌^◌, IfOk, MatchBool};
+ghost use Rattle.std.specs.Prelude.{MatchOption};
 ghost use Rattle.std.specs.Str.Parse.{digits_value};
 ghost use Rattle.geo_addr.specs.Ipv4Texts.{ipv4_in, ipv4_of, is_octet, is_part};
 ghost use Rattle.geo_addr.specs.Lines.{pieces};

@@ -13,8 +13,8 @@ use std::thread::Threads;
 /// How many items there are.
 const ITEMS: u32 = 64;
 
-/// Does the work of so many rounds for each item in one piece, or side by side in four, and prints how many
-/// results there are and what they come to together.
+/// Does the work of so many rounds for each item in one piece, or side by side in four, and prints
+/// how many results there are and what they come to together.
 pub(crate) fn run<R: Threads + Sync + Print>(
     alloc: Global,
     rt: &R,

@@ -25,8 +25,8 @@ pub(crate) fn run(
     Ok(())
 }
 
-/// The lines of a feed: prefixes of 16 IPv4 addresses that follow one another, or that stand anywhere in
-/// an eighth of the space, so that some stand twice.
+/// The lines of a feed: prefixes of 16 IPv4 addresses that follow one another, or that stand
+/// anywhere in an eighth of the space, so that some stand twice.
 pub(crate) fn lines(alloc: Global, size: u32, is_scattered: bool) -> Result<String, Memory> {
     let mut text = String::new(alloc);
     for index in 0..size {

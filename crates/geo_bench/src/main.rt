@@ -1,5 +1,5 @@
-//! Cases to be timed from outside: the first word picks a case, and the second says how large it is, or
-//! which file is read.
+//! Cases to be timed from outside: the first word picks a case, and the second says how large it
+//! is, or which file is read.
 //! What a case prints is counts and no times, so that its output is the same wherever it runs.
 #![tactic(auto)]
 

@@ -11,8 +11,8 @@ use std::marker::Brand;
 use std::sync::ledger::{Blank, Ledger};
 use trie_core::{Part, Store};
 
-/// Fills a store from so many ranges with leaves of their own, orders a root of one range in it so many
-/// times, and prints how many nodes the store has, and how many of them that root has.
+/// Fills a store from so many ranges with leaves of their own, orders a root of one range in it so
+/// many times, and prints how many nodes the store has, and how many of them that root has.
 pub(crate) fn run(alloc: Global, rt: &impl Print, size: u32, times: u32) -> Result<(), Fault> {
     if size > MOST {
         return Err(Fault::Size);
@@ -25,8 +25,8 @@ pub(crate) fn run(alloc: Global, rt: &impl Print, size: u32, times: u32) -> Resu
     Ok(())
 }
 
-// The number of nodes in a store with a root for each of two lists of parts, and the number of those
-// under the second root, which is ordered so many times.
+// The number of nodes in a store with a root for each of two lists of parts, and the number of
+// those under the second root, which is ordered so many times.
 fn ordered<L: Ledger>(
     alloc: Global,
     many: &[Part],

@@ -1,4 +1,5 @@
-//! The cases `places` and `pack`: distinct places are made, and their values packed into a data section.
+//! The cases `places` and `pack`: distinct places are made,
+//! and their values packed into a data section.
 
 use crate::fault::Fault;
 use geo_addr::Memory;
@@ -13,8 +14,8 @@ const CITIES: u32 = 10_000;
 
 const COUNTRIES: u32 = 250;
 
-/// Makes so many places, packs them where that is wanted, and prints how many there are and how long their
-/// section is.
+/// Makes so many places, packs them where that is wanted, and prints how many there are and how
+/// long their section is.
 pub(crate) fn run(alloc: Global, rt: &impl Print, size: u32, is_packed: bool) -> Result<(), Fault> {
     let places = distinct_places(alloc, size)?;
     println!(rt; "places {}", places.len())?;

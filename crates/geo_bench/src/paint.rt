@@ -1,4 +1,5 @@
-//! The case `paint`: ranges of 16 addresses with one of three leaves each, painted into an empty store.
+//! The case `paint`: ranges of 16 addresses with one of three leaves each,
+//! painted into an empty store.
 ghost use Rattle.std.specs.Prelude.{◌≡◌, ◌≤◌, ◌<◌, ◌^◌, IfOk};
 ghost use Rattle.trie_core.specs.Paint.{IsAscending};
 
@@ -25,7 +26,8 @@ pub(crate) fn run(alloc: Global, rt: &impl Print, size: u32) -> Result<(), Fault
     Ok(())
 }
 
-// The number of nodes in the store after all parts were painted, and the number of those under the root.
+// The number of nodes in the store after all parts were painted,
+// and the number of those under the root.
 fn painted<L: Ledger>(alloc: Global, parts: &[Part], blank: Blank) -> Result<(u32, usize), Fault>
     requires ascending { IsAscending parts.now }
     requires name { blank.name ≡ L.name }

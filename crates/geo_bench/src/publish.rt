@@ -1,4 +1,5 @@
-//! The cases `leaves` and `publish`: a store painted with ranges of many leaves, and the least lines of IPv4.
+//! The cases `leaves` and `publish`: a store painted with ranges of many leaves,
+//! and the least lines of IPv4.
 ghost use Rattle.std.specs.Prelude.{◌≡◌, ◌<◌};
 ghost use Rattle.trie_core.specs.Paint.{IsAscending};
 
@@ -16,8 +17,8 @@ use trie_core::{Part, Store};
 /// How many different leaves there are.
 const LEAVES: u32 = 100_000;
 
-/// Paints so many ranges, finds the least lines of all IPv4 addresses where that is wanted, and prints how many nodes
-/// the store has and how many lines there are.
+/// Paints so many ranges, finds the least lines of all IPv4 addresses where that is wanted, and
+/// prints how many nodes the store has and how many lines there are.
 pub(crate) fn run(
     alloc: Global,
     rt: &impl Print,

@@ -13,8 +13,8 @@ pub(crate) const MOST: u32 = 1 << 26;
 /// The first of the addresses, 16.0.0.0.
 const BASE: u128 = 0x1000_0000;
 
-/// One range of 16 addresses in each 32, the lower or the upper half by a mixed bit, with one of so many
-/// leaves.
+/// One range of 16 addresses in each 32, the lower or the upper half by a mixed bit, with one of so
+/// many leaves.
 pub(crate) fn scattered(alloc: Global, size: u32, leaves: u32) -> Result<Vec<Part>, AllocError>
     requires size { size ≤ 2 ^ 26 }
     requires leaves { 0 < leaves }

@@ -28,8 +28,8 @@ struct Registry {
     v6: u128,
 }
 
-/// The lines of so many delegations: three in ten are IPv6, and one in 16 begins where the next one does,
-/// so that one of the two lies in the other.
+/// The lines of so many delegations: three in ten are IPv6, and one in 16 begins where the next one
+/// does, so that one of the two lies in the other.
 pub(crate) fn statistics(alloc: Global, size: u32) -> Result<String, Memory> {
     let mut text = String::new(alloc);
     let mut registries = registries();

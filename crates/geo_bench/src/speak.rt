@@ -1,5 +1,5 @@
-//! The cases `gathered`, `set`, `asked` and `noted`: a dump and a feed are made and read, set, asked for
-//! a million addresses, and asked for their notes.
+//! The cases `gathered`, `set`, `asked` and `noted`: a dump and a feed are made and read, set,
+//! asked for a million addresses, and asked for their notes.
 
 use crate::fault::Fault;
 use crate::feed::lines;
@@ -26,8 +26,8 @@ pub(crate) enum Stage {
     Noted,
 }
 
-/// Makes a dump of so many references to one feed and a feed of so many lines, goes as far as is wanted,
-/// and prints the counts.
+/// Makes a dump of so many references to one feed and a feed of so many lines, goes as far as is
+/// wanted, and prints the counts.
 pub(crate) fn run(alloc: Global, rt: &impl Print, size: u32, stage: Stage) -> Result<(), Fault> {
     let dump = made_dump(alloc, size)?;
     let feed = made_feed(alloc, size)?;

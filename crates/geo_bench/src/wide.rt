@@ -8,12 +8,13 @@ use std::fs;
 use std::io::Print;
 use std::rt::Files;
 
-/// How many cities there are. Each has a name of 1,000 bytes, so that 17,000 of them fill the 24 bits of
-/// a record.
+/// How many cities there are. Each has a name of 1,000 bytes, so that 17,000 of them fill the 24
+/// bits of a record.
 const CITIES: u32 = 20_000;
 
-/// Paints so many ranges with the places of the cities, writes the file of the store under a name, and
-/// prints its sizes. The city of a leaf is one less than its number, filled up by `x` from the left.
+/// Paints so many ranges with the places of the cities, writes the file of the store under a name,
+/// and prints its sizes. The city of a leaf is one less than its number,
+/// filled up by `x` from the left.
 pub(crate) fn run<R: Files + Print + AllocGlobal>(
     rt: &R,
     size: u32,

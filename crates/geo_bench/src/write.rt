@@ -14,8 +14,8 @@ use std::marker::Brand;
 use std::sync::ledger::{Blank, Ledger};
 use trie_core::{Part, Store};
 
-/// Paints so many ranges with the places of 260 countries, writes the file of the store where that is
-/// wanted, and prints its sizes.
+/// Paints so many ranges with the places of 260 countries, writes the file of the store where that
+/// is wanted, and prints its sizes.
 pub(crate) fn run(
     alloc: Global,
     rt: &impl Print,

@@ -16,7 +16,8 @@ pub record Told : Type 0 where
 
 -- a put that was answered by Ok: the name holds these bytes, and the put is appended
 abbrev pub after_put : Told → List ℕ → List ℕ → Told
-after_put w name bytes = record { held = map.insert w.held name bytes; puts = w.puts ++ (name, bytes) ∷ [] }
+after_put w name bytes =
+    record { held = map.insert w.held name bytes; puts = w.puts ++ (name, bytes) ∷ [] }
 
 -- a put that failed: the name holds anything or nothing, and all else stays
 pub record Spoils (old new : Told) (name : List ℕ) : Type 0 where

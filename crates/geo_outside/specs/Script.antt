@@ -1,9 +1,11 @@
 -- Fakes: calls are numbered from 1 on, and fail where a list has their number.
-use Rattle.std.specs.Prelude.{ℕ, zero, suc, ◌+◌, ◌-◌, ◌^◌, min, Bool, ◌&&◌, List, nat_eq, nat_lt, if◌then◌else◌}
+use Rattle.std.specs.Prelude.{ℕ, zero, suc, ◌+◌, ◌-◌, ◌^◌, min, Bool, ◌&&◌, List, nat_eq, nat_lt}
+use Rattle.std.specs.Prelude.{if◌then◌else◌}
 use Rattle.std.specs.List.{list_any}
 use Rattle.geo_outside.specs.Files.{Told}
 
--- the calls of one kind: the numbers of those that are to fail, and how many were made, up to 2 ^ 64 - 1
+-- the calls of one kind: the numbers of those that are to fail, and how many were made,
+-- up to 2 ^ 64 - 1
 pub record Script : Type 0 where
   pub listed : List ℕ
   pub made : ℕ

@@ -1,7 +1,8 @@
 //! A gate that each piece of a parallel map passes.
 use std::marker::Sync;
 
-/// What a piece of work enters before its first item. A test's gate looks at how pieces run; no result depends on it.
+/// What a piece of work enters before its first item. A test's gate looks at how pieces run;
+/// no result depends on it.
 pub trait Gate: Sync {
     fn enter(&self, piece: u32);
 }

@@ -1,5 +1,7 @@
 //! A folder in memory, for tests.
-ghost use Rattle.std.specs.Prelude.{◌≡◌, ◌≢◌, ◌+◌, ◌-◌, ◌^◌, ◌≤◌, ◌<◌, ◌↔◌, min, List, ℕ, [], length, take, drop, IsTrue, IsSome, IfOk, OnOk, OnErr, MatchOption};
+ghost use Rattle.std.specs.Prelude.{◌≡◌, ◌≢◌, ◌+◌, ◌-◌, ◌^◌, ◌≤◌, ◌<◌, ◌↔◌, min, List, ℕ, []};
+ghost use Rattle.std.specs.Prelude.{length, take, drop, IsTrue, IsSome, IfOk, OnOk, OnErr};
+ghost use Rattle.std.specs.Prelude.{MatchOption};
 ghost use Rattle.std.specs.FinMap as map;
 ghost use Rattle.geo_outside.specs.Count.{Rose};
 ghost use Rattle.geo_outside.specs.Files.{Told, after_put, Spoils, IsReadFrom, files_after};
@@ -13,7 +15,8 @@ use geo_addr::Memory;
 use std::alloc::Global;
 use std::marker::Model;
 
-/// A folder that keeps files in memory and tells them. Its reads and puts fail where they are listed.
+/// A folder that keeps files in memory and tells them. Its reads and
+/// puts fail where they are listed.
 #[derive(Debug, Drop)]
 pub struct MemFolder {
     alloc: Global,
@@ -38,13 +41,21 @@ impl Model for MemFolder {
 
     ghost coded = { fake_folder_code };
 
-    ghost view = { λ f. record { told = record { held = files_after (pairs_of f.writes.items); puts = pairs_of f.puts.items }; read_calls = f.read_calls; put_calls = f.put_calls; misses = f.misses; given = f.given; most = f.most } };
+    ghost view = { λ f. record {
+      told = record { held = files_after (pairs_of f.writes.items); puts = pairs_of f.puts.items };
+      read_calls = f.read_calls;
+      put_calls = f.put_calls;
+      misses = f.misses;
+      given = f.given;
+      most = f.most;
+    } };
 
     ghost invariant = { λ f. 1 ≤ f.most };
 }
 
 impl MemFolder {
-    /// An empty folder. The lists have the numbers, from 1, of the reads and of the puts that are to fail.
+    /// An empty folder. The lists have the numbers, from 1, of the reads
+    /// and of the puts that are to fail.
     pub fn new(alloc: Global, fail_reads: Vec<u64>, fail_puts: Vec<u64>) -> MemFolder
         ensures told { result.told ≡ record { held = map.empty; puts = [] } }
         ensures reads { result.read_calls ≡ record { listed = fail_reads.items; made = 0 } }
@@ -74,7 +85,12 @@ impl MemFolder {
 
     /// Sets a file. It is no put.
     pub fn hold(&mut self, name: &str, bytes: &[u8]) -> Result<(), Memory>
-        ensures ok { OnOk result (self.new ≡ record self.old { told = record { held = map.insert self.old.told.held name.now bytes.now; puts = self.old.told.puts } }) }
+        ensures ok { OnOk result (self.new ≡ record self.old {
+          told = record {
+            held = map.insert self.old.told.held name.now bytes.now;
+            puts = self.old.told.puts;
+          };
+        }) }
         ensures err { OnErr result (self.new ≡ self.old) }
     {
         let write = Put::of(self.alloc, name, bytes)?;
@@ -84,7 +100,8 @@ impl MemFolder {
 
     /// The bytes of a file, or None exactly where the name is not held.
     pub fn bytes_of(&self, name: &str) -> Option<&[u8]>
-        ensures { MatchOption result (map.get self.now.told.held name.now ≡ None) (λ file. map.get self.now.told.held name.now ≡ Some file.now) }
+        ensures { MatchOption result (map.get self.now.told.held name.now ≡ None)
+            (λ file. map.get self.now.told.held name.now ≡ Some file.now) }
     {
         newest(&self.writes, name)
     }
@@ -114,17 +131,26 @@ impl Folder for MemFolder {
     fn read_at(&mut self, name: &str, from: u64, into: &mut [u8]) -> Result<usize, FolderErr>
         requires { 0 < length into.old }
         ensures listed { (result ≡ Err FolderErr.Failed) ↔ IsTrue (fails_next self.old.read_calls) }
-        ensures amount { (file : List ℕ) → map.get self.old.told.held name.now ≡ Some file → IfOk result (λ n. n ≡ min self.old.most (min (length into.old) (length file - from))) }
+        ensures amount { (file : List ℕ) → map.get self.old.told.held name.now ≡ Some file → IfOk
+            result (λ n. n ≡ min self.old.most (min (length into.old) (length file - from))) }
         ensures counted { self.new.read_calls ≡ one_more self.old.read_calls }
-        ensures kept { self.new ≡ record self.old { read_calls = self.new.read_calls; misses = self.new.misses; given = self.new.given } }
+        ensures kept { self.new ≡ record self.old {
+          read_calls = self.new.read_calls;
+          misses = self.new.misses;
+          given = self.new.given;
+        } }
 
         ensures room { IfOk result (λ n. n ≤ length into.old) }
         ensures held { OnOk result (IsSome (map.get self.old.told.held name.now)) }
-        ensures bytes { (file : List ℕ) → map.get self.old.told.held name.now ≡ Some file → IfOk result (IsReadFrom file from into.new) }
-        ensures failed { result ≡ Err FolderErr.Failed → Rose (faults_of self.old.read_calls) (faults_of self.new.read_calls) }
-        ensures missing { result ≡ Err FolderErr.Missing → self.new.misses ≡ min (self.old.misses + 1) u64.MAX }
+        ensures bytes { (file : List ℕ) → map.get self.old.told.held name.now ≡ Some file
+            → IfOk result (IsReadFrom file from into.new) }
+        ensures failed { result ≡ Err FolderErr.Failed
+            → Rose (faults_of self.old.read_calls) (faults_of self.new.read_calls) }
+        ensures missing { result ≡ Err FolderErr.Missing
+            → self.new.misses ≡ min (self.old.misses + 1) u64.MAX }
         ensures no_miss { result ≢ Err FolderErr.Missing → self.new.misses ≡ self.old.misses }
-        ensures absent { result ≡ Err FolderErr.Missing → map.get self.old.told.held name.now ≡ None }
+        ensures absent { result ≡ Err FolderErr.Missing
+            → map.get self.old.told.held name.now ≡ None }
         ensures same { self.new.told ≡ self.old.told }
         ensures read_faults { faults_of self.old.read_calls ≤ faults_of self.new.read_calls }
         ensures put_faults { faults_of self.old.put_calls ≤ faults_of self.new.put_calls }
@@ -148,13 +174,17 @@ impl Folder for MemFolder {
     fn put(&mut self, name: &str, bytes: &[u8]) -> Result<(), OutErr>
         ensures listed { (result ≡ Err OutErr.Failed) ↔ IsTrue (fails_next self.old.put_calls) }
         ensures counted { self.new.put_calls ≡ one_more self.old.put_calls }
-        ensures kept { self.new ≡ record self.old { told = self.new.told; put_calls = self.new.put_calls } }
+        ensures kept { self.new
+            ≡ record self.old { told = self.new.told; put_calls = self.new.put_calls } }
 
         ensures ok { OnOk result (self.new.told ≡ after_put self.old.told name.now bytes.now) }
         ensures err { OnErr result (self.new.told ≡ self.old.told) }
-        ensures failed { result ≡ Err OutErr.Failed → Rose (faults_of self.old.put_calls) (faults_of self.new.put_calls) }
-        ensures spoilt { (w : Told) → Some self.old.told ≡ Some w → result ≡ Err OutErr.Failed → (v : Told) × (Some self.new.told ≡ Some v) × Spoils w v name.now }
-        ensures memory_faults { result ≡ Err OutErr.Memory → faults_of self.new.put_calls ≡ faults_of self.old.put_calls }
+        ensures failed { result ≡ Err OutErr.Failed
+            → Rose (faults_of self.old.put_calls) (faults_of self.new.put_calls) }
+        ensures spoilt { (w : Told) → Some self.old.told ≡ Some w → result ≡ Err OutErr.Failed
+            → (v : Told) × (Some self.new.told ≡ Some v) × Spoils w v name.now }
+        ensures memory_faults { result ≡ Err OutErr.Memory
+            → faults_of self.new.put_calls ≡ faults_of self.old.put_calls }
         ensures put_faults { faults_of self.old.put_calls ≤ faults_of self.new.put_calls }
     {
         if self.put_calls.next_fails() {
@@ -171,7 +201,8 @@ impl Folder for MemFolder {
 
 /// The bytes of the newest write of this name.
 fn newest<'a>(writes: &'a [Put], name: &str) -> Option<&'a [u8]>
-    ensures { MatchOption result (map.get (files_after (pairs_of writes.now)) name.now ≡ None) (λ file. map.get (files_after (pairs_of writes.now)) name.now ≡ Some file.now) }
+    ensures { MatchOption result (map.get (files_after (pairs_of writes.now)) name.now ≡ None)
+        (λ file. map.get (files_after (pairs_of writes.now)) name.now ≡ Some file.now) }
 {
     let mut found = None;
     for write in writes {

@@ -26,7 +26,8 @@ impl Model for MemSink {
 impl MemSink {
     /// An empty sink. `fail_writes` has the numbers, from 1, of the writes that are to fail.
     pub fn new(alloc: Global, fail_writes: Vec<u64>) -> MemSink
-        ensures { result ≡ record { written = []; calls = record { listed = fail_writes.items; made = 0 } } }
+        ensures { result
+            ≡ record { written = []; calls = record { listed = fail_writes.items; made = 0 } } }
     {
         MemSink {
             written: Vec::new(alloc),
@@ -55,8 +56,10 @@ impl Sink for MemSink {
         ensures counted { self.new.calls ≡ one_more self.old.calls }
         ensures appended { OnOk result (self.new.written ≡ self.old.written ++ piece.now) }
         ensures refused { OnErr result (self.new.written ≡ self.old.written) }
-        ensures failed { result ≡ Err OutErr.Failed → faults_of self.new.calls ≡ faults_of self.old.calls + 1 }
-        ensures memory_faults { result ≡ Err OutErr.Memory → faults_of self.new.calls ≡ faults_of self.old.calls }
+        ensures failed { result ≡ Err OutErr.Failed
+            → faults_of self.new.calls ≡ faults_of self.old.calls + 1 }
+        ensures memory_faults { result ≡ Err OutErr.Memory
+            → faults_of self.new.calls ≡ faults_of self.old.calls }
         ensures faults { faults_of self.old.calls ≤ faults_of self.new.calls }
     {
         if self.calls.next_fails() {

@@ -22,8 +22,9 @@ impl<L: Ledger> Model for Steps<L> {
 }
 
 impl<L: Ledger> Steps<L> {
-    /// A counter at 0. The caller makes the blank by `Blank::new(1)`, calls a function over `L: Ledger`
-    /// with `Brand` for `L`, and picks the name and the parts of that blank for the ledger.
+    /// A counter at 0. The caller makes the blank by `Blank::new(1)`, calls a function over
+    /// `L: Ledger` with `Brand` for `L`, and picks the name and the
+    /// parts of that blank for the ledger.
     pub fn new(blank: Blank) -> Steps<L>
         requires name { blank.name ≡ L.name }
         requires parts { blank.parts ≡ L.parts }

@@ -33,20 +33,26 @@ impl From<AllocError> for WholeErr {
     }
 }
 
-/// Reads the file of this name, of at most `limit` bytes. It reads from the start on, each piece at the
-/// place that the one before reached, until a read gives no byte or more than `limit` bytes were read.
+/// Reads the file of this name, of at most `limit` bytes. It reads from the start on, each piece at
+/// the place that the one before reached, until a read gives no byte or
+/// more than `limit` bytes were read.
 pub fn read_whole<F: Folder>(
     alloc: Global,
     folder: &mut F,
     name: &str,
     limit: u64,
 ) -> Result<Vec<u8>, WholeErr>
-    ensures bytes { (w : Told) → F.told folder.old ≡ Some w → IfOk result (λ v. map.get w.held name.now ≡ Some v.items) }
+    ensures bytes { (w : Told) → F.told folder.old ≡ Some w
+        → IfOk result (λ v. map.get w.held name.now ≡ Some v.items) }
     ensures limit { IfOk result (λ v. vec_len v ≤ limit) }
-    ensures long { (w : Told) → F.told folder.old ≡ Some w → result ≡ Err WholeErr.TooLong → IsSomeAnd (map.get w.held name.now) (λ file. limit < length file) }
-    ensures failed { result ≡ Err WholeErr.Failed → Rose (F.read_faults folder.old) (F.read_faults folder.new) }
-    ensures missing { result ≡ Err WholeErr.Missing → Rose (F.misses folder.old) (F.misses folder.new) }
-    ensures absent { (w : Told) → F.told folder.old ≡ Some w → result ≡ Err WholeErr.Missing → map.get w.held name.now ≡ None }
+    ensures long { (w : Told) → F.told folder.old ≡ Some w → result ≡ Err WholeErr.TooLong
+        → IsSomeAnd (map.get w.held name.now) (λ file. limit < length file) }
+    ensures failed { result ≡ Err WholeErr.Failed
+        → Rose (F.read_faults folder.old) (F.read_faults folder.new) }
+    ensures missing { result ≡ Err WholeErr.Missing
+        → Rose (F.misses folder.old) (F.misses folder.new) }
+    ensures absent { (w : Told) → F.told folder.old ≡ Some w → result ≡ Err WholeErr.Missing
+        → map.get w.held name.now ≡ None }
 
     ensures same { F.told folder.new ≡ F.told folder.old }
     ensures read_faults { F.read_faults folder.old ≤ F.read_faults folder.new }

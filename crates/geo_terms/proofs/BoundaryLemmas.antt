@@ -1,5 +1,8 @@
 -- What one pass over sorted edges tells of an address: the first range that holds it.
-use Rattle.std.proofs.Common.{◌≡◌, ℕ, zero, suc, ◌+◌, ◌-◌, ◌^◌, ◌<◌, ◌≤◌, ◌⊎◌, Bool, true, false, cond, not, ◌&&◌, ◌||◌, eqb, ltb, leb, max, List, [], ◌∷◌, ◌++◌, length, get_or, Option, None, slice_get, refl, sym, ap, ◌∙◌, subst, inl, inr, arith}
+use Rattle.std.proofs.Common.{◌≡◌, ℕ, zero, suc, ◌+◌, ◌-◌, ◌^◌, ◌<◌, ◌≤◌, ◌⊎◌, Bool, true, false}
+use Rattle.std.proofs.Common.{cond, not, ◌&&◌, ◌||◌, eqb, ltb, leb, max, List, [], ◌∷◌, ◌++◌}
+use Rattle.std.proofs.Common.{length, get_or, Option, None, slice_get, refl, sym, ap, ◌∙◌, subst}
+use Rattle.std.proofs.Common.{inl, inr, arith}
 use Rattle.std.specs.List.{All, AllByRecursion, list_any, position}
 use Rattle.std.specs.List.Sorted.{IsPermutation, IsNonDecreasingBy, IsPartitionPoint}
 use Rattle.std.proofs.lemmas.Bool.Decides.{nat_tests}
@@ -18,10 +21,13 @@ abbrev upto : ℕ → List Edge → List Edge
 upto a [] = []
 upto a (e ∷ es) = cond (leb e.at a) (e ∷ upto a es) []
 
-told_sweep : (a : ℕ) (ks : List ℕ) (es : List Edge) → told (slice_get ks 0) (sweep ks es) a ≡ slice_get (after_all ks (upto a es)) 0
+told_sweep : (a : ℕ) (ks : List ℕ) (es : List Edge)
+    → told (slice_get ks 0) (sweep ks es) a ≡ slice_get (after_all ks (upto a es)) 0
 told_sweep a ks [] = refl
 told_sweep a ks (e ∷ es) =
-    elim (leb e.at a) as (λ b. cond b (told (slice_get (after_edge ks e) 0) (sweep (after_edge ks e) es) a) (slice_get ks 0) ≡ slice_get (after_all ks (cond b (e ∷ upto a es) [])) 0) [
+    elim (leb e.at a) as (λ b.
+    cond b (told (slice_get (after_edge ks e) 0) (sweep (after_edge ks e) es) a) (slice_get ks 0)
+    ≡ slice_get (after_all ks (cond b (e ∷ upto a es) [])) 0) [
       | true ↦ told_sweep a (after_edge ks e) es
       | false ↦ refl
     ]
@@ -31,9 +37,13 @@ abbrev Rising : ℕ → List Edge → Type 0
 Rising low [] = Unit {0}
 Rising low (e ∷ es) = (low ≤ e.at) × Rising e.at es
 
-rising_from : (e : Edge) (es : List Edge) → IsNonDecreasingBy (λ (x : Edge). x.at) (e ∷ es) → Rising e.at es
+rising_from : (e : Edge) (es : List Edge)
+    → IsNonDecreasingBy (λ (x : Edge). x.at) (e ∷ es) → Rising e.at es
 rising_from e [] h = tt
-rising_from e (f ∷ es) h = (h 0 1 e (omega arith) (omega arith), rising_from f es (λ i j d le below. h (suc i) (suc j) d (omega arith) (omega arith)))
+rising_from e (f ∷ es) h = (
+  h 0 1 e (omega arith) (omega arith),
+  rising_from f es (λ i j d le below. h (suc i) (suc j) d (omega arith) (omega arith)),
+)
 
 rising : (es : List Edge) → IsNonDecreasingBy (λ (x : Edge). x.at) es → Rising 0 es
 rising [] h = tt
@@ -49,20 +59,24 @@ abbrev some_edge : List Edge → ℕ → Bool → Bool
 some_edge es r b = list_any (λ e. eqb e.rank r && (cond b e.opens (not e.opens))) es
 
 -- no edge of this rank
-unmoved : (v : Bool) (a r : ℕ) (es : List Edge) → AllByRecursion (λ e. eqb e.rank r ≡ false) es → flag v (upto a es) r ≡ v
+unmoved : (v : Bool) (a r : ℕ) (es : List Edge) → AllByRecursion (λ e. eqb e.rank r ≡ false) es
+    → flag v (upto a es) r ≡ v
 unmoved v a r [] h = refl
 unmoved v a r (e ∷ es) h =
     elim (leb e.at a) as (λ b. flag v (cond b (e ∷ upto a es) []) r ≡ v) [
-      | true ↦ subst (λ b. flag (cond b e.opens v) (upto a es) r ≡ v) (sym h.0) (unmoved v a r es h.1)
+      | true ↦
+          subst (λ b. flag (cond b e.opens v) (upto a es) r ≡ v) (sym h.0) (unmoved v a r es h.1)
       | false ↦ refl
     ]
 
 -- the address lies before the ground
-before_ground : (v : Bool) (a r s t : ℕ) (es : List Edge) → AllByRecursion (Fits r s t) es → a < s → a < t → flag v (upto a es) r ≡ v
+before_ground : (v : Bool) (a r s t : ℕ) (es : List Edge) → AllByRecursion (Fits r s t) es → a < s
+    → a < t → flag v (upto a es) r ≡ v
 before_ground v a r s t [] h low high = refl
 before_ground v a r s t (e ∷ es) h low high =
     elim (leb e.at a) as (λ b. leb e.at a ≡ b → flag v (cond b (e ∷ upto a es) []) r ≡ v) [
-      | true ↦ λ le. subst (λ b. flag (cond b e.opens v) (upto a es) r ≡ v) (sym (other le)) (before_ground v a r s t es h.1 low high)
+      | true ↦ λ le. subst (λ b. flag (cond b e.opens v) (upto a es) r ≡ v) (sym (other le))
+          (before_ground v a r s t es h.1 low high)
       | false ↦ λ le. refl
     ] refl
   where
@@ -77,11 +91,13 @@ before_ground v a r s t (e ∷ es) h low high =
           | false ↦ λ is. refl
         ] refl
 
-stays_open : (a r s t : ℕ) (es : List Edge) → AllByRecursion (Fits r s t) es → a < t → flag true (upto a es) r ≡ true
+stays_open : (a r s t : ℕ) (es : List Edge) → AllByRecursion (Fits r s t) es → a < t
+    → flag true (upto a es) r ≡ true
 stays_open a r s t [] h high = refl
 stays_open a r s t (e ∷ es) h high =
     elim (leb e.at a) as (λ b. leb e.at a ≡ b → flag true (cond b (e ∷ upto a es) []) r ≡ true) [
-      | true ↦ λ le. subst (λ w. flag w (upto a es) r ≡ true) (sym (kept le)) (stays_open a r s t es h.1 high)
+      | true ↦ λ le.
+          subst (λ w. flag w (upto a es) r ≡ true) (sym (kept le)) (stays_open a r s t es h.1 high)
       | false ↦ λ le. refl
     ] refl
   where
@@ -96,11 +112,13 @@ stays_open a r s t (e ∷ es) h high =
           | false ↦ λ is. refl
         ] refl
 
-stays_shut : (low a r s t : ℕ) (es : List Edge) → Rising low es → AllByRecursion (Fits r s t) es → s < low → flag false (upto a es) r ≡ false
+stays_shut : (low a r s t : ℕ) (es : List Edge) → Rising low es → AllByRecursion (Fits r s t) es
+    → s < low → flag false (upto a es) r ≡ false
 stays_shut low a r s t [] up h lt = refl
 stays_shut low a r s t (e ∷ es) up h lt =
     elim (leb e.at a) as (λ b. flag false (cond b (e ∷ upto a es) []) r ≡ false) [
-      | true ↦ subst (λ w. flag w (upto a es) r ≡ false) (sym kept) (stays_shut e.at a r s t es up.1 h.1 (omega (arith, up.0)))
+      | true ↦ subst (λ w. flag w (upto a es) r ≡ false) (sym kept)
+          (stays_shut e.at a r s t es up.1 h.1 (omega (arith, up.0)))
       | false ↦ refl
     ]
   where
@@ -115,28 +133,42 @@ stays_shut low a r s t (e ∷ es) up h lt =
         ] refl
 
 -- an edge of this rank that opens stands at s, and one that closes at t
-own_place : (r s t : ℕ) (b : Bool) (e : Edge) → Fits r s t e → (eqb e.rank r && (cond b e.opens (not e.opens))) ≡ true → e.at ≡ cond b s t
+own_place : (r s t : ℕ) (b : Bool) (e : Edge) → Fits r s t e
+    → (eqb e.rank r && (cond b e.opens (not e.opens))) ≡ true → e.at ≡ cond b s t
 own_place r s t true e h is = h.opening (grind (arith, nat_tests)) (grind (arith, nat_tests))
 own_place r s t false e h is = h.closing (grind (arith, nat_tests)) (grind (arith, nat_tests))
 
-some_at : (low r s t : ℕ) (b : Bool) (es : List Edge) → Rising low es → AllByRecursion (Fits r s t) es → some_edge es r b ≡ true → low ≤ cond b s t
+some_at : (low r s t : ℕ) (b : Bool) (es : List Edge) → Rising low es
+    → AllByRecursion (Fits r s t) es → some_edge es r b ≡ true → low ≤ cond b s t
 some_at low r s t b [] up h is = absurd (let f : false ≡ true = is in cc)
 some_at low r s t b (e ∷ es) up h is =
-    elim (eqb e.rank r && (cond b e.opens (not e.opens))) as (λ k. (eqb e.rank r && (cond b e.opens (not e.opens))) ≡ k → (k || some_edge es r b) ≡ true → low ≤ cond b s t) [
-      | true ↦ λ own _. let at : e.at ≡ cond b s t = own_place r s t b e h.0 own in omega (arith, up.0)
-      | false ↦ λ _ later. let le : e.at ≤ cond b s t = some_at e.at r s t b es up.1 h.1 later in omega (arith, up.0)
+    elim (eqb e.rank r && (cond b e.opens (not e.opens)))
+    as (λ k. (eqb e.rank r && (cond b e.opens (not e.opens))) ≡ k → (k || some_edge es r b) ≡ true
+    → low ≤ cond b s t) [
+      | true ↦ λ own _. let at : e.at ≡ cond b s t = own_place r s t b e h.0 own in
+          omega (arith, up.0)
+      | false ↦ λ _ later. let le : e.at ≤ cond b s t = some_at e.at r s t b es up.1 h.1 later in
+          omega (arith, up.0)
     ] refl is
 
 -- the address lies in the ground
-in_ground : (v : Bool) (low a r s t : ℕ) (es : List Edge) → Rising low es → AllByRecursion (Fits r s t) es → some_edge es r true ≡ true → s ≤ a → a < t → flag v (upto a es) r ≡ true
+in_ground : (v : Bool) (low a r s t : ℕ) (es : List Edge)
+    → Rising low es → AllByRecursion (Fits r s t) es → some_edge es r true ≡ true → s ≤ a → a < t
+    → flag v (upto a es) r ≡ true
 in_ground v low a r s t [] up h is begun inside = absurd (let f : false ≡ true = is in cc)
 in_ground v low a r s t (e ∷ es) up h is begun inside =
     elim (leb e.at a) as (λ b. leb e.at a ≡ b → flag v (cond b (e ∷ upto a es) []) r ≡ true) [
-      | true ↦ λ le. elim (eqb e.rank r && e.opens) as (λ k. (eqb e.rank r && e.opens) ≡ k → (k || some_edge es r true) ≡ true → flag (cond (eqb e.rank r) e.opens v) (upto a es) r ≡ true) [
-        | true ↦ λ own _. subst (λ w. flag w (upto a es) r ≡ true) (sym (opened (eqb e.rank r) e.opens own)) (stays_open a r s t es h.1 inside)
-        | false ↦ λ _ later. in_ground (cond (eqb e.rank r) e.opens v) e.at a r s t es up.1 h.1 later begun inside
-      ] refl is
-      | false ↦ λ gt. absurd (let at : e.at ≤ s = some_at e.at r s t true (e ∷ es) (omega arith, up.1) h is in grind (arith, nat_tests))
+      | true ↦ λ le. elim (eqb e.rank r && e.opens)
+          as (λ k. (eqb e.rank r && e.opens) ≡ k → (k || some_edge es r true) ≡ true
+          → flag (cond (eqb e.rank r) e.opens v) (upto a es) r ≡ true) [
+            | true ↦ λ own _. subst (λ w. flag w (upto a es) r ≡ true)
+                (sym (opened (eqb e.rank r) e.opens own)) (stays_open a r s t es h.1 inside)
+            | false ↦ λ _ later.
+                in_ground (cond (eqb e.rank r) e.opens v) e.at a r s t es up.1 h.1 later
+                begun inside
+          ] refl is
+      | false ↦ λ gt. absurd (let at : e.at ≤ s =
+          some_at e.at r s t true (e ∷ es) (omega arith, up.1) h is in grind (arith, nat_tests))
     ] refl
   where
     opened : (x o : Bool) → (x && o) ≡ true → cond x o v ≡ true
@@ -144,15 +176,23 @@ in_ground v low a r s t (e ∷ es) up h is begun inside =
     opened false o own = absurd (let f : false ≡ true = own in cc)
 
 -- the address lies behind the ground
-past_ground : (v : Bool) (low a r s t : ℕ) (es : List Edge) → Rising low es → AllByRecursion (Fits r s t) es → some_edge es r false ≡ true → t ≤ a → s < t → flag v (upto a es) r ≡ false
+past_ground : (v : Bool) (low a r s t : ℕ) (es : List Edge)
+    → Rising low es → AllByRecursion (Fits r s t) es → some_edge es r false ≡ true → t ≤ a → s < t
+    → flag v (upto a es) r ≡ false
 past_ground v low a r s t [] up h is ended lt = absurd (let f : false ≡ true = is in cc)
 past_ground v low a r s t (e ∷ es) up h is ended lt =
     elim (leb e.at a) as (λ b. leb e.at a ≡ b → flag v (cond b (e ∷ upto a es) []) r ≡ false) [
-      | true ↦ λ le. elim (eqb e.rank r && not e.opens) as (λ k. (eqb e.rank r && not e.opens) ≡ k → (k || some_edge es r false) ≡ true → flag (cond (eqb e.rank r) e.opens v) (upto a es) r ≡ false) [
-        | true ↦ λ own _. let at : e.at ≡ t = own_place r s t false e h.0 own in subst (λ w. flag w (upto a es) r ≡ false) (sym (shut (eqb e.rank r) e.opens own)) (stays_shut e.at a r s t es up.1 h.1 (omega arith))
-        | false ↦ λ _ later. past_ground (cond (eqb e.rank r) e.opens v) e.at a r s t es up.1 h.1 later ended lt
-      ] refl is
-      | false ↦ λ gt. absurd (let at : e.at ≤ t = some_at e.at r s t false (e ∷ es) (omega arith, up.1) h is in grind (arith, nat_tests))
+      | true ↦ λ le. elim (eqb e.rank r && not e.opens)
+          as (λ k. (eqb e.rank r && not e.opens) ≡ k → (k || some_edge es r false) ≡ true
+          → flag (cond (eqb e.rank r) e.opens v) (upto a es) r ≡ false) [
+            | true ↦ λ own _. let at : e.at ≡ t = own_place r s t false e h.0 own in
+                subst (λ w. flag w (upto a es) r ≡ false) (sym (shut (eqb e.rank r) e.opens own))
+                (stays_shut e.at a r s t es up.1 h.1 (omega arith))
+            | false ↦ λ _ later.
+                past_ground (cond (eqb e.rank r) e.opens v) e.at a r s t es up.1 h.1 later ended lt
+          ] refl is
+      | false ↦ λ gt. absurd (let at : e.at ≤ t =
+          some_at e.at r s t false (e ∷ es) (omega arith, up.1) h is in grind (arith, nat_tests))
     ] refl
   where
     shut : (x o : Bool) → (x && not o) ≡ true → cond x o v ≡ false
@@ -162,29 +202,42 @@ past_ground v low a r s t (e ∷ es) up h is ended lt =
 
 -- the edges of one range
 edges_cases : (n : ℕ) (r : Ends) (P : List Edge → Type 0)
-    → (r.last < 2 ^ 128 - 1 → P (record { at = ground_first r; rank = n; opens = true } ∷ record { at = r.last + 1; rank = n; opens = false } ∷ []))
-    → (2 ^ 128 - 1 ≤ r.last → P (record { at = ground_first r; rank = n; opens = true } ∷ [])) → P (edges_of n r)
+    → (r.last < 2 ^ 128 - 1 → P (record { at = ground_first r; rank = n; opens = true }
+    ∷ record { at = r.last + 1; rank = n; opens = false } ∷ []))
+    → (2 ^ 128 - 1 ≤ r.last → P (record { at = ground_first r; rank = n; opens = true } ∷ []))
+    → P (edges_of n r)
 edges_cases n r P ends never =
-    elim (ltb r.last (2 ^ 128 - 1)) as (λ b. ltb r.last (2 ^ 128 - 1) ≡ b → P (record { at = ground_first r; rank = n; opens = true } ∷ cond b (record { at = r.last + 1; rank = n; opens = false } ∷ []) [])) [
+    elim (ltb r.last (2 ^ 128 - 1)) as (λ b. ltb r.last (2 ^ 128 - 1) ≡ b → P (record {
+      at = ground_first r;
+      rank = n;
+      opens = true;
+    } ∷ cond b (record { at = r.last + 1; rank = n; opens = false } ∷ []) [])) [
       | true ↦ λ e. ends (grind (arith, nat_tests))
       | false ↦ λ e. never (grind (arith, nat_tests))
     ] refl
 
-each_append : (P : Edge → Type 0) (xs ys : List Edge) → AllByRecursion P xs → AllByRecursion P ys → AllByRecursion P (xs ++ ys)
+each_append : (P : Edge → Type 0) (xs ys : List Edge) → AllByRecursion P xs → AllByRecursion P ys
+    → AllByRecursion P (xs ++ ys)
 each_append P [] ys h k = k
 each_append P (x ∷ xs) ys h k = (h.0, each_append P xs ys h.1 k)
 
-each_weaker : (P Q : Edge → Type 0) → ((e : Edge) → P e → Q e) → (xs : List Edge) → AllByRecursion P xs → AllByRecursion Q xs
+each_weaker : (P Q : Edge → Type 0)
+    → ((e : Edge) → P e → Q e) → (xs : List Edge) → AllByRecursion P xs → AllByRecursion Q xs
 each_weaker P Q f [] h = tt
 each_weaker P Q f (x ∷ xs) h = (f x h.0, each_weaker P Q f xs h.1)
 
-ranks_from : (n : ℕ) (rs : List Ends) → AllByRecursion (λ e. (n ≤ e.rank) × (e.rank < n + length rs)) (edges_from n rs)
+ranks_from : (n : ℕ) (rs : List Ends)
+    → AllByRecursion (λ e. (n ≤ e.rank) × (e.rank < n + length rs)) (edges_from n rs)
 ranks_from n [] = tt
 ranks_from n (r ∷ rs) =
-    each_append (λ e. (n ≤ e.rank) × (e.rank < n + length (r ∷ rs))) (edges_of n r) (edges_from (n + 1) rs)
+    each_append (λ e. (n ≤ e.rank) × (e.rank < n + length (r ∷ rs))) (edges_of n r)
+    (edges_from (n + 1) rs)
     (edges_cases n r (λ es. AllByRecursion (λ e. (n ≤ e.rank) × (e.rank < n + length (r ∷ rs))) es)
-    (λ ends. ((omega arith, omega arith), ((omega arith, omega arith), tt))) (λ never. ((omega arith, omega arith), tt)))
-    (each_weaker (λ e. (n + 1 ≤ e.rank) × (e.rank < n + 1 + length rs)) (λ e. (n ≤ e.rank) × (e.rank < n + length (r ∷ rs))) (λ e h. (omega (arith, h.0), omega (arith, h.1))) (edges_from (n + 1) rs) (ranks_from (n + 1) rs))
+    (λ ends. ((omega arith, omega arith), ((omega arith, omega arith), tt)))
+    (λ never. ((omega arith, omega arith), tt)))
+    (each_weaker (λ e. (n + 1 ≤ e.rank) × (e.rank < n + 1 + length rs)) (λ e. (n ≤ e.rank)
+    × (e.rank < n + length (r ∷ rs))) (λ e h. (omega (arith, h.0), omega (arith, h.1)))
+    (edges_from (n + 1) rs) (ranks_from (n + 1) rs))
 
 -- an edge of another rank fits
 fits_other : (r s t : ℕ) (e : Edge) → e.rank < r ⊎ r < e.rank → Fits r s t e
@@ -194,7 +247,9 @@ fits_other r s t e ne = record {
 }
   where
     apart : eqb e.rank r ≡ true → ⊥
-    apart is = let same : e.rank ≡ r = grind (arith, nat_tests) in elim ne [ inl lt ↦ omega arith | inr gt ↦ omega arith ]
+    apart is =
+        let same : e.rank ≡ r = grind (arith, nat_tests) in
+        elim ne [ inl lt ↦ omega arith | inr gt ↦ omega arith ]
 
 fits_own : (r s t : ℕ) → Fits r s t (record { at = s; rank = r; opens = true })
 fits_own r s t = record { opening = λ _ _. refl; closing = λ _ o. absurd cc }
@@ -202,54 +257,91 @@ fits_own r s t = record { opening = λ _ _. refl; closing = λ _ o. absurd cc }
 fits_end : (r s t : ℕ) → Fits r s t (record { at = t; rank = r; opens = false })
 fits_end r s t = record { opening = λ _ o. absurd cc; closing = λ _ _. refl }
 
-fits_from : (d : Ends) (n k : ℕ) (rs : List Ends) → k < length rs → AllByRecursion (Fits (n + k) (ground_first (get_or rs k d)) ((get_or rs k d).last + 1)) (edges_from n rs)
+fits_from : (d : Ends) (n k : ℕ) (rs : List Ends) → k < length rs → AllByRecursion
+    (Fits (n + k) (ground_first (get_or rs k d)) ((get_or rs k d).last + 1)) (edges_from n rs)
 fits_from d n k [] below = absurd (omega arith)
 fits_from d n zero (r ∷ rs) below =
     let e : n + 0 ≡ n = omega arith in
-    subst (λ i. AllByRecursion (Fits i (ground_first r) (r.last + 1)) (edges_from n (r ∷ rs))) (sym e)
+    subst (λ i. AllByRecursion (Fits i (ground_first r) (r.last + 1)) (edges_from n (r ∷ rs)))
+    (sym e)
     (each_append (Fits n (ground_first r) (r.last + 1)) (edges_of n r) (edges_from (n + 1) rs)
     (edges_cases n r (λ es. AllByRecursion (Fits n (ground_first r) (r.last + 1)) es)
-    (λ ends. (fits_own n (ground_first r) (r.last + 1), (fits_end n (ground_first r) (r.last + 1), tt)))
+    (λ ends.
+    (fits_own n (ground_first r) (r.last + 1), (fits_end n (ground_first r) (r.last + 1), tt)))
     (λ never. (fits_own n (ground_first r) (r.last + 1), tt)))
-    (each_weaker (λ e. (n + 1 ≤ e.rank) × (e.rank < n + 1 + length rs)) (Fits n (ground_first r) (r.last + 1)) (λ e h. fits_other n (ground_first r) (r.last + 1) e (inr (omega (arith, h.0)))) (edges_from (n + 1) rs) (ranks_from (n + 1) rs)))
+    (each_weaker (λ e. (n + 1 ≤ e.rank) × (e.rank < n + 1 + length rs)) (Fits n (ground_first r)
+    (r.last + 1)) (λ e h. fits_other n (ground_first r) (r.last + 1) e (inr (omega (arith, h.0))))
+    (edges_from (n + 1) rs) (ranks_from (n + 1) rs)))
 fits_from d n (suc k) (r ∷ rs) below =
     let e : n + 1 + k ≡ n + suc k = omega arith in
     let x : Ends = get_or rs k d in
     subst (λ i. AllByRecursion (Fits i (ground_first x) (x.last + 1)) (edges_from n (r ∷ rs))) e
-    (each_append (Fits (n + 1 + k) (ground_first x) (x.last + 1)) (edges_of n r) (edges_from (n + 1) rs)
+    (each_append (Fits (n + 1 + k) (ground_first x) (x.last + 1)) (edges_of n r)
+    (edges_from (n + 1) rs)
     (edges_cases n r (λ es. AllByRecursion (Fits (n + 1 + k) (ground_first x) (x.last + 1)) es)
     (λ ends. (
-      fits_other (n + 1 + k) (ground_first x) (x.last + 1) (record { at = ground_first r; rank = n; opens = true }) (inl (omega arith)),
-      (fits_other (n + 1 + k) (ground_first x) (x.last + 1) (record { at = r.last + 1; rank = n; opens = false }) (inl (omega arith)), tt),
+      fits_other (n + 1 + k) (ground_first x) (x.last + 1) (record {
+        at = ground_first r;
+        rank = n;
+        opens = true;
+      }) (inl (omega arith)),
+      (
+        fits_other (n + 1 + k) (ground_first x) (x.last + 1) (record {
+          at = r.last + 1;
+          rank = n;
+          opens = false;
+        }) (inl (omega arith)),
+        tt,
+      ),
     ))
-    (λ never. (fits_other (n + 1 + k) (ground_first x) (x.last + 1) (record { at = ground_first r; rank = n; opens = true }) (inl (omega arith)), tt)))
+    (λ never. (
+      fits_other (n + 1 + k) (ground_first x) (x.last + 1) (record {
+        at = ground_first r;
+        rank = n;
+        opens = true;
+      }) (inl (omega arith)),
+      tt,
+    )))
     (fits_from d (n + 1) k rs (omega arith)))
 
 or_right : (x y : Bool) → y ≡ true → (x || y) ≡ true
 or_right true y e = refl
 or_right false y e = e
 
-some_from : (d : Ends) (b : Bool) (n k : ℕ) (rs : List Ends) → k < length rs → (b ≡ false → (get_or rs k d).last < 2 ^ 128 - 1) → some_edge (edges_from n rs) (n + k) b ≡ true
+some_from : (d : Ends) (b : Bool) (n k : ℕ) (rs : List Ends)
+    → k < length rs → (b ≡ false → (get_or rs k d).last < 2 ^ 128 - 1)
+    → some_edge (edges_from n rs) (n + k) b ≡ true
 some_from d b n k [] below ends = absurd (omega arith)
 some_from d b n zero (r ∷ rs) below ends =
     let e : n + 0 ≡ n = omega arith in
     let same : eqb n n ≡ true = grind (arith, nat_tests) in
     subst (λ i. some_edge (edges_from n (r ∷ rs)) i b ≡ true) (sym e)
     (edges_cases n r (λ es. some_edge (es ++ edges_from (n + 1) rs) n b ≡ true)
-    (λ _. elim b as (λ c. ((eqb n n && cond c true false) || ((eqb n n && cond c false true) || some_edge (edges_from (n + 1) rs) n c)) ≡ true) [ true ↦ rw same refl | false ↦ rw same refl ])
-    (λ never. elim b as (λ c. (c ≡ false → r.last < 2 ^ 128 - 1) → ((eqb n n && cond c true false) || some_edge (edges_from (n + 1) rs) n c) ≡ true) [ true ↦ λ _. rw same refl | false ↦ λ f. absurd (let lt : r.last < 2 ^ 128 - 1 = f refl in omega arith) ] ends))
+    (λ _. elim b as (λ c. ((eqb n n && cond c true false)
+    || ((eqb n n && cond c false true) || some_edge (edges_from (n + 1) rs) n c)) ≡ true) [
+      | true ↦ rw same refl
+      | false ↦ rw same refl
+    ])
+    (λ never. elim b as (λ c. (c ≡ false → r.last < 2 ^ 128 - 1)
+    → ((eqb n n && cond c true false) || some_edge (edges_from (n + 1) rs) n c) ≡ true) [
+      | true ↦ λ _. rw same refl
+      | false ↦ λ f. absurd (let lt : r.last < 2 ^ 128 - 1 = f refl in omega arith)
+    ] ends))
 some_from d b n (suc k) (r ∷ rs) below ends =
     let e : n + 1 + k ≡ n + suc k = omega arith in
     subst (λ i. some_edge (edges_from n (r ∷ rs)) i b ≡ true) e
-    (list_any-append (λ x. eqb x.rank (n + 1 + k) && (cond b x.opens (not x.opens))) (edges_of n r) (edges_from (n + 1) rs)
-    ∙ or_right (some_edge (edges_of n r) (n + 1 + k) b) (some_edge (edges_from (n + 1) rs) (n + 1 + k) b) (some_from d b (n + 1) k rs (omega arith) ends))
+    (list_any-append (λ x. eqb x.rank (n + 1 + k) && (cond b x.opens (not x.opens))) (edges_of n r)
+    (edges_from (n + 1) rs)
+    ∙ or_right (some_edge (edges_of n r) (n + 1 + k) b) (some_edge (edges_from (n + 1) rs)
+    (n + 1 + k) b) (some_from d b (n + 1) k rs (omega arith) ends))
 
 -- the ground of a range is not empty
 pub ground_before : (x : Ends) → IsRange x → ground_first x < x.last + 1
 unfolding ground_first
 ground_before x h =
     let order : x.first ≤ x.last = h.ordered in
-    elim (ltb x.last (2 ^ 32)) as (λ b. ltb x.last (2 ^ 32) ≡ b → cond b x.first (max x.first (2 ^ 32)) < x.last + 1) [
+    elim (ltb x.last (2 ^ 32))
+    as (λ b. ltb x.last (2 ^ 32) ≡ b → cond b x.first (max x.first (2 ^ 32)) < x.last + 1) [
       | true ↦ λ e. omega arith
       | false ↦ λ e. let high : 2 ^ 32 ≤ x.last = grind (arith, nat_tests) in omega arith
     ] refl
@@ -258,7 +350,9 @@ pub held : (x : Ends) (a : ℕ) → holds x a ≡ (leb (ground_first x) a && ltb
 unfolding holds
 held x a = let s : leb a x.last ≡ ltb a (x.last + 1) = grind (arith, nat_tests) in rw s refl
 
-module _ (ranges : List Ends) (d : Ends) (es : List Edge) (same : IsPermutation (edges_from 0 ranges) es) (sorted : IsNonDecreasingBy (λ (e : Edge). e.at) es) (all : All IsRange ranges) where
+module _
+    (ranges : List Ends) (d : Ends) (es : List Edge) (same : IsPermutation (edges_from 0 ranges) es)
+    (sorted : IsNonDecreasingBy (λ (e : Edge). e.at) es) (all : All IsRange ranges) where
   up : Rising 0 es
   up = rising es sorted
 
@@ -269,25 +363,33 @@ module _ (ranges : List Ends) (d : Ends) (es : List Edge) (same : IsPermutation 
       (recursion_from_All (λ e. eqb e.rank r ≡ false) es
       (All-permutation (λ e. eqb e.rank r ≡ false) (edges_from 0 ranges) es same
       (All-from_recursion (λ e. eqb e.rank r ≡ false) (edges_from 0 ranges)
-      (each_weaker (λ e. (0 ≤ e.rank) × (e.rank < 0 + length ranges)) (λ e. eqb e.rank r ≡ false) (λ e h. let lt : e.rank < 0 + length ranges = h.1 in grind (arith, nat_tests)) (edges_from 0 ranges) (ranks_from 0 ranges)))))
+      (each_weaker (λ e. (0 ≤ e.rank) × (e.rank < 0 + length ranges)) (λ e. eqb e.rank r ≡ false)
+      (λ e h. let lt : e.rank < 0 + length ranges = h.1 in grind (arith, nat_tests))
+      (edges_from 0 ranges) (ranks_from 0 ranges)))))
 
-  fits : (r : ℕ) → r < length ranges → AllByRecursion (Fits r (ground_first (get_or ranges r d)) ((get_or ranges r d).last + 1)) es
+  fits : (r : ℕ) → r < length ranges
+      → AllByRecursion (Fits r (ground_first (get_or ranges r d)) ((get_or ranges r d).last + 1)) es
   fits r below =
       let x : Ends = get_or ranges r d in
       let e : 0 + r ≡ r = omega arith in
       recursion_from_All (Fits r (ground_first x) (x.last + 1)) es
       (All-permutation (Fits r (ground_first x) (x.last + 1)) (edges_from 0 ranges) es same
       (All-from_recursion (Fits r (ground_first x) (x.last + 1)) (edges_from 0 ranges)
-      (subst (λ i. AllByRecursion (Fits i (ground_first x) (x.last + 1)) (edges_from 0 ranges)) e (fits_from d 0 r ranges below))))
+      (subst (λ i. AllByRecursion (Fits i (ground_first x) (x.last + 1)) (edges_from 0 ranges)) e
+      (fits_from d 0 r ranges below))))
 
-  among : (r : ℕ) (b : Bool) → r < length ranges → (b ≡ false → (get_or ranges r d).last < 2 ^ 128 - 1) → some_edge es r b ≡ true
+  among : (r : ℕ) (b : Bool) → r < length ranges
+      → (b ≡ false → (get_or ranges r d).last < 2 ^ 128 - 1) → some_edge es r b ≡ true
   among r b below ends =
       let e : 0 + r ≡ r = omega arith in
-      sym (list_any-IsPermutation (λ e. eqb e.rank r && (cond b e.opens (not e.opens))) (edges_from 0 ranges) es same)
-      ∙ subst (λ i. some_edge (edges_from 0 ranges) i b ≡ true) e (some_from d b 0 r ranges below ends)
+      sym (list_any-IsPermutation (λ e. eqb e.rank r && (cond b e.opens (not e.opens)))
+      (edges_from 0 ranges) es same)
+      ∙ subst (λ i. some_edge (edges_from 0 ranges) i b ≡ true) e
+      (some_from d b 0 r ranges below ends)
 
   -- a rank is in force at an address where its range holds it
-  flag_is_held : (a : ℕ) → a < 2 ^ 128 → (r : ℕ) → r < length ranges → flag false (upto a es) r ≡ (leb (ground_first (get_or ranges r d)) a && ltb a ((get_or ranges r d).last + 1))
+  flag_is_held : (a : ℕ) → a < 2 ^ 128 → (r : ℕ) → r < length ranges → flag false (upto a es) r
+      ≡ (leb (ground_first (get_or ranges r d)) a && ltb a ((get_or ranges r d).last + 1))
   flag_is_held a within r below =
       let x : Ends = get_or ranges r d in
       let s : ℕ = ground_first x in
@@ -295,56 +397,76 @@ module _ (ranges : List Ends) (d : Ends) (es : List Edge) (same : IsPermutation 
       let order : s < t = ground_before x (all r d below) in
       elim (leb s a) as (λ b. leb s a ≡ b → flag false (upto a es) r ≡ (b && ltb a t)) [
         | true ↦ λ begun. elim (ltb a t) as (λ b. ltb a t ≡ b → flag false (upto a es) r ≡ b) [
-          | true ↦ λ inside. in_ground false 0 a r s t es up (fits r below) (among r true below (λ f. absurd cc)) (grind (arith, nat_tests)) (grind (arith, nat_tests))
-          | false ↦ λ past. let ended : t ≤ a = grind (arith, nat_tests) in past_ground false 0 a r s t es up (fits r below) (among r false below (λ f. omega arith)) ended order
+          | true ↦ λ inside. in_ground false 0 a r s t es up (fits r below) (among r true below
+              (λ f. absurd cc)) (grind (arith, nat_tests)) (grind (arith, nat_tests))
+          | false ↦ λ past. let ended : t ≤ a = grind (arith, nat_tests) in
+              past_ground false 0 a r s t es up (fits r below)
+              (among r false below (λ f. omega arith)) ended order
         ] refl
-        | false ↦ λ before. let low : a < s = grind (arith, nat_tests) in before_ground false a r s t es (fits r below) low (omega arith)
+        | false ↦ λ before. let low : a < s = grind (arith, nat_tests) in
+            before_ground false a r s t es (fits r below) low (omega arith)
       ] refl
 
-  in_force : (a : ℕ) → a < 2 ^ 128 → (r : ℕ) → flag false (upto a es) r ≡ (ltb r (length ranges) && holds (get_or ranges r d) a)
+  in_force : (a : ℕ) → a < 2 ^ 128
+      → (r : ℕ) → flag false (upto a es) r ≡ (ltb r (length ranges) && holds (get_or ranges r d) a)
   in_force a within r =
-      elim (ltb r (length ranges)) as (λ b. ltb r (length ranges) ≡ b → flag false (upto a es) r ≡ (b && holds (get_or ranges r d) a)) [
-        | true ↦ λ e. flag_is_held a within r (grind (arith, nat_tests)) ∙ sym (held (get_or ranges r d) a)
+      elim (ltb r (length ranges)) as (λ b. ltb r (length ranges) ≡ b
+      → flag false (upto a es) r ≡ (b && holds (get_or ranges r d) a)) [
+        | true ↦ λ e. flag_is_held a within r (grind (arith, nat_tests))
+            ∙ sym (held (get_or ranges r d) a)
         | false ↦ λ e. past_ranks a r (grind (arith, nat_tests))
       ] refl
 
   tell : (a : ℕ) → a < 2 ^ 128 → told None (sweep [] es) a ≡ position (λ r. holds r a) ranges
   tell a within =
       told_sweep a [] es
-      ∙ head_is_position (λ r. holds r a) ranges d (after_all [] (upto a es)) (up_all [] (upto a es) tt) (λ r. in_all [] (upto a es) r tt ∙ in_force a within r)
+      ∙ head_is_position (λ r. holds r a) ranges d (after_all [] (upto a es))
+      (up_all [] (upto a es) tt) (λ r. in_all [] (upto a es) r tt ∙ in_force a within r)
 
 length-sweep : (ks : List ℕ) (es : List Edge) → length (sweep ks es) ≡ length es
 length-sweep ks [] = refl
 length-sweep ks (e ∷ es) = ap suc (length-sweep (after_edge ks e) es)
 
-at-sweep : (ks : List ℕ) (es : List Edge) (k : ℕ) (d : Boundary) (c : Edge) → k < length es → (get_or (sweep ks es) k d).at ≡ (get_or es k c).at
+at-sweep : (ks : List ℕ) (es : List Edge) (k : ℕ) (d : Boundary) (c : Edge) → k < length es
+    → (get_or (sweep ks es) k d).at ≡ (get_or es k c).at
 at-sweep ks [] k d c below = absurd (omega arith)
 at-sweep ks (e ∷ es) zero d c below = refl
 at-sweep ks (e ∷ es) (suc k) d c below = at-sweep (after_edge ks e) es k d c (omega arith)
 
 -- what a pass over the sorted edges of ranges finds
-pub are_boundaries : (ranges : List Ends) (es : List Edge) → IsPermutation (edges_from 0 ranges) es → IsNonDecreasingBy (λ (e : Edge). e.at) es → All IsRange ranges → AreBoundaries ranges (sweep [] es)
+pub are_boundaries : (ranges : List Ends) (es : List Edge) → IsPermutation (edges_from 0 ranges) es
+    → IsNonDecreasingBy (λ (e : Edge). e.at) es → All IsRange ranges
+    → AreBoundaries ranges (sweep [] es)
 are_boundaries ranges es same sorted all = record {
   ordered = λ i j d le below.
       let c : Edge = record { at = 0; rank = 0; opens = false } in
       let n : length (sweep [] es) ≡ length es = length-sweep [] es in
-      let x : (get_or (sweep [] es) i d).at ≡ (get_or es i c).at = at-sweep [] es i d c (omega arith) in
-      let y : (get_or (sweep [] es) j d).at ≡ (get_or es j c).at = at-sweep [] es j d c (omega arith) in
+      let x : (get_or (sweep [] es) i d).at ≡ (get_or es i c).at =
+      at-sweep [] es i d c (omega arith) in
+      let y : (get_or (sweep [] es) j d).at ≡ (get_or es j c).at =
+      at-sweep [] es j d c (omega arith) in
       omega (arith, sorted i j c le (omega arith));
   tell = tell ranges (record { first = 0; last = 0 }) es same sorted all;
 }
 
 -- what is told is what the last boundary at or below the address tells
-pub told_at : (before : Option ℕ) (d : Boundary) (bs : List Boundary) (i a : ℕ) → i ≤ length bs → ((k : ℕ) → k < i → (get_or bs k d).at ≤ a) → (i < length bs → a < (get_or bs i d).at)
+pub told_at : (before : Option ℕ) (d : Boundary) (bs : List Boundary) (i a : ℕ) → i ≤ length bs
+    → ((k : ℕ) → k < i → (get_or bs k d).at ≤ a) → (i < length bs → a < (get_or bs i d).at)
     → told before bs a ≡ cond (eqb i 0) before (get_or bs (i - 1) d).first
 told_at before d [] i a le low high = let e : i ≡ 0 = omega arith in rw e refl
-told_at before d (b ∷ bs) zero a le low high = let gt : leb b.at a ≡ false = (let lt : a < b.at = high (omega arith) in grind (arith, nat_tests)) in rw gt refl
+told_at before d (b ∷ bs) zero a le low high =
+    let gt : leb b.at a ≡ false =
+    (let lt : a < b.at = high (omega arith) in grind (arith, nat_tests)) in rw gt refl
 told_at before d (b ∷ bs) (suc i) a le low high =
-    let here : leb b.at a ≡ true = (let first : b.at ≤ a = low 0 (omega arith) in grind (arith, nat_tests)) in
-    let later : told b.first bs a ≡ cond (eqb i 0) b.first (get_or bs (i - 1) d).first = told_at b.first d bs i a (omega arith) (λ k lt. low (suc k) (omega arith)) (λ lt. high (omega arith)) in
+    let here : leb b.at a ≡ true =
+    (let first : b.at ≤ a = low 0 (omega arith) in grind (arith, nat_tests)) in
+    let later : told b.first bs a ≡ cond (eqb i 0) b.first (get_or bs (i - 1) d).first =
+    told_at b.first d bs i a (omega arith) (λ k lt. low (suc k) (omega arith))
+    (λ lt. high (omega arith)) in
     rw here (later ∙ last i)
   where
-    last : (i : ℕ) → cond (eqb i 0) b.first (get_or bs (i - 1) d).first ≡ cond (eqb (suc i) 0) before (get_or (b ∷ bs) (suc i - 1) d).first
+    last : (i : ℕ) → cond (eqb i 0) b.first (get_or bs (i - 1) d).first
+        ≡ cond (eqb (suc i) 0) before (get_or (b ∷ bs) (suc i - 1) d).first
     last zero = refl
     last (suc j) =
         let f : eqb (suc j) 0 ≡ false = grind (arith, nat_tests) in
@@ -354,9 +476,13 @@ told_at before d (b ∷ bs) (suc i) a le low high =
         rw (f, g, m, n) refl
 
 -- the same, from what a search by halving found
-pub told_found : (bs : List Boundary) (i a : ℕ) → i ≤ length bs → IsPartitionPoint (λ (b : Boundary). leb b.at a ≡ true) (λ b. leb b.at a ≡ false) bs i
-    → told None bs a ≡ cond (eqb i 0) None (get_or bs (i - 1) (record { at = 0; first = None })).first
+pub told_found : (bs : List Boundary) (i a : ℕ) → i ≤ length bs
+    → IsPartitionPoint (λ (b : Boundary). leb b.at a ≡ true) (λ b. leb b.at a ≡ false) bs i
+    → told None bs a
+    ≡ cond (eqb i 0) None (get_or bs (i - 1) (record { at = 0; first = None })).first
 told_found bs i a le found =
     told_at None (record { at = 0; first = None }) bs i a le
-    (λ k lt. let e : leb (get_or bs k (record { at = 0; first = None })).at a ≡ true = found.0 k (record { at = 0; first = None }) (omega arith) lt in grind (arith, nat_tests))
-    (λ lt. let e : leb (get_or bs i (record { at = 0; first = None })).at a ≡ false = found.1 i (record { at = 0; first = None }) (omega arith) lt in grind (arith, nat_tests))
+    (λ k lt. let e : leb (get_or bs k (record { at = 0; first = None })).at a ≡ true =
+    found.0 k (record { at = 0; first = None }) (omega arith) lt in grind (arith, nat_tests))
+    (λ lt. let e : leb (get_or bs i (record { at = 0; first = None })).at a ≡ false =
+    found.1 i (record { at = 0; first = None }) (omega arith) lt in grind (arith, nat_tests))

@@ -1,5 +1,8 @@
--- What an index tells is the first statement that holds an address: by the ranks of the statements in their order, those that tie by their places.
-use Rattle.std.proofs.Common.{◌≡◌, ℕ, zero, suc, ◌+◌, ◌<◌, ◌≤◌, Bool, true, false, cond, leb, ltb, List, [], ◌∷◌, length, get_or, map, fold, Option, Some, None, Ordering, slice_get, refl, sym, ap, ◌∙◌, subst, inl, inr, arith}
+-- What an index tells is the first statement that holds an address:
+-- by the ranks of the statements in their order, those that tie by their places.
+use Rattle.std.proofs.Common.{◌≡◌, ℕ, zero, suc, ◌+◌, ◌<◌, ◌≤◌, Bool, true, false, cond, leb, ltb}
+use Rattle.std.proofs.Common.{List, [], ◌∷◌, length, get_or, map, fold, Option, Some, None}
+use Rattle.std.proofs.Common.{Ordering, slice_get, refl, sym, ap, ◌∙◌, subst, inl, inr, arith}
 use Rattle.std.specs.Cmp.{IsTotalOrder}
 use Rattle.std.specs.List.{All, AllByRecursion, enumerate_from, filter, position, position_or_len}
 use Rattle.std.specs.List.Sorted.{IsNonDecreasingBy, IsPermutation, IsSortedBy}
@@ -8,7 +11,8 @@ use Rattle.std.specs.Ordering.{nat_cmp, ordering_then, ordering_reverse, is_lt}
 use Rattle.std.proofs.lemmas.Bool.Decides.{nat_tests}
 use Rattle.std.proofs.lemmas.Cmp.{then_total, on_total, nat_cmp_total}
 use Rattle.std.proofs.lemmas.List.Elements.{All-from_recursion, recursion_from_All}
-use Rattle.std.proofs.lemmas.List.Sorted.{ranks_by, sorted_far, All-permutation, Contains-permutation, IsPermutation-sym}
+use Rattle.std.proofs.lemmas.List.Sorted.{ranks_by, sorted_far, All-permutation}
+use Rattle.std.proofs.lemmas.List.Sorted.{Contains-permutation, IsPermutation-sym}
 use Rattle.geo_addr.specs.Ranges.{Ends, holds}
 use Rattle.geo_terms.specs.Boundaries.{told, AreBoundaries}
 use Rattle.geo_terms.specs.First.{better, first_of, first_at}
@@ -18,39 +22,53 @@ use Rattle.geo_terms.proofs.Members.{Among, among_from_contains, contains_from_a
 
 -- boundaries with places tell the place of the rank that was told
 told_places : (places : List ℕ) (before : Option ℕ) (bs : List Boundary) (a : ℕ)
-    → told (option_and_then (slice_get places) before) (map (with_place places) bs) a ≡ option_and_then (slice_get places) (told before bs a)
+    → told (option_and_then (slice_get places) before) (map (with_place places) bs) a
+    ≡ option_and_then (slice_get places) (told before bs a)
 told_places places before [] a = refl
 told_places places before (b ∷ bs) a =
-    elim (leb b.at a) as (λ v. cond v (told (option_and_then (slice_get places) b.first) (map (with_place places) bs) a) (option_and_then (slice_get places) before) ≡ option_and_then (slice_get places) (cond v (told b.first bs a) before)) [
+    elim (leb b.at a) as (λ v. cond v (told (option_and_then (slice_get places) b.first)
+    (map (with_place places) bs) a) (option_and_then (slice_get places) before)
+    ≡ option_and_then (slice_get places) (cond v (told b.first bs a) before)) [
       | true ↦ told_places places b.first bs a
       | false ↦ refl
     ]
 
-pub ordered_places : (places : List ℕ) (bs : List Boundary) → IsNonDecreasingBy (λ (b : Boundary). b.at) bs → IsNonDecreasingBy (λ (b : Boundary). b.at) (map (with_place places) bs)
+pub ordered_places : (places : List ℕ) (bs : List Boundary)
+    → IsNonDecreasingBy (λ (b : Boundary). b.at) bs
+    → IsNonDecreasingBy (λ (b : Boundary). b.at) (map (with_place places) bs)
 ordered_places places bs up i j d le below =
     let n : length (map (with_place places) bs) ≡ length bs = same_length bs in
-    let x : (get_or (map (with_place places) bs) i d).at ≡ (get_or bs i d).at = same_at bs i (omega arith) in
-    let y : (get_or (map (with_place places) bs) j d).at ≡ (get_or bs j d).at = same_at bs j (omega arith) in
+    let x : (get_or (map (with_place places) bs) i d).at ≡ (get_or bs i d).at =
+    same_at bs i (omega arith) in
+    let y : (get_or (map (with_place places) bs) j d).at ≡ (get_or bs j d).at =
+    same_at bs j (omega arith) in
     omega (arith, up i j d le (omega arith))
   where
     same_length : (xs : List Boundary) → length (map (with_place places) xs) ≡ length xs
     same_length [] = refl
     same_length (x ∷ xs) = ap suc (same_length xs)
 
-    same_at : (xs : List Boundary) (k : ℕ) → k < length xs → (get_or (map (with_place places) xs) k d).at ≡ (get_or xs k d).at
+    same_at : (xs : List Boundary) (k : ℕ) → k < length xs
+        → (get_or (map (with_place places) xs) k d).at ≡ (get_or xs k d).at
     same_at [] k lt = absurd (omega arith)
     same_at (x ∷ xs) zero lt = refl
     same_at (x ∷ xs) (suc k) lt = same_at xs k (omega arith)
 
-position_here : {X : Type 0} (p : X → Bool) (x : X) (xs : List X) → p x ≡ true → position p (x ∷ xs) ≡ Some 0
+position_here : {X : Type 0} (p : X → Bool) (x : X) (xs : List X) → p x ≡ true
+    → position p (x ∷ xs) ≡ Some 0
 position_here p x xs is = rw is (grind (arith, nat_tests))
 
-position_later : {X : Type 0} (p : X → Bool) (x : X) (xs : List X) → p x ≡ false → position p (x ∷ xs) ≡ option_map (λ n. 1 + n) (position p xs)
+position_later : {X : Type 0} (p : X → Bool) (x : X) (xs : List X) → p x ≡ false
+    → position p (x ∷ xs) ≡ option_map (λ n. 1 + n) (position p xs)
 position_later p x xs fails =
-    rw fails (elim (ltb (position_or_len p xs) (length xs)) as (λ b. ltb (position_or_len p xs) (length xs) ≡ b
-    → cond (ltb (1 + position_or_len p xs) (suc (length xs))) (Some (1 + position_or_len p xs)) None ≡ option_map (λ n. 1 + n) (cond b (Some (position_or_len p xs)) None)) [
-      | true ↦ λ e. let f : ltb (1 + position_or_len p xs) (suc (length xs)) ≡ true = grind (arith, nat_tests) in rw f refl
-      | false ↦ λ e. let f : ltb (1 + position_or_len p xs) (suc (length xs)) ≡ false = grind (arith, nat_tests) in rw f refl
+    rw fails (elim (ltb (position_or_len p xs) (length xs))
+    as (λ b. ltb (position_or_len p xs) (length xs) ≡ b
+    → cond (ltb (1 + position_or_len p xs) (suc (length xs))) (Some (1 + position_or_len p xs)) None
+    ≡ option_map (λ n. 1 + n) (cond b (Some (position_or_len p xs)) None)) [
+      | true ↦ λ e. let f : ltb (1 + position_or_len p xs) (suc (length xs)) ≡ true =
+          grind (arith, nat_tests) in rw f refl
+      | false ↦ λ e. let f : ltb (1 + position_or_len p xs) (suc (length xs)) ≡ false =
+          grind (arith, nat_tests) in rw f refl
     ] refl)
 
 -- what stands behind an equal or a greater one
@@ -59,9 +77,12 @@ then_less Ordering.Less y e = absurd (let f : true ≡ false = e in cc)
 then_less Ordering.Equal y e = refl
 then_less Ordering.Greater y e = refl
 
-then_greater : (x y : Ordering) → is_lt (ordering_then x y) ≡ false → y ≡ Ordering.Less → x ≡ Ordering.Greater
+then_greater : (x y : Ordering) → is_lt (ordering_then x y) ≡ false → y ≡ Ordering.Less
+    → x ≡ Ordering.Greater
 then_greater Ordering.Less y e is = absurd (let f : true ≡ false = e in cc)
-then_greater Ordering.Equal y e is = absurd (let f : is_lt Ordering.Less ≡ false = subst (λ o. is_lt o ≡ false) is e in let g : true ≡ false = f in cc)
+then_greater Ordering.Equal y e is =
+    absurd (let f : is_lt Ordering.Less ≡ false = subst (λ o. is_lt o ≡ false) is e in
+    let g : true ≡ false = f in cc)
 then_greater Ordering.Greater y e is = refl
 
 -- the first of statements with their places that holds an address
@@ -69,7 +90,8 @@ abbrev pub found : {X : Type 0} → (X → Ends) → List (ℕ × X) → ℕ →
 found range_of [] a = None
 found range_of (c ∷ cs) a = cond (holds (range_of c.1) a) (Some c) (found range_of cs a)
 
-module _ {X : Type 0} (order : X → X → Ordering) (total : IsTotalOrder order) (range_of : X → Ends) where
+module _ {X : Type 0} (order : X → X → Ordering) (total : IsTotalOrder order)
+    (range_of : X → Ends) where
   abbrev before : X → X → Bool
   before x y = is_lt (order x y)
 
@@ -77,19 +99,28 @@ module _ {X : Type 0} (order : X → X → Ordering) (total : IsTotalOrder order
   ranked_before x y = is_lt (placed_cmp order x y)
 
   pub placed_total : IsTotalOrder (placed_cmp order)
-  placed_total = then_total (on_total (λ (x : ℕ × X). x.1) total) (on_total (λ (x : ℕ × X). x.0) nat_cmp_total)
+  placed_total =
+      then_total (on_total (λ (x : ℕ × X). x.1) total) (on_total (λ (x : ℕ × X). x.0) nat_cmp_total)
 
   -- its place is that of the rank of the first range that holds
-  by_rank : (a : ℕ) (cs : List (ℕ × X)) → option_and_then (slice_get (map (λ (c : ℕ × X). c.0) cs)) (position (λ r. holds r a) (map (λ (c : ℕ × X). range_of c.1) cs)) ≡ option_map (λ (c : ℕ × X). c.0) (found range_of cs a)
+  by_rank : (a : ℕ) (cs : List (ℕ × X)) → option_and_then (slice_get (map (λ (c : ℕ × X). c.0) cs))
+      (position (λ r. holds r a) (map (λ (c : ℕ × X). range_of c.1) cs))
+      ≡ option_map (λ (c : ℕ × X). c.0) (found range_of cs a)
   by_rank a [] = refl
   by_rank a (c ∷ cs) =
       elim (holds (range_of c.1) a) as (λ b. holds (range_of c.1) a ≡ b
-      → option_and_then (slice_get (map (λ (c : ℕ × X). c.0) (c ∷ cs))) (position (λ r. holds r a) (map (λ (c : ℕ × X). range_of c.1) (c ∷ cs))) ≡ option_map (λ (c : ℕ × X). c.0) (cond b (Some c) (found range_of cs a))) [
-        | true ↦ λ e. rw (position_here (λ (x : Ends). holds x a) (range_of c.1) (map (λ (c : ℕ × X). range_of c.1) cs) e) refl
-        | false ↦ λ e. rw (position_later (λ (x : Ends). holds x a) (range_of c.1) (map (λ (c : ℕ × X). range_of c.1) cs) e) (later (position (λ r. holds r a) (map (λ (c : ℕ × X). range_of c.1) cs)) ∙ by_rank a cs)
+      → option_and_then (slice_get (map (λ (c : ℕ × X). c.0) (c ∷ cs)))
+      (position (λ r. holds r a) (map (λ (c : ℕ × X). range_of c.1) (c ∷ cs)))
+      ≡ option_map (λ (c : ℕ × X). c.0) (cond b (Some c) (found range_of cs a))) [
+        | true ↦ λ e. rw (position_here (λ (x : Ends). holds x a) (range_of c.1)
+            (map (λ (c : ℕ × X). range_of c.1) cs) e) refl
+        | false ↦ λ e. rw (position_later (λ (x : Ends). holds x a)
+            (range_of c.1) (map (λ (c : ℕ × X). range_of c.1) cs) e) (later
+            (position (λ r. holds r a) (map (λ (c : ℕ × X). range_of c.1) cs)) ∙ by_rank a cs)
       ] refl
     where
-      later : (o : Option ℕ) → option_and_then (slice_get (map (λ (c : ℕ × X). c.0) (c ∷ cs))) (option_map (λ n. 1 + n) o) ≡ option_and_then (slice_get (map (λ (c : ℕ × X). c.0) cs)) o
+      later : (o : Option ℕ) → option_and_then (slice_get (map (λ (c : ℕ × X). c.0) (c ∷ cs)))
+          (option_map (λ n. 1 + n) o) ≡ option_and_then (slice_get (map (λ (c : ℕ × X). c.0) cs)) o
       later None = refl
       later (Some n) = let e : 1 + n ≡ suc n = omega arith in rw e refl
 
@@ -98,19 +129,28 @@ module _ {X : Type 0} (order : X → X → Ordering) (total : IsTotalOrder order
   InOrder [] = Unit {0}
   InOrder (c ∷ cs) = AllByRecursion (λ d. ranked_before d c ≡ false) cs × InOrder cs
 
-  none_ahead : (c : ℕ × X) (cs : List (ℕ × X)) → ((j : ℕ) (d : ℕ × X) → j < length cs → ranked_before (get_or cs j d) c ≡ false) → AllByRecursion (λ d. ranked_before d c ≡ false) cs
+  none_ahead : (c : ℕ × X) (cs : List (ℕ × X))
+      → ((j : ℕ) (d : ℕ × X) → j < length cs → ranked_before (get_or cs j d) c ≡ false)
+      → AllByRecursion (λ d. ranked_before d c ≡ false) cs
   none_ahead c [] later = tt
-  none_ahead c (x ∷ xs) later = (later 0 x (omega arith), none_ahead c xs (λ j d below. later (suc j) d (omega arith)))
+  none_ahead c (x ∷ xs) later =
+      (later 0 x (omega arith), none_ahead c xs (λ j d below. later (suc j) d (omega arith)))
 
-  in_order : (cs : List (ℕ × X)) → ((i j : ℕ) (d : ℕ × X) → i ≤ j → j < length cs → ranked_before (get_or cs j d) (get_or cs i d) ≡ false) → InOrder cs
+  in_order : (cs : List (ℕ × X)) → ((i j : ℕ) (d : ℕ × X) → i ≤ j → j < length cs
+      → ranked_before (get_or cs j d) (get_or cs i d) ≡ false) → InOrder cs
   in_order [] far = tt
-  in_order (c ∷ cs) far =
-      (none_ahead c cs (λ j d below. far 0 (suc j) d (omega arith) (omega arith)), in_order cs (λ i j d le below. far (suc i) (suc j) d (omega arith) (omega arith)))
+  in_order (c ∷ cs) far = (
+    none_ahead c cs (λ j d below. far 0 (suc j) d (omega arith) (omega arith)),
+    in_order cs (λ i j d le below. far (suc i) (suc j) d (omega arith) (omega arith)),
+  )
 
   -- of those that hold an address, no later one goes before an earlier one
   abbrev pub Ranked : ℕ → List (ℕ × X) → Type 0
   Ranked a [] = Unit {0}
-  Ranked a (c ∷ cs) = (holds (range_of c.1) a ≡ true → AllByRecursion (λ d. holds (range_of d.1) a ≡ true → ranked_before d c ≡ false) cs) × Ranked a cs
+  Ranked a (c ∷ cs) =
+      (holds (range_of c.1) a ≡ true
+      → AllByRecursion (λ d. holds (range_of d.1) a ≡ true → ranked_before d c ≡ false) cs)
+      × Ranked a cs
 
   -- what was found: no other one that holds goes before it
   record IsFound (a : ℕ) (cs : List (ℕ × X)) (c : ℕ × X) : Type 0 where
@@ -119,9 +159,16 @@ module _ {X : Type 0} (order : X → X → Ordering) (total : IsTotalOrder order
     least : AllByRecursion (λ d. holds (range_of d.1) a ≡ true → ranked_before d c ≡ false) cs
 
   not_itself : (c : ℕ × X) → ranked_before c c ≡ false
-  not_itself c = let o = ranks_by placed_total (λ (x : ℕ × X). x) in elim (ranked_before c c) as (λ b. ranked_before c c ≡ b → b ≡ false) [ true ↦ λ e. sym e ∙ o.one_way c c e | false ↦ λ e. refl ] refl
+  not_itself c =
+      let o = ranks_by placed_total (λ (x : ℕ × X). x) in
+      elim (ranked_before c c) as (λ b. ranked_before c c ≡ b → b ≡ false) [
+        | true ↦ λ e. sym e ∙ o.one_way c c e
+        | false ↦ λ e. refl
+      ] refl
 
-  under_holds : (a : ℕ) (c : ℕ × X) (cs : List (ℕ × X)) → AllByRecursion (λ d. ranked_before d c ≡ false) cs → AllByRecursion (λ d. holds (range_of d.1) a ≡ true → ranked_before d c ≡ false) cs
+  under_holds : (a : ℕ) (c : ℕ × X) (cs : List (ℕ × X))
+      → AllByRecursion (λ d. ranked_before d c ≡ false) cs
+      → AllByRecursion (λ d. holds (range_of d.1) a ≡ true → ranked_before d c ≡ false) cs
   under_holds a c [] h = tt
   under_holds a c (x ∷ xs) h = ((λ _. h.0), under_holds a c xs h.1)
 
@@ -129,30 +176,46 @@ module _ {X : Type 0} (order : X → X → Ordering) (total : IsTotalOrder order
   ranked a [] up = tt
   ranked a (c ∷ cs) up = ((λ _. under_holds a c cs up.0), ranked a cs up.1)
 
-  is_found : (a : ℕ) (cs : List (ℕ × X)) (d : ℕ × X) → Ranked a cs → found range_of cs a ≡ Some d → IsFound a cs d
+  is_found : (a : ℕ) (cs : List (ℕ × X)) (d : ℕ × X) → Ranked a cs → found range_of cs a ≡ Some d
+      → IsFound a cs d
   is_found a [] d up is = absurd cc
   is_found a (c ∷ cs) d up is =
-      elim (holds (range_of c.1) a) as (λ b. holds (range_of c.1) a ≡ b → cond b (Some c) (found range_of cs a) ≡ Some d → IsFound a (c ∷ cs) d) [
+      elim (holds (range_of c.1) a) as (λ b. holds (range_of c.1) a ≡ b
+      → cond b (Some c) (found range_of cs a) ≡ Some d → IsFound a (c ∷ cs) d) [
         | true ↦ λ e here. let same : c ≡ d = cc in
-            subst (λ (x : ℕ × X). IsFound a (c ∷ cs) x) same (record { among = inl refl; held = e; least = ((λ _. not_itself c), up.0 e) })
+            subst (λ (x : ℕ × X). IsFound a (c ∷ cs) x) same
+            (record { among = inl refl; held = e; least = ((λ _. not_itself c), up.0 e) })
         | false ↦ λ e later. let h = is_found a cs d up.1 later in
-            record { among = inr h.among; held = h.held; least = ((λ is. absurd (let f : false ≡ true = sym e ∙ is in cc)), h.least) }
+            record {
+              among = inr h.among;
+              held = h.held;
+              least = ((λ is. absurd (let f : false ≡ true = sym e ∙ is in cc)), h.least);
+            }
       ] refl is
 
-  none_found : (a : ℕ) (cs : List (ℕ × X)) → found range_of cs a ≡ None → AllByRecursion (λ c. holds (range_of c.1) a ≡ false) cs
+  none_found : (a : ℕ) (cs : List (ℕ × X)) → found range_of cs a ≡ None
+      → AllByRecursion (λ c. holds (range_of c.1) a ≡ false) cs
   none_found a [] is = tt
   none_found a (c ∷ cs) is =
-      elim (holds (range_of c.1) a) as (λ b. holds (range_of c.1) a ≡ b → cond b (Some c) (found range_of cs a) ≡ None → AllByRecursion (λ c. holds (range_of c.1) a ≡ false) (c ∷ cs)) [
+      elim (holds (range_of c.1) a)
+      as (λ b. holds (range_of c.1) a ≡ b → cond b (Some c) (found range_of cs a) ≡ None
+      → AllByRecursion (λ c. holds (range_of c.1) a ≡ false) (c ∷ cs)) [
         | true ↦ λ e here. absurd cc
         | false ↦ λ e later. (e, none_found a cs later)
       ] refl is
 
   -- the first so far stays where no later one goes before it
-  stays : (p : X → Bool) (z : ℕ × X) (n : ℕ) (xs : List X) → z.0 < n → AllByRecursion (λ d. p d.1 ≡ true → ranked_before d z ≡ false) (enumerate_from n xs) → fold (better before) (Some z.1) (filter p xs) ≡ Some z.1
+  stays : (p : X → Bool) (z : ℕ × X) (n : ℕ) (xs : List X) → z.0 < n
+      → AllByRecursion (λ d. p d.1 ≡ true → ranked_before d z ≡ false) (enumerate_from n xs)
+      → fold (better before) (Some z.1) (filter p xs) ≡ Some z.1
   stays p z n [] past least = refl
   stays p z n (x ∷ xs) past least =
-      elim (p x) as (λ b. p x ≡ b → fold (better before) (Some z.1) (cond b (x ∷ filter p xs) (filter p xs)) ≡ Some z.1) [
-        | true ↦ λ e. let kept : before x z.1 ≡ false = then_less (order x z.1) (nat_cmp n z.0) (least.0 e) in subst (λ b. fold (better before) (Some (cond b x z.1)) (filter p xs) ≡ Some z.1) (sym kept) (stays p z (n + 1) xs (omega arith) least.1)
+      elim (p x) as (λ b. p x ≡ b
+      → fold (better before) (Some z.1) (cond b (x ∷ filter p xs) (filter p xs)) ≡ Some z.1) [
+        | true ↦ λ e. let kept : before x z.1 ≡ false =
+            then_less (order x z.1) (nat_cmp n z.0) (least.0 e) in
+            subst (λ b. fold (better before) (Some (cond b x z.1)) (filter p xs) ≡ Some z.1)
+            (sym kept) (stays p z (n + 1) xs (omega arith) least.1)
         | false ↦ λ e. stays p z (n + 1) xs (omega arith) least.1
       ] refl
 
@@ -161,18 +224,24 @@ module _ {X : Type 0} (order : X → X → Ordering) (total : IsTotalOrder order
   Yields z None = Unit {0}
   Yields z (Some w) = before z.1 w ≡ true
 
-  yields_here : (p : X → Bool) (z : ℕ × X) (acc : Option X) → Yields z acc → better before acc z.1 ≡ Some z.1
+  yields_here : (p : X → Bool) (z : ℕ × X) (acc : Option X) → Yields z acc
+      → better before acc z.1 ≡ Some z.1
   yields_here p z None h = refl
   yields_here p z (Some w) h = rw h refl
 
-  yields_on : (z : ℕ × X) (acc : Option X) (x : X) → Yields z acc → before z.1 x ≡ true → Yields z (better before acc x)
+  yields_on : (z : ℕ × X) (acc : Option X) (x : X) → Yields z acc → before z.1 x ≡ true
+      → Yields z (better before acc x)
   yields_on z None x h e = e
-  yields_on z (Some w) x h e = elim (before x w) as (λ b. before z.1 (cond b x w) ≡ true) [ true ↦ e | false ↦ h ]
+  yields_on z (Some w) x h e =
+      elim (before x w) as (λ b. before z.1 (cond b x w) ≡ true) [ true ↦ e | false ↦ h ]
 
-  goes_before : (z : ℕ × X) (n : ℕ) (x : X) → n < z.0 → ranked_before (n, x) z ≡ false → before z.1 x ≡ true
+  goes_before : (z : ℕ × X) (n : ℕ) (x : X) → n < z.0 → ranked_before (n, x) z ≡ false
+      → before z.1 x ≡ true
   goes_before z n x lt h =
-      let less : nat_cmp n z.0 ≡ Ordering.Less = (let t : ltb n z.0 ≡ true = grind (arith, nat_tests) in rw t refl) in
-      let greater : order x z.1 ≡ Ordering.Greater = then_greater (order x z.1) (nat_cmp n z.0) h less in
+      let less : nat_cmp n z.0 ≡ Ordering.Less =
+      (let t : ltb n z.0 ≡ true = grind (arith, nat_tests) in rw t refl) in
+      let greater : order x z.1 ≡ Ordering.Greater =
+      then_greater (order x z.1) (nat_cmp n z.0) h less in
       ap is_lt (total.antisymm z.1 x ∙ ap ordering_reverse greater)
 
   later_place : (z : ℕ × X) (n : ℕ) (xs : List X) → Among z (enumerate_from n xs) → n ≤ z.0
@@ -180,57 +249,88 @@ module _ {X : Type 0} (order : X → X → Ordering) (total : IsTotalOrder order
   later_place z n (x ∷ xs) (inl e) = let f : n ≡ z.0 = ap (λ (c : ℕ × X). c.0) e in omega arith
   later_place z n (x ∷ xs) (inr later) = omega (arith, later_place z (n + 1) xs later)
 
-  -- a statement that passes and that no other one that passes goes before, places considered, is the first
-  is_first : (p : X → Bool) (z : ℕ × X) (n : ℕ) (xs : List X) (acc : Option X) → Among z (enumerate_from n xs) → p z.1 ≡ true
-      → AllByRecursion (λ d. p d.1 ≡ true → ranked_before d z ≡ false) (enumerate_from n xs) → Yields z acc → fold (better before) acc (filter p xs) ≡ Some z.1
+  -- a statement that passes and that no other one that passes goes before, places considered,
+  -- is the first
+  is_first : (p : X → Bool) (z : ℕ × X) (n : ℕ) (xs : List X) (acc : Option X)
+      → Among z (enumerate_from n xs) → p z.1 ≡ true
+      → AllByRecursion (λ d. p d.1 ≡ true → ranked_before d z ≡ false) (enumerate_from n xs)
+      → Yields z acc → fold (better before) acc (filter p xs) ≡ Some z.1
   is_first p z n [] acc is passes least h = absurd is
   is_first p z n (x ∷ xs) acc (inl e) passes least h =
       let same : x ≡ z.1 = ap (λ (c : ℕ × X). c.1) e in
       let place : n ≡ z.0 = ap (λ (c : ℕ × X). c.0) e in
       let here : p x ≡ true = ap p same ∙ passes in
-      rw here (ap (λ o. fold (better before) o (filter p xs)) (ap (better before acc) same ∙ yields_here p z acc h) ∙ stays p z (n + 1) xs (omega arith) least.1)
+      rw here (ap (λ o. fold (better before) o (filter p xs)) (ap (better before acc) same
+      ∙ yields_here p z acc h) ∙ stays p z (n + 1) xs (omega arith) least.1)
   is_first p z n (x ∷ xs) acc (inr later) passes least h =
       let place : n + 1 ≤ z.0 = later_place z (n + 1) xs later in
-      elim (p x) as (λ b. p x ≡ b → fold (better before) acc (cond b (x ∷ filter p xs) (filter p xs)) ≡ Some z.1) [
-        | true ↦ λ e. is_first p z (n + 1) xs (better before acc x) later passes least.1 (yields_on z acc x h (goes_before z n x (omega arith) (least.0 e)))
+      elim (p x) as (λ b. p x ≡ b
+      → fold (better before) acc (cond b (x ∷ filter p xs) (filter p xs)) ≡ Some z.1) [
+        | true ↦ λ e. is_first p z (n + 1) xs (better before acc x) later passes least.1
+            (yields_on z acc x h (goes_before z n x (omega arith) (least.0 e)))
         | false ↦ λ e. is_first p z (n + 1) xs acc later passes least.1 h
       ] refl
 
-  nothing_passes : (p : X → Bool) (n : ℕ) (xs : List X) → AllByRecursion (λ d. p d.1 ≡ false) (enumerate_from n xs) → filter p xs ≡ []
+  nothing_passes : (p : X → Bool) (n : ℕ) (xs : List X)
+      → AllByRecursion (λ d. p d.1 ≡ false) (enumerate_from n xs) → filter p xs ≡ []
   nothing_passes p n [] h = refl
   nothing_passes p n (x ∷ xs) h = rw h.0 (nothing_passes p (n + 1) xs h.1)
 
   -- a statement with its place stands at that place
-  own_place : (zs : List X) (n : ℕ) (xs : List X) → ((k : ℕ) → slice_get zs (n + k) ≡ slice_get xs k) → AllByRecursion (λ c. slice_get zs c.0 ≡ Some c.1) (enumerate_from n xs)
+  own_place : (zs : List X) (n : ℕ) (xs : List X)
+      → ((k : ℕ) → slice_get zs (n + k) ≡ slice_get xs k)
+      → AllByRecursion (λ c. slice_get zs c.0 ≡ Some c.1) (enumerate_from n xs)
   own_place zs n [] h = tt
-  own_place zs n (x ∷ xs) h =
-      (let e : n + 0 ≡ n = omega arith in rw e at (h 0), own_place zs (n + 1) xs (λ k. let e : n + suc k ≡ n + 1 + k = omega arith in rw e at (h (suc k))))
+  own_place zs n (x ∷ xs) h = (
+    let e : n + 0 ≡ n = omega arith in rw e at (h 0),
+    own_place zs (n + 1) xs (λ k. let e : n + suc k ≡ n + 1 + k = omega arith in
+        rw e at (h (suc k))),
+  )
 
   -- what holds of all statements with their places, in either order
   module _ (xs : List X) (cs : List (ℕ × X)) (same : IsPermutation (enumerate_from 0 xs) cs) where
     there : (P : ℕ × X → Type 0) → AllByRecursion P (enumerate_from 0 xs) → AllByRecursion P cs
-    there P h = recursion_from_All P cs (All-permutation P (enumerate_from 0 xs) cs same (All-from_recursion P (enumerate_from 0 xs) h))
+    there P h =
+        recursion_from_All P cs (All-permutation P (enumerate_from 0 xs) cs same
+        (All-from_recursion P (enumerate_from 0 xs) h))
 
     pub back : (P : ℕ × X → Type 0) → AllByRecursion P cs → AllByRecursion P (enumerate_from 0 xs)
-    back P h = recursion_from_All P (enumerate_from 0 xs) (All-permutation P cs (enumerate_from 0 xs) (IsPermutation-sym (enumerate_from 0 xs) cs same) (All-from_recursion P cs h))
+    back P h =
+        recursion_from_All P (enumerate_from 0 xs) (All-permutation P cs (enumerate_from 0 xs)
+        (IsPermutation-sym (enumerate_from 0 xs) cs same) (All-from_recursion P cs h))
 
-    pub found_first : (a : ℕ) → Ranked a cs → option_and_then (slice_get xs) (option_map (λ (c : ℕ × X). c.0) (found range_of cs a)) ≡ first_at before range_of xs a
+    pub found_first : (a : ℕ) → Ranked a cs → option_and_then (slice_get xs)
+        (option_map (λ (c : ℕ × X). c.0) (found range_of cs a)) ≡ first_at before range_of xs a
     found_first a up =
-        elim (found range_of cs a) as (λ o. found range_of cs a ≡ o → option_and_then (slice_get xs) (option_map (λ (c : ℕ × X). c.0) o) ≡ first_at before range_of xs a) [
-          | None ↦ λ is. sym (ap (first_of before) (nothing_passes (λ x. holds (range_of x) a) 0 xs (back (λ c. holds (range_of c.1) a ≡ false) (none_found a cs is))))
+        elim (found range_of cs a) as (λ o. found range_of cs a ≡ o → option_and_then (slice_get xs)
+        (option_map (λ (c : ℕ × X). c.0) o) ≡ first_at before range_of xs a) [
+          | None ↦ λ is. sym (ap (first_of before) (nothing_passes (λ x. holds (range_of x) a) 0 xs
+              (back (λ c. holds (range_of c.1) a ≡ false) (none_found a cs is))))
           | Some z ↦ λ is. let h = is_found a cs z up is in
-              let member : Among z (enumerate_from 0 xs) = among_from_contains z (enumerate_from 0 xs) (Contains-permutation cs (enumerate_from 0 xs) z (IsPermutation-sym (enumerate_from 0 xs) cs same) (contains_from_among z cs h.among)) in
-              let at : slice_get xs z.0 ≡ Some z.1 = all_among (λ (c : ℕ × X). slice_get xs c.0 ≡ Some c.1) z (enumerate_from 0 xs) (own_place xs 0 xs (λ k. let e : 0 + k ≡ k = omega arith in rw e refl)) member in
-              at ∙ sym (is_first (λ x. holds (range_of x) a) z 0 xs None member h.held (back (λ d. holds (range_of d.1) a ≡ true → ranked_before d z ≡ false) h.least) tt)
+              let member : Among z (enumerate_from 0 xs) =
+              among_from_contains z (enumerate_from 0 xs) (Contains-permutation cs
+              (enumerate_from 0 xs) z (IsPermutation-sym (enumerate_from 0 xs) cs same)
+              (contains_from_among z cs h.among)) in
+              let at : slice_get xs z.0 ≡ Some z.1 =
+              all_among (λ (c : ℕ × X). slice_get xs c.0 ≡ Some c.1) z (enumerate_from 0 xs)
+              (own_place xs 0 xs (λ k. let e : 0 + k ≡ k = omega arith in rw e refl)) member in
+              at ∙ sym (is_first (λ x. holds (range_of x) a) z 0 xs None member h.held
+              (back (λ d. holds (range_of d.1) a ≡ true → ranked_before d z ≡ false) h.least) tt)
         ] refl
 
     -- what a sort of all statements with their places, and the boundaries of their ranges, tell
-    pub tells_first : (bs : List Boundary) → IsSortedBy ranked_before cs → AreBoundaries (map (λ (c : ℕ × X). range_of c.1) cs) bs → TellsFirst order range_of xs (map (with_place (map (λ (c : ℕ × X). c.0) cs)) bs)
+    pub tells_first : (bs : List Boundary)
+        → IsSortedBy ranked_before cs → AreBoundaries (map (λ (c : ℕ × X). range_of c.1) cs) bs
+        → TellsFirst order range_of xs (map (with_place (map (λ (c : ℕ × X). c.0) cs)) bs)
     tells_first bs sorted h a within =
-        ap (option_and_then (slice_get xs)) (told_places (map (λ (c : ℕ × X). c.0) cs) None bs a ∙ ap (option_and_then (slice_get (map (λ (c : ℕ × X). c.0) cs))) (h.tell a within) ∙ by_rank a cs)
-        ∙ found_first a (ranked a cs (in_order cs (sorted_far ranked_before (ranks_by placed_total (λ (x : ℕ × X). x)) cs sorted)))
+        ap (option_and_then (slice_get xs)) (told_places (map (λ (c : ℕ × X). c.0) cs) None bs a
+        ∙ ap (option_and_then (slice_get (map (λ (c : ℕ × X). c.0) cs))) (h.tell a within)
+        ∙ by_rank a cs)
+        ∙ found_first a (ranked a cs (in_order cs
+        (sorted_far ranked_before (ranks_by placed_total (λ (x : ℕ × X). x)) cs sorted)))
 
-    each_of : (P : X → Type 0) (n : ℕ) (ys : List X) → AllByRecursion (λ c. P c.1) (enumerate_from n ys) → AllByRecursion P ys
+    each_of : (P : X → Type 0) (n : ℕ) (ys : List X)
+        → AllByRecursion (λ c. P c.1) (enumerate_from n ys) → AllByRecursion P ys
     each_of P n [] h = tt
     each_of P n (y ∷ ys) h = (h.0, each_of P (n + 1) ys h.1)
 
@@ -240,16 +340,22 @@ module _ {X : Type 0} (order : X → X → Ordering) (total : IsTotalOrder order
 
 -- a sort of what is seen as statements with their places
 module _ {Y Z : Type 0} (seen : Y → Z) where
-  pub sorted_seen : (lt : Z → Z → Bool) (ys : List Y) → IsSortedBy (λ x y. lt (seen x) (seen y)) ys → IsSortedBy lt (map seen ys)
+  pub sorted_seen : (lt : Z → Z → Bool) (ys : List Y) → IsSortedBy (λ x y. lt (seen x) (seen y)) ys
+      → IsSortedBy lt (map seen ys)
   sorted_seen lt [] h k d low below = absurd (omega arith)
   sorted_seen lt (x ∷ []) h k d low below = absurd (omega arith)
   sorted_seen lt (x ∷ y ∷ ys) h zero d low below = h 0 x (omega arith) (omega arith)
-  sorted_seen lt (x ∷ y ∷ ys) h (suc k) d low below = let n : suc k + 1 ≡ suc (k + 1) = omega arith in rw n (sorted_seen lt (y ∷ ys) (λ j e le within. let f : suc j + 1 ≡ suc (j + 1) = omega arith in rw f at (h (suc j) e (omega arith) (omega arith))) k d (omega arith) (omega arith))
+  sorted_seen lt (x ∷ y ∷ ys) h (suc k) d low below =
+      let n : suc k + 1 ≡ suc (k + 1) = omega arith in rw n
+      (sorted_seen lt (y ∷ ys) (λ j e le within. let f : suc j + 1 ≡ suc (j + 1) = omega arith in
+      rw f at (h (suc j) e (omega arith) (omega arith))) k d (omega arith) (omega arith))
 
-  pub each_seen : (P : Z → Type 0) (ys : List Y) → AllByRecursion (λ y. P (seen y)) ys → AllByRecursion P (map seen ys)
+  pub each_seen : (P : Z → Type 0) (ys : List Y) → AllByRecursion (λ y. P (seen y)) ys
+      → AllByRecursion P (map seen ys)
   each_seen P [] h = tt
   each_seen P (y ∷ ys) h = (h.0, each_seen P ys h.1)
 
-pub map_map : {X Y Z : Type 0} (f : X → Y) (g : Y → Z) (xs : List X) → map g (map f xs) ≡ map (λ x. g (f x)) xs
+pub map_map : {X Y Z : Type 0} (f : X → Y) (g : Y → Z) (xs : List X)
+    → map g (map f xs) ≡ map (λ x. g (f x)) xs
 map_map f g [] = refl
 map_map f g (x ∷ xs) = ap (λ zs. g (f x) ∷ zs) (map_map f g xs)

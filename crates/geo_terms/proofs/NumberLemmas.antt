@@ -1,27 +1,35 @@
 -- The number of a place that was just put into the list.
-use Rattle.std.proofs.Common.{◌≡◌, ℕ, suc, ◌+◌, ◌<◌, Bool, true, false, cond, not, ◌&&◌, ◌||◌, ltb, eqb, get_or, length-append, List, [], ◌∷◌, ◌++◌, length, position, Some, None, option_map, refl, sym, ap, ◌∙◌, arith}
+use Rattle.std.proofs.Common.{◌≡◌, ℕ, suc, ◌+◌, ◌<◌, Bool, true, false, cond, not, ◌&&◌, ◌||◌, ltb}
+use Rattle.std.proofs.Common.{eqb, get_or, length-append, List, [], ◌∷◌, ◌++◌, length, position}
+use Rattle.std.proofs.Common.{Some, None, option_map, refl, sym, ap, ◌∙◌, arith}
 use Rattle.std.specs.Cmp.Lexicographic.{bytes_decides}
 use Rattle.std.specs.List.{list_any, position_or_len}
 use Rattle.std.proofs.lemmas.List.Folds.{position_or_len_push}
 use Rattle.std.proofs.lemmas.List.Sums.{passes_at_first}
 use Rattle.std.proofs.lemmas.Option.{slice_get-get_or}
-use Rattle.geo_terms.specs.Numbers.{NumbersNamePlaces, NumbersStay, PlacesAreToldApart, number_of, place_at, same_place}
+use Rattle.geo_terms.specs.Numbers.{NumbersNamePlaces, NumbersStay, PlacesAreToldApart, number_of}
+use Rattle.geo_terms.specs.Numbers.{place_at, same_place}
 use Rattle.geo_terms.specs.PlaceForm.{PlaceParts, same_text}
 use Rattle.std.proofs.lemmas.Bool.Decides.{Decides-ltb, nat_tests}
 
 -- the place of a member behind one that does not pass
-position_later : {X : Type 0} (q : X → Bool) (k : X) (xs : List X) (n : ℕ) → q k ≡ false → position q xs ≡ Some n → position q (k ∷ xs) ≡ Some (1 + n)
+position_later : {X : Type 0} (q : X → Bool) (k : X) (xs : List X) (n : ℕ) → q k ≡ false
+    → position q xs ≡ Some n → position q (k ∷ xs) ≡ Some (1 + n)
 position_later q k xs n fails at = rw fails (grind (arith, nat_tests))
 
-pub position_after_insert : {X : Type 0} (q : X → Bool) (xs : List X) (y : X) → q y ≡ true → position q (cond (list_any q xs) xs (xs ++ y ∷ [])) ≡ Some (position_or_len q xs)
+pub position_after_insert : {X : Type 0} (q : X → Bool) (xs : List X) (y : X) → q y ≡ true
+    → position q (cond (list_any q xs) xs (xs ++ y ∷ [])) ≡ Some (position_or_len q xs)
 position_after_insert q [] y is = rw is refl
 position_after_insert q (x ∷ xs) y is =
-    elim (q x) as (λ b. q x ≡ b → position q (cond (b || list_any q xs) (x ∷ xs) (x ∷ (xs ++ y ∷ []))) ≡ Some (cond (not b) (1 + position_or_len q xs) 0)) [
+    elim (q x) as (λ b. q x ≡ b → position q (cond (b || list_any q xs) (x ∷ xs)
+    (x ∷ (xs ++ y ∷ []))) ≡ Some (cond (not b) (1 + position_or_len q xs) 0)) [
       | true ↦ λ e. rw e (grind (arith, nat_tests))
-      | false ↦ λ e. elim (list_any q xs) as (λ b. position q (cond b xs (xs ++ y ∷ [])) ≡ Some (position_or_len q xs) → position q (cond b (x ∷ xs) (x ∷ (xs ++ y ∷ []))) ≡ Some (1 + position_or_len q xs)) [
-        | true ↦ position_later q x xs (position_or_len q xs) e
-        | false ↦ position_later q x (xs ++ y ∷ []) (position_or_len q xs) e
-      ] (position_after_insert q xs y is)
+      | false ↦ λ e. elim (list_any q xs)
+          as (λ b. position q (cond b xs (xs ++ y ∷ [])) ≡ Some (position_or_len q xs)
+          → position q (cond b (x ∷ xs) (x ∷ (xs ++ y ∷ []))) ≡ Some (1 + position_or_len q xs)) [
+            | true ↦ position_later q x xs (position_or_len q xs) e
+            | false ↦ position_later q x (xs ++ y ∷ []) (position_or_len q xs) e
+          ] (position_after_insert q xs y is)
     ] refl
 
 -- two texts are the same where the test says so
@@ -34,8 +42,10 @@ and_parts false y h = absurd (let e : false ≡ true = h in cc)
 
 same_parts : (x y : PlaceParts) → same_place x y ≡ true → x ≡ y
 same_parts x y h =
-    let three = and_parts (same_text x.country y.country && same_text x.region y.region && same_text x.city y.city) (same_text x.postal y.postal) h in
-    let two = and_parts (same_text x.country y.country && same_text x.region y.region) (same_text x.city y.city) three.0 in
+    let three = and_parts (same_text x.country y.country && same_text x.region y.region
+    && same_text x.city y.city) (same_text x.postal y.postal) h in
+    let two = and_parts (same_text x.country y.country && same_text x.region y.region)
+    (same_text x.city y.city) three.0 in
     let one = and_parts (same_text x.country y.country) (same_text x.region y.region) two.0 in
     let country = (text_told x.country y.country).0 one.0 in
     let region = (text_told x.region y.region).0 one.1 in
@@ -56,36 +66,48 @@ pub places_are_told_apart : PlacesAreToldApart
 places_are_told_apart x y = (same_parts x y, place_is_itself x y)
 
 pub numbers_name_places : NumbersNamePlaces
-numbers_name_places places p n = by_test (ltb (position_or_len (same_place p) places) (length places)) refl
+numbers_name_places places p n =
+    by_test (ltb (position_or_len (same_place p) places) (length places)) refl
   where
     by_test : (b : Bool) → ltb (position_or_len (same_place p) places) (length places) ≡ b
-        → option_map (λ i. i + 1) (cond b (Some (position_or_len (same_place p) places)) None) ≡ Some n → place_at places n ≡ Some p
+        → option_map (λ i. i + 1) (cond b (Some (position_or_len (same_place p) places)) None)
+        ≡ Some n → place_at places n ≡ Some p
     by_test false is e = absurd (let f : None ≡ Some n = e in cc)
     by_test true is e =
         let i = position_or_len (same_place p) places in
         let below : i < length places = (Decides-ltb i (length places)).0 is in
-        let at : n ≡ suc i = (let f : Some (i + 1) ≡ Some n = e in let g : i + 1 ≡ n = cc in omega arith) in
-        let found : p ≡ get_or places i p = same_parts p (get_or places i p) (passes_at_first (same_place p) places p below) in
+        let at : n ≡ suc i =
+        (let f : Some (i + 1) ≡ Some n = e in let g : i + 1 ≡ n = cc in omega arith) in
+        let found : p ≡ get_or places i p =
+        same_parts p (get_or places i p) (passes_at_first (same_place p) places p below) in
         rw (at, slice_get-get_or places i p below) (ap (λ q. Some q) (sym found))
 
 -- a member at the end changes no place of one that was found before it
-position_stays : {X : Type 0} (q : X → Bool) (xs : List X) (y : X) (n : ℕ) → option_map (λ i. i + 1) (position q xs) ≡ Some n → option_map (λ i. i + 1) (position q (xs ++ y ∷ [])) ≡ Some n
+position_stays : {X : Type 0} (q : X → Bool) (xs : List X) (y : X) (n : ℕ)
+    → option_map (λ i. i + 1) (position q xs) ≡ Some n
+    → option_map (λ i. i + 1) (position q (xs ++ y ∷ [])) ≡ Some n
 position_stays {X} q xs y n = by_test (ltb (position_or_len q xs) (length xs)) refl
   where
-    by_test : (b : Bool) → ltb (position_or_len q xs) (length xs) ≡ b → option_map (λ i. i + 1) (cond b (Some (position_or_len q xs)) None) ≡ Some n
+    by_test : (b : Bool) → ltb (position_or_len q xs) (length xs) ≡ b
+        → option_map (λ i. i + 1) (cond b (Some (position_or_len q xs)) None) ≡ Some n
         → option_map (λ i. i + 1) (position q (xs ++ y ∷ [])) ≡ Some n
     by_test false is e = absurd (let f : None ≡ Some n = e in cc)
     by_test true is e =
-        let below : position_or_len q xs < length xs = (Decides-ltb (position_or_len q xs) (length xs)).0 is in
+        let below : position_or_len q xs < length xs =
+        (Decides-ltb (position_or_len q xs) (length xs)).0 is in
         let apart : eqb (position_or_len q xs) (length xs) ≡ false = grind (arith, nat_tests) in
         let same : position_or_len q (xs ++ y ∷ []) ≡ position_or_len q xs =
-        position_or_len_push q xs y ∙ ap (λ b. cond b (length xs + cond (q y) 0 1) (position_or_len q xs)) apart in
+        position_or_len_push q xs y
+        ∙ ap (λ b. cond b (length xs + cond (q y) 0 1) (position_or_len q xs)) apart in
         let within : ltb (position_or_len q (xs ++ y ∷ [])) (length (xs ++ y ∷ [])) ≡ true =
-        (Decides-ltb (position_or_len q (xs ++ y ∷ [])) (length (xs ++ y ∷ []))).1 (omega (arith, length-append xs (y ∷ []))) in
-        ap (λ b. option_map (λ i. i + 1) (cond b (Some (position_or_len q (xs ++ y ∷ []))) None)) within
+        (Decides-ltb (position_or_len q (xs ++ y ∷ [])) (length (xs ++ y ∷ []))).1
+        (omega (arith, length-append xs (y ∷ []))) in
+        ap (λ b. option_map (λ i. i + 1) (cond b (Some (position_or_len q (xs ++ y ∷ []))) None))
+        within
         ∙ ap (λ i. Some (i + 1)) same ∙ e
 
 pub numbers_stay : NumbersStay
 numbers_stay places p more n h =
-    elim (list_any (same_place more) places) as (λ b. number_of (cond b places (places ++ more ∷ [])) p ≡ Some n)
+    elim (list_any (same_place more) places)
+    as (λ b. number_of (cond b places (places ++ more ∷ [])) p ≡ Some n)
     [ true ↦ h | false ↦ position_stays (same_place p) places more n h ]

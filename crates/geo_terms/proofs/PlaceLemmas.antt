@@ -1,6 +1,8 @@
 -- Texts of a place in upper case are in form where they were in form before.
-use Rattle.std.proofs.Common.{◌≡◌, ℕ, ◌<◌, ◌≤◌, Bool, true, false, cond, not, Ok, ◌&&◌, ◌||◌, List, [], ◌∷◌, length, get_or, IsTrue, refl, sym, ap, ◌∙◌, subst, arith}
-use Rattle.std.specs.Char.{is_ascii_alphabetic, is_ascii_alphanumeric, is_ascii_lowercase, to_ascii_uppercase}
+use Rattle.std.proofs.Common.{◌≡◌, ℕ, ◌<◌, ◌≤◌, Bool, true, false, cond, not, Ok, ◌&&◌, ◌||◌, List}
+use Rattle.std.proofs.Common.{[], ◌∷◌, length, get_or, IsTrue, refl, sym, ap, ◌∙◌, subst, arith}
+use Rattle.std.specs.Char.{is_ascii_alphabetic, is_ascii_alphanumeric, is_ascii_lowercase}
+use Rattle.std.specs.Char.{to_ascii_uppercase}
 use Rattle.std.specs.List.{list_all, list_any}
 use Rattle.std.specs.Prelude.{nat_eq}
 use Rattle.std.proofs.lemmas.Bool.Decides.{nat_tests}
@@ -8,12 +10,16 @@ use Rattle.std.proofs.lemmas.List.{length-map}
 use Rattle.std.proofs.lemmas.Str.Ascii.{uppercase-uppercase}
 use Rattle.geo_terms.specs.SaidOf.{said_by, said_of}
 use Rattle.geo_terms.specs.declared.place.Said.TheVariants.{At}
-use Rattle.geo_terms.specs.PlaceForm.{IsPlace, PlaceParts, is_empty, is_country, is_region, is_subdivision, upper, country_of_region, country_place, nowhere, same_text, country_fits, region_fits, lengths_fit, parts_of, says_nothing}
+use Rattle.geo_terms.specs.PlaceForm.{IsPlace, PlaceParts, is_empty, is_country, is_region}
+use Rattle.geo_terms.specs.PlaceForm.{is_subdivision, upper, country_of_region, country_place}
+use Rattle.geo_terms.specs.PlaceForm.{nowhere, same_text, country_fits, region_fits, lengths_fit}
+use Rattle.geo_terms.specs.PlaceForm.{parts_of, says_nothing}
 
 alphabetic-upper : (b : ℕ) → is_ascii_alphabetic (to_ascii_uppercase b) ≡ is_ascii_alphabetic b
 alphabetic-upper b = grind (arith, nat_tests)
 
-alphanumeric-upper : (b : ℕ) → is_ascii_alphanumeric (to_ascii_uppercase b) ≡ is_ascii_alphanumeric b
+alphanumeric-upper : (b : ℕ)
+    → is_ascii_alphanumeric (to_ascii_uppercase b) ≡ is_ascii_alphanumeric b
 alphanumeric-upper b = grind (arith, nat_tests)
 
 dash-upper : (b : ℕ) → nat_eq (to_ascii_uppercase b) 45 ≡ nat_eq b 45
@@ -27,12 +33,14 @@ is_empty-upper : (bs : List ℕ) → is_empty (upper bs) ≡ is_empty bs
 is_empty-upper [] = refl
 is_empty-upper (b ∷ bs) = refl
 
-all_alphanumeric-upper : (bs : List ℕ) → list_all is_ascii_alphanumeric (upper bs) ≡ list_all is_ascii_alphanumeric bs
+all_alphanumeric-upper : (bs : List ℕ)
+    → list_all is_ascii_alphanumeric (upper bs) ≡ list_all is_ascii_alphanumeric bs
 all_alphanumeric-upper [] = refl
 all_alphanumeric-upper (b ∷ bs) = rw (alphanumeric-upper b, all_alphanumeric-upper bs) refl
 
 is_subdivision-upper : (bs : List ℕ) → is_subdivision (upper bs) ≡ is_subdivision bs
-is_subdivision-upper bs = rw (is_empty-upper bs, length-map bs to_ascii_uppercase, all_alphanumeric-upper bs) refl
+is_subdivision-upper bs =
+    rw (is_empty-upper bs, length-map bs to_ascii_uppercase, all_alphanumeric-upper bs) refl
 
 is_country-upper : (bs : List ℕ) → is_country (upper bs) ≡ is_country bs
 is_country-upper [] = refl
@@ -44,7 +52,8 @@ is_region-upper : (bs : List ℕ) → is_region (upper bs) ≡ is_region bs
 is_region-upper [] = refl
 is_region-upper (a ∷ []) = refl
 is_region-upper (a ∷ b ∷ []) = refl
-is_region-upper (a ∷ b ∷ c ∷ bs) = rw (alphabetic-upper a, alphabetic-upper b, dash-upper c, is_subdivision-upper bs) refl
+is_region-upper (a ∷ b ∷ c ∷ bs) =
+    rw (alphabetic-upper a, alphabetic-upper b, dash-upper c, is_subdivision-upper bs) refl
 
 country_fits-upper : (bs : List ℕ) → country_fits (upper bs) ≡ country_fits bs
 unfolding country_fits
@@ -59,12 +68,14 @@ and_left true y h = refl
 and_left false y h = h
 
 -- a region that is in form begins with two letters
-region_letters : (a b c : ℕ) (bs : List ℕ) → IsTrue (region_fits (a ∷ b ∷ c ∷ bs)) → (is_ascii_alphabetic a && is_ascii_alphabetic b) ≡ true
+region_letters : (a b c : ℕ) (bs : List ℕ) → IsTrue (region_fits (a ∷ b ∷ c ∷ bs))
+    → (is_ascii_alphabetic a && is_ascii_alphabetic b) ≡ true
 unfolding region_fits
 region_letters a b c bs h = and_left _ (nat_eq c 45) (and_left _ (is_subdivision bs) h)
 
 -- so its first two bytes are a country
-region_has_country : (region : List ℕ) → IsTrue (region_fits region) → IsTrue (country_fits (country_of_region region))
+region_has_country : (region : List ℕ)
+    → IsTrue (region_fits region) → IsTrue (country_fits (country_of_region region))
 unfolding region_fits country_fits
 region_has_country [] h = refl
 region_has_country (a ∷ []) h = refl
@@ -151,11 +162,14 @@ upper_without_lowercase (b ∷ bs) h =
     let others = or_right (is_ascii_lowercase b) _ h in
     rw (upper-not_lowercase b first, upper_without_lowercase bs others) refl
 
-chosen_country : (country region : List ℕ) → IsTrue (country_fits country) → IsTrue (region_fits region) → IsTrue (country_fits (cond (is_empty country) (country_of_region region) country))
+chosen_country : (country region : List ℕ)
+    → IsTrue (country_fits country) → IsTrue (region_fits region)
+    → IsTrue (country_fits (cond (is_empty country) (country_of_region region) country))
 chosen_country [] region c r = region_has_country region r
 chosen_country (a ∷ bs) region c r = c
 
-chosen_owns : (country region : List ℕ) → IsTrue (region_fits region) → upper (cond (is_empty country) (country_of_region region) country) ≡ [] → upper region ≡ []
+chosen_owns : (country region : List ℕ) → IsTrue (region_fits region)
+    → upper (cond (is_empty country) (country_of_region region) country) ≡ [] → upper region ≡ []
 unfolding region_fits
 chosen_owns (a ∷ bs) region r e = absurd cc
 chosen_owns [] [] r e = refl
@@ -163,10 +177,14 @@ chosen_owns [] (a ∷ []) r e = absurd (let e : false ≡ true = r in cc)
 chosen_owns [] (a ∷ b ∷ bs) r e = absurd cc
 
 -- fields that are in form and say something make a place
-pub place_in_form : (country region city postal : List ℕ) → IsTrue (country_fits country) → IsTrue (region_fits region) → IsTrue (lengths_fit city postal)
-    → says_nothing (parts_of country region city postal) ≡ false → IsPlace (parts_of country region city postal)
+pub place_in_form : (country region city postal : List ℕ)
+    → IsTrue (country_fits country) → IsTrue (region_fits region) → IsTrue (lengths_fit city postal)
+    → says_nothing (parts_of country region city postal) ≡ false
+    → IsPlace (parts_of country region city postal)
 place_in_form country region city postal c r l says = record {
-  country = country_fits-upper (cond (is_empty country) (country_of_region region) country) ∙ chosen_country country region c r;
+  country =
+      country_fits-upper (cond (is_empty country) (country_of_region region) country)
+      ∙ chosen_country country region c r;
   region = region_fits-upper region ∙ r;
   lengths = l;
   upper_country = upper-upper (cond (is_empty country) (country_of_region region) country);
@@ -176,17 +194,26 @@ place_in_form country region city postal c r l says = record {
 }
 
 -- two letters that are not `ZZ` make a place alone
-letters_in_form : (a b : ℕ) → is_ascii_alphabetic a ≡ true → is_ascii_alphabetic b ≡ true → same_text (upper (a ∷ b ∷ [])) nowhere ≡ false → IsPlace (country_place (a ∷ b ∷ []))
+letters_in_form : (a b : ℕ) → is_ascii_alphabetic a ≡ true → is_ascii_alphabetic b ≡ true
+    → same_text (upper (a ∷ b ∷ [])) nowhere ≡ false → IsPlace (country_place (a ∷ b ∷ []))
 unfolding country_fits region_fits lengths_fit
 letters_in_form a b first second somewhere =
     place_in_form (a ∷ b ∷ []) [] [] [] (rw (first, second) refl) refl refl (rw somewhere refl)
 
-pub country_in_form : (a b : ℕ) (country region city postal : List ℕ) → country ≡ upper (a ∷ b ∷ []) → region ≡ [] → city ≡ [] → postal ≡ []
-    → is_ascii_alphabetic a ≡ true → is_ascii_alphabetic b ≡ true → same_text country nowhere ≡ false
+pub country_in_form : (a b : ℕ) (country region city postal : List ℕ)
+    → country ≡ upper (a ∷ b ∷ []) → region ≡ [] → city ≡ [] → postal ≡ []
+    → is_ascii_alphabetic a ≡ true → is_ascii_alphabetic b ≡ true
+    → same_text country nowhere ≡ false
     → IsPlace (record { country = country; region = region; city = city; postal = postal })
 country_in_form a b country region city postal c r ci po first second somewhere =
-    let made = letters_in_form a b first second (ap (λ t. same_text t nowhere) (sym c) ∙ somewhere) in
-    let same : record { country = country; region = region; city = city; postal = postal } ≡ country_place (a ∷ b ∷ []) =
+    let made =
+    letters_in_form a b first second (ap (λ t. same_text t nowhere) (sym c) ∙ somewhere) in
+    let same : record {
+      country = country;
+      region = region;
+      city = city;
+      postal = postal;
+    } ≡ country_place (a ∷ b ∷ []) =
     λ i. record { country = c i; region = r i; city = ci i; postal = po i } in
     subst IsPlace (sym same) made
 
@@ -194,7 +221,8 @@ not_told : (b : Bool) → not b ≡ true → b ≡ false
 not_told false h = refl
 not_told true h = absurd (let e : false ≡ true = h in cc)
 
-own_country : (country region : List ℕ) → (country ≡ [] → region ≡ []) → cond (is_empty country) (country_of_region region) country ≡ country
+own_country : (country region : List ℕ) → (country ≡ [] → region ≡ [])
+    → cond (is_empty country) (country_of_region region) country ≡ country
 own_country [] region owned = ap country_of_region (owned refl)
 own_country (a ∷ bs) region owned = refl
 
@@ -202,10 +230,16 @@ own_country (a ∷ bs) region owned = refl
 parts_of_own : (p : PlaceParts) → IsPlace p → parts_of p.country p.region p.city p.postal ≡ p
 parts_of_own p form =
     let country = ap upper (own_country p.country p.region form.owned) ∙ form.upper_country in
-    λ i. record { country = country i; region = form.upper_region i; city = p.city; postal = p.postal }
+    λ i. record {
+      country = country i;
+      region = form.upper_region i;
+      city = p.city;
+      postal = p.postal;
+    }
 
 -- and as fields they say it
-pub place_says_itself : (p : PlaceParts) → IsPlace p → said_of p.country p.region p.city p.postal ≡ Ok (At p)
+pub place_says_itself : (p : PlaceParts) → IsPlace p
+    → said_of p.country p.region p.city p.postal ≡ Ok (At p)
 unfolding said_of
 place_says_itself p form =
     let says : said_by p ≡ At p = rw (not_told (says_nothing p) form.says) refl in

@@ -21,4 +21,5 @@ home a = if is_six_to_four a then a / 2 ^ 80 % 2 ^ 32 else (if is_mapped a then 
 -- the ground of a range lies within one alias block, so the range speaks nowhere
 unfoldable pub lies_in_alias : Ends → Bool
 lies_in_alias r =
-    (is_six_to_four (ground_first r) && is_six_to_four r.last) || (is_mapped (ground_first r) && is_mapped r.last)
+    (is_six_to_four (ground_first r) && is_six_to_four r.last)
+    || (is_mapped (ground_first r) && is_mapped r.last)

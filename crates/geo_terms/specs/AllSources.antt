@@ -5,4 +5,9 @@ use Rattle.geo_terms.specs.declared.plain.AllSources.{AllSources}
 
 -- what is borrowed, as sources in force
 abbrev pub in_force : AllSources → InForce
-in_force s = record { dumps = s.dumps.now; feeds = s.feeds.now; stats = s.stats.now; overrides = option_copied s.overrides }
+in_force s = record {
+  dumps = s.dumps.now;
+  feeds = s.feeds.now;
+  stats = s.stats.now;
+  overrides = option_copied s.overrides;
+}

@@ -1,5 +1,6 @@
 -- Boundaries: the places at which the first range of a list that holds an address may change.
-use Rattle.std.specs.Prelude.{◌≡◌, ℕ, ◌^◌, ◌<◌, nat_le, if◌then◌else◌, List, [], ◌∷◌, Option, None, position}
+use Rattle.std.specs.Prelude.{◌≡◌, ℕ, ◌^◌, ◌<◌, nat_le, if◌then◌else◌, List, [], ◌∷◌, Option, None}
+use Rattle.std.specs.Prelude.{position}
 use Rattle.std.specs.List.Sorted.{IsNonDecreasingBy}
 use Rattle.geo_addr.specs.Ranges.{Ends, holds}
 use Rattle.geo_terms.specs.declared.boundaries.Boundary.{Boundary}

@@ -1,4 +1,5 @@
--- The reference that covers a block: the first in the order of references among those of a URL that cover it.
+-- The reference that covers a block: the first in the order of references
+-- among those of a URL that cover it.
 use Rattle.std.specs.Prelude.{ℕ, ◌&&◌, List, Option, filter}
 use Rattle.geo_addr.specs.Ranges.{Prefix}
 use Rattle.geo_terms.specs.First.{first_of}

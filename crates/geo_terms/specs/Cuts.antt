@@ -10,6 +10,8 @@ statement_ranges s =
     map (λ r. r.range) (references s) ++ (map (λ e. range_of_block e.block) (entries s)
     ++ (map (λ d. d.range) (delegations s) ++ map (λ o. o.range) (override_rows s)))
 
--- two addresses with no cut point of the sources above the lower and at or below the higher one are told the same
+-- two addresses with no cut point of the sources above the lower and at or below
+-- the higher one are told the same
 abbrev pub ConstantBetweenCuts : Type 0
-ConstantBetweenCuts = (s : InForce) (a b : ℕ) → a ≤ b → NoCut (statement_ranges s) a b → spoken_at s a ≡ spoken_at s b
+ConstantBetweenCuts =
+    (s : InForce) (a b : ℕ) → a ≤ b → NoCut (statement_ranges s) a b → spoken_at s a ≡ spoken_at s b

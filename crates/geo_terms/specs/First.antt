@@ -1,5 +1,6 @@
 -- The first in an order, among all members of a list and among those that hold an address.
-use Rattle.std.specs.Prelude.{◌≡◌, ℕ, Bool, false, if◌then◌else◌, Option, Some, None, List, [], filter, fold, MatchOption, Contains, All}
+use Rattle.std.specs.Prelude.{◌≡◌, ℕ, Bool, false, if◌then◌else◌, Option, Some, None, List, []}
+use Rattle.std.specs.Prelude.{filter, fold, MatchOption, Contains, All}
 use Rattle.geo_addr.specs.Ranges.{Ends, holds}
 
 module _ {X : Type 0} (before : X → X → Bool) where

@@ -1,4 +1,5 @@
--- An index of statements: at each address it tells the place, in their list, of the first one in their order that holds it.
+-- An index of statements: at each address it tells the place, in their list,
+-- of the first one in their order that holds it.
 use Rattle.std.specs.Prelude.{◌≡◌, ℕ, ◌^◌, ◌<◌, List, None, option_and_then, slice_get}
 use Rattle.std.specs.declared.cmp.Ordering.{Ordering}
 use Rattle.std.specs.Ordering.{is_lt, nat_cmp, ordering_then}
@@ -8,9 +9,11 @@ use Rattle.geo_terms.specs.First.{first_at}
 use Rattle.geo_terms.specs.declared.boundaries.Boundary.{Boundary}
 
 -- the first statement that holds an address is the one at the place that is told
-abbrev pub TellsFirst : {X : Type 0} → (X → X → Ordering) → (X → Ends) → List X → List Boundary → Type 0
+abbrev pub TellsFirst : {X : Type 0} → (X → X → Ordering) → (X → Ends) → List X
+    → List Boundary → Type 0
 TellsFirst order range_of xs bs =
-    (a : ℕ) → a < 2 ^ 128 → option_and_then (slice_get xs) (told None bs a) ≡ first_at (λ x y. is_lt (order x y)) range_of xs a
+    (a : ℕ) → a < 2 ^ 128 → option_and_then (slice_get xs) (told None bs a)
+    ≡ first_at (λ x y. is_lt (order x y)) range_of xs a
 
 -- the order of statements with their places: those that tie go by their places
 abbrev pub placed_cmp : {X : Type 0} → (X → X → Ordering) → ℕ × X → ℕ × X → Ordering

@@ -7,7 +7,11 @@ use Rattle.geo_terms.specs.declared.note.Note.{Note}
 use Rattle.geo_terms.specs.declared.note.Origin.{Origin}
 use Rattle.geo_terms.specs.declared.note.Origin.TheVariants.{Rpsl, Feed, Stats, Overrides}
 use Rattle.geo_terms.specs.declared.note.Rule.{Rule}
-use Rattle.geo_terms.specs.declared.note.Rule.TheVariants.{P01, P02, P03, P04, P05, P06, P07, P08, P09, P10, F01, F02, F03, F04, F05, F06, F07, F08, F09, F10, F11, S01, S02, S03, S04, S05, S06, S07, O01, O02, O03, O04, O05, O06, O07, O08, A01}
+use Rattle.geo_terms.specs.declared.note.Rule.TheVariants.{P01, P02, P03, P04, P05, P06, P07, P08}
+use Rattle.geo_terms.specs.declared.note.Rule.TheVariants.{P09, P10, F01, F02, F03, F04, F05, F06}
+use Rattle.geo_terms.specs.declared.note.Rule.TheVariants.{F07, F08, F09, F10, F11, S01, S02, S03}
+use Rattle.geo_terms.specs.declared.note.Rule.TheVariants.{S04, S05, S06, S07, O01, O02, O03, O04}
+use Rattle.geo_terms.specs.declared.note.Rule.TheVariants.{O05, O06, O07, O08, A01}
 
 -- the code of a rule, as it is printed
 unfoldable pub code_of : Rule → List ℕ
@@ -66,7 +70,8 @@ name_of Overrides = codes "-"
 -- the line of a note in a report: kind, name, line and code
 unfoldable pub note_line : Note → List ℕ
 note_line n =
-    kind_of n.origin ++ (32 ∷ (name_of n.origin ++ (32 ∷ (decimal n.line ++ (32 ∷ (code_of n.rule ++ (10 ∷ [])))))))
+    kind_of n.origin
+    ++ (32 ∷ (name_of n.origin ++ (32 ∷ (decimal n.line ++ (32 ∷ (code_of n.rule ++ (10 ∷ [])))))))
 
 -- the place of a kind in a report: dumps, feeds, statistics, overrides
 abbrev pub kind_rank : Origin → ℕ

@@ -1,10 +1,13 @@
 -- The numbers of places: the first place has number 1, and each new one the next.
-use Rattle.std.specs.Prelude.{◌≡◌, ◌↔◌, IsTrue, Some, ℕ, zero, suc, ◌+◌, Bool, ◌&&◌, List, [], ◌∷◌, ◌++◌, slice_get, position, Option, None, option_map, if◌then◌else◌}
+use Rattle.std.specs.Prelude.{◌≡◌, ◌↔◌, IsTrue, Some, ℕ, zero, suc, ◌+◌, Bool, ◌&&◌, List, [], ◌∷◌}
+use Rattle.std.specs.Prelude.{◌++◌, slice_get, position, Option, None, option_map, if◌then◌else◌}
 use Rattle.std.specs.List.{list_any}
 use Rattle.geo_terms.specs.PlaceForm.{PlaceParts, same_text}
 
 abbrev pub same_place : PlaceParts → PlaceParts → Bool
-same_place x y = same_text x.country y.country && same_text x.region y.region && same_text x.city y.city && same_text x.postal y.postal
+same_place x y =
+    same_text x.country y.country && same_text x.region y.region && same_text x.city y.city
+    && same_text x.postal y.postal
 
 -- the number of a place in a list of places
 abbrev pub number_of : List PlaceParts → PlaceParts → Option ℕ
@@ -25,8 +28,12 @@ PlacesAreToldApart = (x y : PlaceParts) → IsTrue (same_place x y) ↔ (x ≡ y
 
 -- the number of a place leads back to it, so two places have two numbers
 abbrev pub NumbersNamePlaces : Type 0
-NumbersNamePlaces = (places : List PlaceParts) (p : PlaceParts) (n : ℕ) → number_of places p ≡ Some n → place_at places n ≡ Some p
+NumbersNamePlaces =
+    (places : List PlaceParts) (p : PlaceParts) (n : ℕ) → number_of places p ≡ Some n
+    → place_at places n ≡ Some p
 
 -- one more place changes no number
 abbrev pub NumbersStay : Type 0
-NumbersStay = (places : List PlaceParts) (p more : PlaceParts) (n : ℕ) → number_of places p ≡ Some n → number_of (with_place places more) p ≡ Some n
+NumbersStay =
+    (places : List PlaceParts) (p more : PlaceParts) (n : ℕ) → number_of places p ≡ Some n
+    → number_of (with_place places more) p ≡ Some n

@@ -1,5 +1,7 @@
--- What a place is: a country (ISO 3166-1), a region (ISO 3166-2), a city and a postal code, as in RFC 8805 section 2.1.1.
-use Rattle.std.specs.Prelude.{◌≡◌, ℕ, Bool, true, false, not, ◌&&◌, ◌||◌, nat_le, nat_eq, List, [], ◌∷◌, map, length, codes, if◌then◌else◌, IsTrue, Option, Some, None}
+-- What a place is: a country (ISO 3166-1), a region (ISO 3166-2), a city and a postal code,
+-- as in RFC 8805 section 2.1.1.
+use Rattle.std.specs.Prelude.{◌≡◌, ℕ, Bool, true, false, not, ◌&&◌, ◌||◌, nat_le, nat_eq, List, []}
+use Rattle.std.specs.Prelude.{◌∷◌, map, length, codes, if◌then◌else◌, IsTrue, Option, Some, None}
 use Rattle.std.specs.List.{list_all}
 use Rattle.std.specs.Char.{is_ascii_alphabetic, is_ascii_alphanumeric, to_ascii_uppercase}
 use Rattle.std.specs.Cmp.Lexicographic.{pointwise}
@@ -29,11 +31,13 @@ is_country _ = false
 
 -- one to three ASCII letters or digits
 abbrev pub is_subdivision : List ℕ → Bool
-is_subdivision text = not (is_empty text) && nat_le (length text) 3 && list_all is_ascii_alphanumeric text
+is_subdivision text =
+    not (is_empty text) && nat_le (length text) 3 && list_all is_ascii_alphanumeric text
 
 -- two ASCII letters, a dash, and one to three letters or digits, as `DE-BY`
 abbrev pub is_region : List ℕ → Bool
-is_region (a ∷ b ∷ dash ∷ rest) = is_ascii_alphabetic a && is_ascii_alphabetic b && nat_eq dash 45 && is_subdivision rest
+is_region (a ∷ b ∷ dash ∷ rest) =
+    is_ascii_alphabetic a && is_ascii_alphabetic b && nat_eq dash 45 && is_subdivision rest
 is_region _ = false
 
 -- the country of a region: its first two letters
@@ -53,7 +57,8 @@ nowhere = codes "ZZ"
 abbrev pub is_blank : PlaceParts → Bool
 is_blank p = is_empty p.country && is_empty p.region && is_empty p.city && is_empty p.postal
 
--- what four fields name: country and region in upper case, and where only the region is there, the country of the region
+-- what four fields name: country and region in upper case, and where only the region is there,
+-- the country of the region
 abbrev pub parts_of : (country region city postal : List ℕ) → PlaceParts
 parts_of country region city postal = record {
   country = upper (if is_empty country then country_of_region region else country);
@@ -76,7 +81,8 @@ region_fits region = is_empty region || is_region region
 unfoldable pub lengths_fit : (city postal : List ℕ) → Bool
 lengths_fit city postal = nat_le (length city) longest && nat_le (length postal) longest
 
--- what a `Place` keeps: its texts are in form, country and region in upper case, a region has its country, and the place says something
+-- what a `Place` keeps: its texts are in form, country and region in upper case,
+-- a region has its country, and the place says something
 pub record IsPlace (p : PlaceParts) : Type 0 where
   pub country : IsTrue (country_fits p.country)
   pub region : IsTrue (region_fits p.region)

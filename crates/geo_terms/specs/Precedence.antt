@@ -8,7 +8,8 @@ use Rattle.geo_terms.specs.Alias.{home}
 use Rattle.geo_terms.specs.DelegationForm.{DelegationParts}
 use Rattle.geo_terms.specs.First.{first_of, first_at}
 use Rattle.geo_terms.specs.PlaceForm.{PlaceParts}
-use Rattle.geo_terms.specs.Sources.{InForce, references, feed_of, entries_in, delegations, override_rows}
+use Rattle.geo_terms.specs.Sources.{InForce, references, feed_of, entries_in, delegations}
+use Rattle.geo_terms.specs.Sources.{override_rows}
 use Rattle.geo_terms.specs.declared.place.Said.{Said}
 use Rattle.geo_terms.specs.declared.place.Said.TheVariants.{Nothing, At}
 use Rattle.geo_terms.specs.declared.statement.Entry.{Entry}
@@ -19,7 +20,8 @@ use Rattle.geo_terms.specs.declared.statement.Reference.{Reference}
 abbrev pub text_cmp : List ℕ → List ℕ → Ordering
 text_cmp = slice_cmp nat_cmp
 
--- the order of references: fewest addresses, latest last-modified, lowest first address, smallest URL, slot and line
+-- the order of references: fewest addresses, latest last-modified, lowest first address,
+-- smallest URL, slot and line
 unfoldable pub reference_cmp : Reference → Reference → Ordering
 reference_cmp x y =
     ordering_then (nat_cmp (size x.range) (size y.range))
@@ -38,7 +40,8 @@ delegation_cmp x y =
 
 -- the order of overrides: fewest addresses, lowest first address
 unfoldable pub override_cmp : Override → Override → Ordering
-override_cmp x y = ordering_then (nat_cmp (size x.range) (size y.range)) (nat_cmp x.range.first y.range.first)
+override_cmp x y =
+    ordering_then (nat_cmp (size x.range) (size y.range)) (nat_cmp x.range.first y.range.first)
 
 -- the order of entries: greatest prefix length
 unfoldable pub entry_cmp : Entry → Entry → Ordering
@@ -68,10 +71,12 @@ lies_within b r = nat_le r.first b.first && nat_le (range_of_block b).last r.las
 abbrev pub entries_within : List Entry → Ends → ℕ → List Entry
 entries_within es r a = filter (λ e. holds (range_of_block e.block) a && lies_within e.block r) es
 
--- the longest entry of the speaker's feed that lies within the speaker's range and holds the address
+-- the longest entry of the speaker's feed that lies within the
+-- speaker's range and holds the address
 abbrev pub entry_of : InForce → Option Reference → ℕ → Option Entry
 entry_of s None a = None
-entry_of s (Some r) a = first_of entry_before (entries_within (entries_in (feed_of s r.url)) r.range a)
+entry_of s (Some r) a =
+    first_of entry_before (entries_within (entries_in (feed_of s r.url)) r.range a)
 
 -- the speaking entry
 unfoldable pub speaking_entry : InForce → ℕ → Option Entry
@@ -111,7 +116,8 @@ spoken_at s a = chosen (first_override s a) (speaking_entry s a) (first_delegati
 abbrev pub record_at : InForce → ℕ → Option PlaceParts
 record_at s a = spoken_at s (home a)
 
--- why an address has its record: each part by its own rule at the address's home, also where an override decides
+-- why an address has its record: each part by its own rule at the address's home,
+-- also where an override decides
 pub record Reasons : Type 0 where
   pub over : Option Override
   pub speaker : Option Reference
@@ -121,4 +127,10 @@ pub record Reasons : Type 0 where
 
 abbrev pub reasons_at : InForce → ℕ → Reasons
 reasons_at s a =
-    record { over = first_override s (home a); speaker = speaker s (home a); entry = speaking_entry s (home a); delegation = first_delegation s (home a); place = record_at s a }
+    record {
+      over = first_override s (home a);
+      speaker = speaker s (home a);
+      entry = speaking_entry s (home a);
+      delegation = first_delegation s (home a);
+      place = record_at s a;
+    }

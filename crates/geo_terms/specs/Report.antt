@@ -1,5 +1,6 @@
 -- The report: the notes of all sources in force, in its order.
-use Rattle.std.specs.Prelude.{ℕ, Bool, not, ◌&&◌, ◌==◌, is_none, Option, Some, None, List, [], ◌∷◌, ◌++◌, map, filter, flat_map, if◌then◌else◌}
+use Rattle.std.specs.Prelude.{ℕ, Bool, not, ◌&&◌, ◌==◌, is_none, Option, Some, None, List, [], ◌∷◌}
+use Rattle.std.specs.Prelude.{◌++◌, map, filter, flat_map, if◌then◌else◌}
 use Rattle.std.specs.List.{list_any}
 use Rattle.std.specs.declared.cmp.Ordering.{Ordering}
 use Rattle.std.specs.Ordering.{is_le}
@@ -25,7 +26,9 @@ is_outranked rs r = list_any (λ t. same_ends t.range r.range && reference_befor
 
 -- whether a reference covers a block: its range is of the block's family and contains it
 abbrev pub covers : Reference → Prefix → Bool
-covers r b = (if is_v4 r.range then is_v4 (range_of_block b) else not (is_v4 (range_of_block b))) && lies_within b r.range
+covers r b =
+    (if is_v4 r.range then is_v4 (range_of_block b) else not (is_v4 (range_of_block b)))
+    && lies_within b r.range
 
 -- whether a reference to this URL covers a block
 abbrev pub is_covered : List Reference → List ℕ → Prefix → Bool
@@ -34,16 +37,19 @@ is_covered rs url b = list_any (λ r. same_text r.url url && covers r b) rs
 -- the notes on references that are not the first of their range
 abbrev pub outranked_notes : InForce → List Note
 outranked_notes s =
-    map (λ r. record { origin = Rpsl r.slot; line = r.line; rule = P08 }) (filter (is_outranked (references s)) (references s))
+    map (λ r. record { origin = Rpsl r.slot; line = r.line; rule = P08 })
+    (filter (is_outranked (references s)) (references s))
 
 -- the notes on references whose URL has no feed
 abbrev pub unfed_notes : InForce → List Note
 unfed_notes s =
-    map (λ r. record { origin = Rpsl r.slot; line = r.line; rule = P09 }) (filter (λ r. is_none (feed_of s r.url)) (references s))
+    map (λ r. record { origin = Rpsl r.slot; line = r.line; rule = P09 })
+    (filter (λ r. is_none (feed_of s r.url)) (references s))
 
 abbrev pub uncovered_in : List Reference → FeedParts → List Note
 uncovered_in rs f =
-    map (λ e. record { origin = Feed f.url; line = e.line; rule = F09 }) (filter (λ e. not (is_covered rs f.url e.block)) f.entries)
+    map (λ e. record { origin = Feed f.url; line = e.line; rule = F09 })
+    (filter (λ e. not (is_covered rs f.url e.block)) f.entries)
 
 -- the notes on entries that no reference to their feed covers
 abbrev pub uncovered_notes : InForce → List Note
@@ -51,13 +57,15 @@ uncovered_notes s = flat_map (uncovered_in (references s)) s.feeds
 
 -- a note on a statement whose ground lies within one alias block
 abbrev pub alias_note : Origin → Ends → ℕ → List Note
-alias_note origin r line = if lies_in_alias r then record { origin = origin; line = line; rule = A01 } ∷ [] else []
+alias_note origin r line =
+    if lies_in_alias r then record { origin = origin; line = line; rule = A01 } ∷ [] else []
 
 -- the notes on statements that speak nowhere, since their ground lies within one alias block
 abbrev pub alias_notes : InForce → List Note
 alias_notes s =
     flat_map (λ r. alias_note (Rpsl r.slot) r.range r.line) (references s)
-    ++ (flat_map (λ f. flat_map (λ e. alias_note (Feed f.url) (range_of_block e.block) e.line) f.entries) s.feeds
+    ++ (flat_map
+    (λ f. flat_map (λ e. alias_note (Feed f.url) (range_of_block e.block) e.line) f.entries) s.feeds
     ++ (flat_map (λ d. alias_note (Stats d.slot) d.range d.line) (delegations s)
     ++ flat_map (λ o. alias_note Overrides o.range o.line) (override_rows s)))
 
@@ -76,7 +84,9 @@ notes_in (Some o) = o.notes
 
 -- the notes that the readers gave
 abbrev pub reader_notes : InForce → List Note
-reader_notes s = flat_map (λ d. d.notes) s.dumps ++ (flat_map (λ f. f.notes) s.feeds ++ (flat_map (λ t. t.notes) s.stats ++ notes_in s.overrides))
+reader_notes s =
+    flat_map (λ d. d.notes) s.dumps ++ (flat_map (λ f. f.notes) s.feeds
+    ++ (flat_map (λ t. t.notes) s.stats ++ notes_in s.overrides))
 
 -- the notes of one source on others: rules that a source alone cannot tell
 abbrev pub joint_notes : InForce → List Note

@@ -1,6 +1,7 @@
 -- What four fields of a line say.
 use Rattle.std.specs.Prelude.{ℕ, not, List, Result, Ok, Err, if◌then◌else◌}
-use Rattle.geo_terms.specs.PlaceForm.{PlaceParts, country_fits, region_fits, lengths_fit, parts_of, says_nothing}
+use Rattle.geo_terms.specs.PlaceForm.{PlaceParts, country_fits, region_fits, lengths_fit, parts_of}
+use Rattle.geo_terms.specs.PlaceForm.{says_nothing}
 use Rattle.geo_terms.specs.declared.place.PlaceFault.{PlaceFault}
 use Rattle.geo_terms.specs.declared.place.PlaceFault.TheVariants.{Country, Region, TooLong}
 use Rattle.geo_terms.specs.declared.place.Said.{Said}

@@ -9,10 +9,12 @@ use Rattle.geo_terms.specs.Precedence.{text_cmp}
 abbrev pub AreInOrder : {X : Type 0} → (X → List ℕ) → List X → Type 0
 AreInOrder name xs = AllPairs (λ x y. text_cmp (name x) (name y) ≡ Ordering.Less) xs
 
--- the sources with one more: it takes the place of the one with its name, or its own place in the order
+-- the sources with one more: it takes the place of the one with its name,
+-- or its own place in the order
 abbrev pub placed : {X : Type 0} → (X → List ℕ) → X → List X → List X
 placed name x [] = x ∷ []
-placed name x (y ∷ ys) = match_ordering (text_cmp (name x) (name y)) (x ∷ y ∷ ys) (x ∷ ys) (y ∷ placed name x ys)
+placed name x (y ∷ ys) =
+    match_ordering (text_cmp (name x) (name y)) (x ∷ y ∷ ys) (x ∷ ys) (y ∷ placed name x ys)
 
 -- the sources without the one of a name
 abbrev pub removed : {X : Type 0} → (X → List ℕ) → List ℕ → List X → List X

@@ -1,4 +1,5 @@
--- What the types of statements and of sources keep beside their fields, as their readers promise it.
+-- What the types of statements and of sources keep beside their fields,
+-- as their readers promise it.
 use Rattle.std.specs.Prelude.{◌≡◌, ◌≢◌, ℕ, List, map, All, AllPairs}
 use Rattle.std.specs.List.Sorted.{IsStrictlyIncreasing}
 use Rattle.geo_terms.specs.declared.statement.Entry.{Entry}

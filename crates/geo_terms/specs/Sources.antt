@@ -7,7 +7,8 @@ use Rattle.geo_terms.specs.declared.statement.Entry.{Entry}
 use Rattle.geo_terms.specs.declared.statement.Override.{Override}
 use Rattle.geo_terms.specs.declared.statement.Reference.{Reference}
 
--- the sources in force: dumps, feeds and statistics, each kind by its slots or URLs, and overrides where they are set
+-- the sources in force: dumps, feeds and statistics, each kind by its slots or URLs,
+-- and overrides where they are set
 pub record InForce : Type 0 where
   pub dumps : List DumpParts
   pub feeds : List FeedParts

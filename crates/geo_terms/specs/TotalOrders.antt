@@ -15,7 +15,8 @@ reference_total =
     (then_total (back_total (on_total (λ (r : Reference). r.modified) nat_cmp_total))
     (then_total (on_total (λ (r : Reference). r.range.first) nat_cmp_total)
     (then_total (on_total (λ (r : Reference). r.url) nat_list_cmp_total)
-    (then_total (on_total (λ (r : Reference). r.slot) nat_list_cmp_total) (on_total (λ (r : Reference). r.line) nat_cmp_total)))))
+    (then_total (on_total (λ (r : Reference). r.slot) nat_list_cmp_total)
+    (on_total (λ (r : Reference). r.line) nat_cmp_total)))))
 
 pub delegation_total : IsTotalOrder delegation_cmp
 unfolding delegation_cmp
@@ -23,11 +24,14 @@ delegation_total =
     then_total (on_total (λ (d : DelegationParts). size d.range) nat_cmp_total)
     (then_total (on_total (λ (d : DelegationParts). d.range.first) nat_cmp_total)
     (then_total (on_total (λ (d : DelegationParts). d.place.country) nat_list_cmp_total)
-    (then_total (on_total (λ (d : DelegationParts). d.slot) nat_list_cmp_total) (on_total (λ (d : DelegationParts). d.line) nat_cmp_total))))
+    (then_total (on_total (λ (d : DelegationParts). d.slot) nat_list_cmp_total)
+    (on_total (λ (d : DelegationParts). d.line) nat_cmp_total))))
 
 pub override_total : IsTotalOrder override_cmp
 unfolding override_cmp
-override_total = then_total (on_total (λ (o : Override). size o.range) nat_cmp_total) (on_total (λ (o : Override). o.range.first) nat_cmp_total)
+override_total =
+    then_total (on_total (λ (o : Override). size o.range) nat_cmp_total)
+    (on_total (λ (o : Override). o.range.first) nat_cmp_total)
 
 pub entry_total : IsTotalOrder entry_cmp
 unfolding entry_cmp

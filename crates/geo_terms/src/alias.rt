@@ -4,8 +4,8 @@ ghost use Rattle.geo_terms.specs.Alias.{home, is_alias, is_mapped, is_six_to_fou
 
 use geo_addr::{Addr, Range};
 
-/// The IPv4 address that an address of `::ffff:0:0/96` (RFC 4291, section 2.5.5.2) or of `2002::/16`
-/// (RFC 3056, section 2) carries; every other address is its own home.
+/// The IPv4 address that an address of `::ffff:0:0/96` (RFC 4291, section 2.5.5.2) or of
+/// `2002::/16` (RFC 3056, section 2) carries; every other address is its own home.
 #[tactic(auto, unfolding(crate::specs::Alias::home))]
 pub fn home(at: Addr) -> Addr
     ensures { result.0 ≡ home at.0 }

@@ -1,8 +1,12 @@
 //! What four fields of a line say.
-ghost use Rattle.std.specs.Prelude.{◌≡◌, ◌<◌, ◌≤◌, ◌↔◌, length, IfOk, IfErr, IfSome, Ok, OnOk, IsOkUnless, IsTrue, [], ◌∷◌, if◌then◌else◌};
+ghost use Rattle.std.specs.Prelude.{◌≡◌, ◌<◌, ◌≤◌, ◌↔◌, length, IfOk, IfErr, IfSome, Ok, OnOk};
+ghost use Rattle.std.specs.Prelude.{IsOkUnless, IsTrue, [], ◌∷◌, if◌then◌else◌};
 ghost use Rattle.std.specs.List.{list_all, list_any};
 ghost use Rattle.std.specs.Char.{is_ascii_alphanumeric, is_ascii_lowercase};
-ghost use Rattle.geo_terms.specs.PlaceForm.{country_fits, country_of_region, is_country, is_empty, is_region, is_subdivision, lengths_fit, longest, nowhere, parts_of, place_of_country, region_fits, same_text, says_nothing, upper};
+ghost use Rattle.geo_terms.specs.PlaceForm.{country_fits, country_of_region, is_country, is_empty};
+ghost use Rattle.geo_terms.specs.PlaceForm.{is_region, is_subdivision, lengths_fit, longest};
+ghost use Rattle.geo_terms.specs.PlaceForm.{nowhere, parts_of, place_of_country, region_fits};
+ghost use Rattle.geo_terms.specs.PlaceForm.{same_text, says_nothing, upper};
 ghost use Rattle.geo_terms.specs.SaidOf.{said_of, said_by};
 ghost use Rattle.geo_terms.specs.declared.place.Said.TheVariants.{At};
 
@@ -27,9 +31,12 @@ pub fn place_of(
     city: &str,
     postal: &str,
 ) -> Result<Said, PlaceFault>
-    ensures said { IfOk result (λ said. said_of country.now region.now city.now postal.now ≡ Ok said) }
-    ensures refused { IfErr (said_of country.now region.now city.now postal.now) (λ fault. result ≡ Err fault) }
-    ensures otherwise { OnOk (said_of country.now region.now city.now postal.now) (IsOkUnless result PlaceFault.Memory) }
+    ensures said { IfOk result
+        (λ said. said_of country.now region.now city.now postal.now ≡ Ok said) }
+    ensures refused { IfErr (said_of country.now region.now city.now postal.now)
+        (λ fault. result ≡ Err fault) }
+    ensures otherwise { OnOk (said_of country.now region.now city.now postal.now)
+        (IsOkUnless result PlaceFault.Memory) }
 {
     place_in(&mut Texts::new(alloc), country, region, city, postal)
 }
@@ -43,9 +50,12 @@ pub fn place_in(
     city: &str,
     postal: &str,
 ) -> Result<Said, PlaceFault>
-    ensures said { IfOk result (λ said. said_of country.now region.now city.now postal.now ≡ Ok said) }
-    ensures refused { IfErr (said_of country.now region.now city.now postal.now) (λ fault. result ≡ Err fault) }
-    ensures otherwise { OnOk (said_of country.now region.now city.now postal.now) (IsOkUnless result PlaceFault.Memory) }
+    ensures said { IfOk result
+        (λ said. said_of country.now region.now city.now postal.now ≡ Ok said) }
+    ensures refused { IfErr (said_of country.now region.now city.now postal.now)
+        (λ fault. result ≡ Err fault) }
+    ensures otherwise { OnOk (said_of country.now region.now city.now postal.now)
+        (IsOkUnless result PlaceFault.Memory) }
 {
     let (first, second) = (country.as_bytes(), region.as_bytes());
     if let Some(place) = said_before(texts, first, second, city.as_bytes(), postal.as_bytes()) {
@@ -71,7 +81,8 @@ fn said_before<'a>(
     city: &[u8],
     postal: &[u8],
 ) -> Option<&'a Place>
-    ensures { IfSome result (λ place. said_of country.now region.now city.now postal.now ≡ Ok (At place.now)) }
+    ensures { IfSome result
+        (λ place. said_of country.now region.now city.now postal.now ≡ Ok (At place.now)) }
 {
     let place = texts.known_place(country, region, city, postal)?;
     Some(place)
@@ -117,7 +128,8 @@ fn said_in_form(
     requires country { IsTrue (country_fits country.now) }
     requires region { IsTrue (region_fits region.now) }
     requires lengths { IsTrue (lengths_fit city.now postal.now) }
-    ensures { IfOk result (λ said. said ≡ said_by (parts_of country.now region.now city.now postal.now)) }
+    ensures { IfOk result
+        (λ said. said ≡ said_by (parts_of country.now region.now city.now postal.now)) }
 {
     let country = country_text(texts, country, region)?;
     let region = upper_text(texts, region)?;
@@ -132,7 +144,12 @@ fn said_in_form(
 
 // Whether these texts, in upper case, say nothing.
 fn says_nothing(country: &Text, region: &Text, city: &str, postal: &str) -> bool
-    ensures { result ≡ says_nothing (record { country = country.now; region = region.now; city = city.now; postal = postal.now }) }
+    ensures { result ≡ says_nothing (record {
+      country = country.now;
+      region = region.now;
+      city = city.now;
+      postal = postal.now;
+    }) }
 {
     if is_nowhere(country) {
         return true;

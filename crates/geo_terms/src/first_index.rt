@@ -17,9 +17,9 @@ use std::marker::Model;
 
 /// Tells for each address which of several statements is the first in their order that holds it.
 ///
-/// It has the boundaries at which that changes, each with the place of the statement in the list that
-/// the index was made of, so a look-up is one halving and takes no memory. It holds no statement:
-/// whoever has the list reads it at the place.
+/// It has the boundaries at which that changes, each with the place of the statement in the list
+/// that the index was made of, so a look-up is one halving and takes no memory. It holds no
+/// statement: whoever has the list reads it at the place.
 #[derive(Debug, Drop)]
 pub struct FirstIndex {
     boundaries: Vec<Boundary>,
@@ -53,7 +53,8 @@ impl FirstIndex {
     /// sort by where grounds begin if they do not ascend. Else it is a sort by their order, and one
     /// pass over the ends of their grounds.
     pub fn of<S: Statement>(alloc: Global, statements: &[&S]) -> Result<FirstIndex, Memory>
-        ensures told { IfOk result (λ index. TellsFirst S.order S.range (map (λ s. s.now) statements.entry.now) index) }
+        ensures told { IfOk result
+            (λ index. TellsFirst S.order S.range (map (λ s. s.now) statements.entry.now) index) }
         ensures kept { OnOk result (All S.kept (map (λ s. s.now) statements.entry.now)) }
     {
         let mut ranked = placed(alloc, statements)?;
@@ -81,7 +82,8 @@ fn placed<'a, S: Statement>(
     alloc: Global,
     statements: &[&'a S],
 ) -> Result<Vec<(usize, &'a S)>, Memory>
-    ensures { IfOk result (λ ranked. map (λ x. (x.0, x.1.now)) ranked.items ≡ enumerate_from 0 (map (λ s. s.now) statements.entry.now)) }
+    ensures { IfOk result (λ ranked. map (λ x. (x.0, x.1.now)) ranked.items
+        ≡ enumerate_from 0 (map (λ s. s.now) statements.entry.now)) }
 {
     let mut ranked = Vec::with_capacity(alloc, statements.len())?;
     for (place, statement) in statements.iter().enumerate() {
@@ -175,13 +177,15 @@ fn push_gap(boundaries: &mut Vec<Boundary>, from: u128) -> Result<(), Memory>
 
 // How two statements stand: those that tie go by their places.
 fn order<S: Statement>(x: &(usize, &S), y: &(usize, &S)) -> Ordering
-    ensures { result ≡ placed_cmp S.order (x.entry.now.0, x.entry.now.1.now) (y.entry.now.0, y.entry.now.1.now) }
+    ensures { result
+        ≡ placed_cmp S.order (x.entry.now.0, x.entry.now.1.now) (y.entry.now.0, y.entry.now.1.now) }
 {
     x.1.order(y.1).then(x.0.cmp(&y.0))
 }
 
 fn ranges_of<S: Statement>(alloc: Global, ranked: &[(usize, &S)]) -> Result<Vec<Range>, Memory>
-    ensures ranges { IfOk result (λ ranges. ranges.items ≡ map (λ x. S.range x.1.now) ranked.entry.now) }
+    ensures ranges { IfOk result
+        (λ ranges. ranges.items ≡ map (λ x. S.range x.1.now) ranked.entry.now) }
     ensures kept { OnOk result (All (λ x. S.kept x.1.now) ranked.entry.now) }
 {
     let mut ranges = Vec::with_capacity(alloc, ranked.len())?;

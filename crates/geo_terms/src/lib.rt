@@ -1,4 +1,5 @@
-//! Places, statements, notes and sources: what the readers make, and the definitions of who speaks for an address.
+//! Places, statements, notes and sources: what the readers make,
+//! and the definitions of who speaks for an address.
 #![tactic(auto)]
 
 mod alias;

@@ -1,5 +1,6 @@
 ghost use Rattle.std.specs.Prelude.{◌≡◌, IfOk};
-ghost use Rattle.geo_terms.specs.NoteText.{code_of, kind_of, kind_rank, name_of, note_cmp, note_line};
+ghost use Rattle.geo_terms.specs.NoteText.{code_of, kind_of, kind_rank, name_of, note_cmp};
+ghost use Rattle.geo_terms.specs.NoteText.{note_line};
 
 use geo_addr::{Memory, Text};
 use std::alloc::Global;
@@ -192,7 +193,8 @@ impl Origin {
 }
 
 impl Note {
-    /// How the note stands to another one in a report: by kind of source, by slot or URL, by line, by code.
+    /// How the note stands to another one in a report: by kind of source, by
+    /// slot or URL, by line, by code.
     #[tactic(auto, unfolding(crate::specs::NoteText::note_cmp))]
     pub fn order(&self, other: &Note) -> Ordering
         ensures { result ≡ note_cmp self.now other.now }
@@ -204,8 +206,8 @@ impl Note {
     }
 }
 
-/// The line of a note in a report: `rpsl SLOT LINE CODE`, `feed URL LINE CODE`, `stats SLOT LINE CODE`
-/// or `overrides - LINE CODE`, and a line feed.
+/// The line of a note in a report: `rpsl SLOT LINE CODE`, `feed URL LINE CODE`,
+/// `stats SLOT LINE CODE` or `overrides - LINE CODE`, and a line feed.
 #[tactic(auto, unfolding(crate::specs::NoteText::note_line))]
 pub fn note_text(alloc: Global, note: &Note) -> Result<Text, Memory>
     ensures { IfOk result (λ text. text ≡ note_line note.now) }

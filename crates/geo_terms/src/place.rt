@@ -16,8 +16,9 @@ use thiserror::Error;
 
 /// A place: a country, a region, a city and a postal code, each of which may be empty, but not all.
 ///
-/// The country is a code of ISO 3166-1 and the region one of ISO 3166-2, both in upper case; no text
-/// is longer than 1,024 bytes. Whether the codes exist is not asked. Its copies share the four texts.
+/// The country is a code of ISO 3166-1 and the region one of ISO 3166-2, both in upper case; no
+/// text is longer than 1,024 bytes. Whether the codes exist is not asked.
+/// Its copies share the four texts.
 #[derive(Debug, Drop)]
 pub struct Place {
     parts: Arc<Parts>,
@@ -38,9 +39,19 @@ impl Model for Place {
 
     ghost Value = { PlaceParts };
 
-    ghost view = { λ p. record { country = (arc_value p.parts).country; region = (arc_value p.parts).region; city = (arc_value p.parts).city; postal = (arc_value p.parts).postal } };
+    ghost view = { λ p. record {
+      country = (arc_value p.parts).country;
+      region = (arc_value p.parts).region;
+      city = (arc_value p.parts).city;
+      postal = (arc_value p.parts).postal;
+    } };
 
-    ghost invariant = { λ p. IsPlace (record { country = (arc_value p.parts).country; region = (arc_value p.parts).region; city = (arc_value p.parts).city; postal = (arc_value p.parts).postal }) };
+    ghost invariant = { λ p. IsPlace (record {
+      country = (arc_value p.parts).country;
+      region = (arc_value p.parts).region;
+      city = (arc_value p.parts).city;
+      postal = (arc_value p.parts).postal;
+    }) };
 }
 
 impl Place {
@@ -53,7 +64,8 @@ impl Place {
         postal: Text,
     ) -> Result<Place, Memory>
         requires { IsPlace (record { country = country; region = region; city = city; postal = postal }) }
-        ensures { IfOk result (λ place. place ≡ record { country = country; region = region; city = city; postal = postal }) }
+        ensures { IfOk result (λ place. place
+            ≡ record { country = country; region = region; city = city; postal = postal }) }
     {
         let parts = Parts {
             country,
@@ -105,7 +117,12 @@ impl Place {
     /// Whether these are its four texts.
     pub(crate) fn has(&self, country: &[u8], region: &[u8], city: &[u8], postal: &[u8]) -> bool
         ensures form { IsPlace self.now }
-        ensures same { result ≡ same_place self.now (record { country = country.now; region = region.now; city = city.now; postal = postal.now }) }
+        ensures same { result ≡ same_place self.now (record {
+          country = country.now;
+          region = region.now;
+          city = city.now;
+          postal = postal.now;
+        }) }
     {
         self.country().as_str().as_bytes() == country
             && self.region().as_str().as_bytes() == region
@@ -132,7 +149,8 @@ impl Eq for Place {
 }
 
 impl Hash for Place {
-    ghost hash_input = { λ p. fed.str p.country ++ fed.str p.region ++ fed.str p.city ++ fed.str p.postal };
+    ghost hash_input = { λ p.
+        fed.str p.country ++ fed.str p.region ++ fed.str p.city ++ fed.str p.postal };
 
     ghost respects_eq = { Prim.search (hashing, rules) };
 

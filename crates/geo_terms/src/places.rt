@@ -1,5 +1,6 @@
 //! Numbers for places.
-ghost use Rattle.std.specs.Prelude.{◌≡◌, ℕ, ◌-◌, ◌^◌, ◌<◌, ◌≤◌, ◌↔◌, [], length, IfOk, OnOk, OnErr, IsNone, IfSome, IsTrue, Some};
+ghost use Rattle.std.specs.Prelude.{◌≡◌, ℕ, ◌-◌, ◌^◌, ◌<◌, ◌≤◌, ◌↔◌, [], length, IfOk, OnOk, OnErr};
+ghost use Rattle.std.specs.Prelude.{IsNone, IfSome, IsTrue, Some};
 ghost use Rattle.std.specs.Option.{option_copied};
 ghost use Rattle.std.specs.List.{IsDistinct};
 ghost use Rattle.geo_terms.specs.Numbers.{number_of, place_at, same_place, with_place};
@@ -29,7 +30,8 @@ impl Model for Places {
 
     ghost view = { λ p. p.places.keys };
 
-    ghost invariant = { λ p. IsDistinct same_place p.places.keys × (length p.places.keys < 2 ^ 32) };
+    ghost invariant = { λ p. IsDistinct same_place p.places.keys
+        × (length p.places.keys < 2 ^ 32) };
 }
 
 /// Why a place has no number.
@@ -58,7 +60,8 @@ impl Places {
         ensures held { IfOk result (λ number. place_at self.new number ≡ Some place.now) }
         ensures table { OnOk result (self.new ≡ with_place self.old place.now) }
         ensures known { IfSome (number_of self.old place.now) (λ number. result ≡ Ok number) }
-        ensures full { (result ≡ Err PlacesFault.Full) ↔ (IsNone (number_of self.old place.now) × (length self.old ≡ 2 ^ 32 - 1)) }
+        ensures full { (result ≡ Err PlacesFault.Full)
+            ↔ (IsNone (number_of self.old place.now) × (length self.old ≡ 2 ^ 32 - 1)) }
         ensures err { OnErr result (self.new ≡ self.old) }
     {
         if let Some(index) = self.places.get_index_of(place) {

@@ -1,11 +1,14 @@
-//! Slow answers that look at every statement: each one is its definition, for tests and small tasks.
+//! Slow answers that look at every statement: each one is its definition,
+//! for tests and small tasks.
 ghost use Rattle.std.specs.Prelude.{◌≡◌, Some, find, fold};
 ghost use Rattle.std.specs.Option.{option_copied};
 ghost use Rattle.std.specs.Ordering.{is_lt};
 ghost use Rattle.geo_terms.specs.AllSources.{in_force};
 ghost use Rattle.geo_terms.specs.First.{better, first_of, holders};
 ghost use Rattle.geo_terms.specs.PlaceForm.{same_text};
-ghost use Rattle.geo_terms.specs.Precedence.{spoken_at, entries_within, entry_before, first_delegation, first_override, lies_within, said_place, speaker, speaking_entry};
+ghost use Rattle.geo_terms.specs.Precedence.{spoken_at, entries_within, entry_before};
+ghost use Rattle.geo_terms.specs.Precedence.{first_delegation, first_override, lies_within};
+ghost use Rattle.geo_terms.specs.Precedence.{said_place, speaker, speaking_entry};
 
 use crate::order::Statement;
 use crate::place::{Place, Said};
@@ -35,8 +38,8 @@ pub fn speaker_at<'a>(sources: &AllSources<'a>, at: Addr) -> Option<&'a Referenc
     first
 }
 
-/// The entry that speaks at an address: the longest one of the speaker's feed that holds the address
-/// and lies within the speaker's range.
+/// The entry that speaks at an address: the longest one of the speaker's feed that holds the
+/// address and lies within the speaker's range.
 #[tactic(auto, unfolding(crate::specs::Precedence::speaking_entry))]
 pub fn entry_at<'a>(sources: &AllSources<'a>, at: Addr) -> Option<&'a Entry>
     ensures { option_copied result ≡ speaking_entry (in_force sources.entry.now) at.0 }
@@ -48,14 +51,16 @@ pub fn entry_at<'a>(sources: &AllSources<'a>, at: Addr) -> Option<&'a Entry>
 
 // The feed that a reference refers to.
 fn feed_of<'a>(feeds: &'a [Feed], reference: &Reference) -> Option<&'a Feed>
-    ensures { option_copied result ≡ find (λ f. same_text f.url reference.entry.now.url) feeds.entry.now }
+    ensures { option_copied result
+        ≡ find (λ f. same_text f.url reference.entry.now.url) feeds.entry.now }
 {
     feeds.iter().find(|feed| feed.url == reference.url)
 }
 
 // The longest of these entries that holds the address and lies within the range.
 fn longest_within<'a>(entries: &'a [Entry], range: Range, at: Addr) -> Option<&'a Entry>
-    ensures { option_copied result ≡ first_of entry_before (entries_within entries.entry.now range at.0) }
+    ensures { option_copied result
+        ≡ first_of entry_before (entries_within entries.entry.now range at.0) }
 {
     let mut longest: Option<&'a Entry> = None;
     for entry in entries {
@@ -137,13 +142,15 @@ fn said_place(said: &Said) -> Option<&Place>
     }
 }
 
-/// The first in its order of these statements that hold the address and of one that was found before.
+/// The first in its order of these statements that hold the address
+/// and of one that was found before.
 pub fn first_at<'a, S: Statement>(
     statements: &'a [S],
     at: Addr,
     found: Option<&'a S>,
 ) -> Option<&'a S>
-    ensures { option_copied result ≡ fold (better (λ x y. is_lt (S.order x y))) (option_copied found.entry) (holders S.range statements.entry.now at.0) }
+    ensures { option_copied result ≡ fold (better (λ x y. is_lt (S.order x y)))
+        (option_copied found.entry) (holders S.range statements.entry.now at.0) }
 {
     let mut first = found;
     for statement in statements {
@@ -156,7 +163,8 @@ pub fn first_at<'a, S: Statement>(
 
 // The new statement where it goes before the first one so far, else that one.
 fn better<'a, S: Statement>(first: Option<&'a S>, next: &'a S) -> &'a S
-    ensures { Some result.now ≡ better (λ x y. is_lt (S.order x y)) (option_copied first.entry) next.entry.now }
+    ensures { Some result.now
+        ≡ better (λ x y. is_lt (S.order x y)) (option_copied first.entry) next.entry.now }
 {
     match first {
         Some(first) => {

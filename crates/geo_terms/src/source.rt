@@ -6,8 +6,8 @@ use thiserror::Error;
 
 /// A registry dump, read: its references and its notes.
 ///
-/// A literal owes that both lists are in line order, that the references carry the slot, and that the
-/// notes are about this dump.
+/// A literal owes that both lists are in line order, that the references carry the slot, and that
+/// the notes are about this dump.
 #[derive(Debug, Drop)]
 pub struct Dump {
     pub slot: Text,
@@ -29,8 +29,8 @@ impl Model for Dump {
 
 /// A feed, read: its entries and its notes.
 ///
-/// A literal owes that both lists are in line order and share no line, that the blocks of the entries
-/// are distinct, and that the notes are about this feed.
+/// A literal owes that both lists are in line order and share no line, that the blocks of the
+/// entries are distinct, and that the notes are about this feed.
 #[derive(Debug, Drop)]
 pub struct Feed {
     pub url: Text,
@@ -45,15 +45,16 @@ impl Model for Feed {
 
     ghost view = { λ f. record { url = f.url; entries = f.entries; notes = f.notes } };
 
-    ghost invariant = { λ f. IsFeed (record { url = f.url; entries = f.entries; notes = f.notes }) };
+    ghost invariant = { λ f.
+        IsFeed (record { url = f.url; entries = f.entries; notes = f.notes }) };
 
     ghost inverse = { λ v. record { url = v.url; entries = v.entries; notes = v.notes } };
 }
 
 /// A statistics file, read: its delegations and its notes.
 ///
-/// A literal owes that both lists are in line order, that the delegations carry the slot, and that the
-/// notes are about this file.
+/// A literal owes that both lists are in line order, that the delegations carry the slot, and that
+/// the notes are about this file.
 #[derive(Debug, Drop)]
 pub struct Stats {
     pub slot: Text,

@@ -47,7 +47,12 @@ impl Model for Delegation {
 
     ghost invariant = { λ d. IsCountryAlone d.place };
 
-    ghost inverse = { λ v. record { slot = v.slot; line = v.line; range = v.range; place = v.place } };
+    ghost inverse = { λ v. record {
+      slot = v.slot;
+      line = v.line;
+      range = v.range;
+      place = v.place;
+    } };
 }
 
 /// A row of the overrides: what it says stands above all other sources.

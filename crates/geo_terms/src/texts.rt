@@ -12,8 +12,8 @@ use std::hash::{BuildHasherDefault, Hasher};
 /// The texts and the places of one source so far: one that came before is given again, and takes no
 /// bytes.
 ///
-/// Which texts it holds changes what memory is taken, and never what a text says. Two texts with one
-/// mark, which strangers may make, stand beside one another without being shared.
+/// Which texts it holds changes what memory is taken, and never what a text says. Two texts with
+/// one mark, which strangers may make, stand beside one another without being shared.
 #[derive(Drop)]
 pub struct Texts {
     alloc: Global,
@@ -110,7 +110,12 @@ impl Texts {
         postal: &[u8],
     ) -> Option<&Place>
         ensures form { IfSome result (λ place. IsPlace place.now) }
-        ensures texts { IfSome result (λ place. place.now ≡ record { country = country.now; region = region.now; city = city.now; postal = postal.now }) }
+        ensures texts { IfSome result (λ place. place.now ≡ record {
+          country = country.now;
+          region = region.now;
+          city = city.now;
+          postal = postal.now;
+        }) }
     {
         match self
             .places
@@ -130,7 +135,8 @@ impl Texts {
         postal: Text,
     ) -> Result<Place, Memory>
         requires { IsPlace (record { country = country; region = region; city = city; postal = postal }) }
-        ensures { IfOk result (λ place. place ≡ record { country = country; region = region; city = city; postal = postal }) }
+        ensures { IfOk result (λ place. place
+            ≡ record { country = country; region = region; city = city; postal = postal }) }
     {
         let (first, second) = (country.as_str().as_bytes(), region.as_str().as_bytes());
         let (third, fourth) = (city.as_str().as_bytes(), postal.as_str().as_bytes());
@@ -167,7 +173,8 @@ fn mark_of(text: &[u8]) -> u64 {
     mixed(mark ^ short_word(left))
 }
 
-// The halves of the product, one over the other, so that no text is found back from a mark with ease.
+// The halves of the product, one over the other, so that no text is
+// found back from a mark with ease.
 fn mixed(mark: u64) -> u64 {
     let product = u128::from(mark) * 0x9e37_79b9_7f4a_7c15;
     (product & 0xffff_ffff_ffff_ffff) as u64 ^ (product >> 64) as u64

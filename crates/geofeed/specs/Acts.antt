@@ -14,7 +14,8 @@ pub data Act : Type 0 where
 abbrev pub Adds : (old new : Option (List Act)) → List Act → Type 0
 Adds old new acts = (before : List Act) → old ≡ Some before → new ≡ Some (before ++ acts)
 
--- the mode that a new file is made with: its owner's alone where it replaces a file with a mode, else the usual one
+-- the mode that a new file is made with: its owner's alone where it replaces a file
+-- with a mode, else the usual one
 abbrev pub first_mode : Option ℕ → ℕ
 first_mode None = 0o666
 first_mode (Some mode) = 0o600
@@ -32,14 +33,18 @@ preparing mode bytes = filled bytes ∷ (last_mode mode ++ synced ∷ [])
 abbrev pub IsFront : List Act → List Act → Type 0
 IsFront part all = (rest : List Act) × (part ++ rest ≡ all)
 
--- a whole put: the new file has all its bytes, its last mode and its place on the disk before it takes the name
+-- a whole put: the new file has all its bytes, its last mode and its place on
+-- the disk before it takes the name
 abbrev pub replacing : (name bytes : List ℕ) → Option ℕ → (new : List ℕ) → List Act
 replacing name bytes mode new =
     looked name mode ∷ made new (first_mode mode) ∷ (preparing mode bytes ++ renamed new name ∷ [])
 
--- a put that came to nothing: the new file did not take the name, and where it was made it was removed at last
+-- a put that came to nothing: the new file did not take the name,
+-- and where it was made it was removed at last
 pub data IsUndone (name bytes : List ℕ) : List Act → Type 0 where
   none_done : IsUndone name bytes []
   only_looked : (mode : Option ℕ) → IsUndone name bytes (looked name mode ∷ [])
-  given_up : (mode : Option ℕ) → (new : List ℕ) → (part : List Act) → IsFront part (preparing mode bytes)
-      → IsUndone name bytes (looked name mode ∷ made new (first_mode mode) ∷ (part ++ removed new ∷ []))
+  given_up : (mode : Option ℕ)
+      → (new : List ℕ) → (part : List Act) → IsFront part (preparing mode bytes)
+      → IsUndone name bytes
+      (looked name mode ∷ made new (first_mode mode) ∷ (part ++ removed new ∷ []))

@@ -2,7 +2,8 @@
 ghost use Rattle.std.specs.Prelude.{◌≡◌, ◌∷◌, [], ◌++◌, ℕ, List, Option, Ok, true, false};
 ghost use Rattle.std.specs.Prelude.{OnOk, OnErr, IfOk, string_bytes};
 ghost use Rattle.geofeed.specs.Acts.{Act, looked, made, filled, mode_set, synced, renamed, removed};
-ghost use Rattle.geofeed.specs.Acts.{Adds, first_mode, last_mode, preparing, replacing, IsFront, IsUndone};
+ghost use Rattle.geofeed.specs.Acts.{Adds, first_mode, last_mode, preparing, replacing, IsFront};
+ghost use Rattle.geofeed.specs.Acts.{IsUndone};
 
 use std::alloc::Global;
 use std::io;
@@ -14,7 +15,8 @@ const TRIES: u32 = 100;
 /// The mode of a new file while it is written: its owner alone reads it.
 const PRIVATE: u32 = 0o600;
 
-/// The mode that a new file asks for where there is no old one. The system takes the umask's bits away.
+/// The mode that a new file asks for where there is no old one.
+/// The system takes the umask's bits away.
 const USUAL: u32 = 0o666;
 
 /// The names of a folder and one new file among them.
@@ -23,14 +25,17 @@ const USUAL: u32 = 0o666;
 pub(crate) trait Disk {
     ghost acts: { Self → Option (List Act) };
 
-    /// The mode of the regular file of this name: none where there is no file, or one of another kind.
+    /// The mode of the regular file of this name: none where there is no file,
+    /// or one of another kind.
     fn look(&mut self, name: &str) -> io::Result<Option<u32>>
-        ensures ok { IfOk result (λ mode. Adds (acts self.old) (acts self.new) (looked name.now mode ∷ [])) }
+        ensures ok { IfOk result
+            (λ mode. Adds (acts self.old) (acts self.new) (looked name.now mode ∷ [])) }
         ensures err { OnErr result (acts self.new ≡ acts self.old) };
 
     /// Makes the new file, and answers false where its name is taken.
     fn make(&mut self, name: &str, mode: u32) -> io::Result<bool>
-        ensures ok { result ≡ Ok true → Adds (acts self.old) (acts self.new) (made name.now mode ∷ []) }
+        ensures ok { result ≡ Ok true
+            → Adds (acts self.old) (acts self.new) (made name.now mode ∷ []) }
         ensures taken { result ≡ Ok false → acts self.new ≡ acts self.old }
         ensures err { OnErr result (acts self.new ≡ acts self.old) };
 
@@ -48,15 +53,16 @@ pub(crate) trait Disk {
         ensures err { OnErr result (acts self.new ≡ acts self.old) };
 
     fn rename(&mut self, old_name: &str, new_name: &str) -> io::Result<()>
-        ensures ok { OnOk result (Adds (acts self.old) (acts self.new) (renamed old_name.now new_name.now ∷ [])) }
+        ensures ok { OnOk result
+            (Adds (acts self.old) (acts self.new) (renamed old_name.now new_name.now ∷ [])) }
         ensures err { OnErr result (acts self.new ≡ acts self.old) };
 
     fn remove(&mut self, name: &str)
         ensures { Adds (acts self.old) (acts self.new) (removed name.now ∷ []) };
 }
 
-/// Writes a new file beside the old one and renames it over that, so that who has the old one open or
-/// mapped never sees half of the new one.
+/// Writes a new file beside the old one and renames it over that, so that who has the old one open
+/// or mapped never sees half of the new one.
 pub(crate) fn replace<D: Disk>(
     disk: &mut D,
     alloc: Global,
@@ -118,7 +124,8 @@ fn set_last_mode<D: Disk>(disk: &mut D, mode: Option<u32>) -> io::Result<()>
 
 // A new file in the folder of `name`. Its own name has a blank, so no job can name it.
 fn make_beside<D: Disk>(disk: &mut D, alloc: Global, name: &str, mode: u32) -> io::Result<String>
-    ensures ok { IfOk result (λ new. Adds (D.acts disk.old) (D.acts disk.new) (made (string_bytes new) mode ∷ [])) }
+    ensures ok { IfOk result
+        (λ new. Adds (D.acts disk.old) (D.acts disk.new) (made (string_bytes new) mode ∷ [])) }
     ensures err { OnErr result (D.acts disk.new ≡ D.acts disk.old) }
 {
     let folder = folder_of(name);

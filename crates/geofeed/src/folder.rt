@@ -72,7 +72,8 @@ impl<R: Files<File = File> + AllocGlobal> Folder for DirFolder<'_, R> {
         }
     }
 
-    /// It never answers `Memory`: a put that the system has no memory for has failed, and `why` says so.
+    /// It never answers `Memory`: a put that the system has no memory for has failed,
+    /// and `why` says so.
     fn put(&mut self, name: &str, bytes: &[u8]) -> Result<(), OutErr>
         ensures never_memory { result ≢ Err OutErr.Memory }
         ensures failed { result ≡ Err OutErr.Failed → Rose self.old.put_faults self.new.put_faults }
@@ -116,7 +117,8 @@ fn read<R: Files<File = File> + AllocGlobal>(
     answer
 }
 
-// Opens a regular file. A pipe or a terminal would have the program wait, so nothing else is opened at all.
+// Opens a regular file. A pipe or a terminal would have the program wait,
+// so nothing else is opened at all.
 fn opened<R: Files<File = File>>(rt: &R, name: &str) -> io::Result<File> {
     let there = fs::metadata(rt, name)?;
     if there.is_dir() {

@@ -9,7 +9,8 @@ use std::io::ErrorKind;
 use std::os::unix::fs::{MetadataExt, OpenOptionsExt, PermissionsExt};
 use std::{fs, io};
 
-/// The bits of a mode that a new file takes over: not those that let it run as its owner or its group.
+/// The bits of a mode that a new file takes over: not those that let it
+/// run as its owner or its group.
 const KEPT: u32 = 0o777;
 
 /// The real disk. It tells nothing of what was done.
@@ -71,7 +72,8 @@ impl<R: Files<File = File>> Disk for HostDisk<'_, R> {
     fn rename(&mut self, old_name: &str, new_name: &str) -> io::Result<()> {
         fs::rename(self.rt, old_name, new_name)?;
         self.new = None;
-        // The file stands in its place by now, so a folder that cannot be handed to the disk is no fault.
+        // The file stands in its place by now, so a folder that cannot be
+        // handed to the disk is no fault.
         if let Ok(folder) = File::open(self.rt, folder_of(new_name)) {
             let _synced = folder.sync_all();
         }
@@ -95,8 +97,8 @@ fn made<R: Files<File = File>>(rt: &R, name: &str, mode: u32) -> io::Result<Opti
     }
 }
 
-// The new file, unless another run took it for left behind before the lock was on it. Where the system knows no
-// locks, no run takes any.
+// The new file, unless another run took it for left behind before the lock was on it. Where the
+// system knows no locks, no run takes any.
 fn held<R: Files<File = File>>(rt: &R, file: File, name: &str) -> Option<File> {
     match file.try_lock() {
         Err(fs::TryLockError::WouldBlock) => None,
@@ -105,7 +107,8 @@ fn held<R: Files<File = File>>(rt: &R, file: File, name: &str) -> Option<File> {
     }
 }
 
-// Removes the file of this name where a run that was killed has left it behind: nobody holds its lock.
+// Removes the file of this name where a run that was killed has left it behind:
+// nobody holds its lock.
 fn is_cleared<R: Files<File = File>>(rt: &R, name: &str) -> io::Result<bool> {
     if !fs::symlink_metadata(rt, name)?.is_file() {
         return Ok(false);
@@ -120,7 +123,8 @@ fn is_cleared<R: Files<File = File>>(rt: &R, name: &str) -> io::Result<bool> {
     Ok(true)
 }
 
-// Whether the open file still stands under the name: the run that held it may just have put it in its place.
+// Whether the open file still stands under the name: the run that held it may
+// just have put it in its place.
 fn is_at<R: Files<File = File>>(rt: &R, file: &File, name: &str) -> io::Result<bool> {
     let (held, there) = (file.metadata()?, fs::symlink_metadata(rt, name)?);
     Ok(held.dev() == there.dev() && held.ino() == there.ino())

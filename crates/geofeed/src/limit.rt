@@ -4,12 +4,14 @@ use geo_addr::{Lines, cut_at, decimal, trim_blanks};
 use std::fs::{File, Files};
 use std::io::Read;
 
-/// The page on which Linux tells the limits of this process, and the words before the one that counts.
+/// The page on which Linux tells the limits of this process,
+/// and the words before the one that counts.
 const LIMITS: &str = "/proc/self/limits";
 
 const FILE_SIZE: &[u8] = b"Max file size";
 
-/// Whether a file may have so many bytes. A write past that place would end the process by a signal.
+/// Whether a file may have so many bytes. A write past that place
+/// would end the process by a signal.
 pub(crate) fn is_within_limit<R: Files<File = File>>(rt: &R, bytes: u64) -> bool {
     match number_behind(rt, LIMITS, FILE_SIZE) {
         Some(limit) => u128::from(bytes) <= limit,

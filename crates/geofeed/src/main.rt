@@ -1,4 +1,5 @@
-//! The program: the current folder, standard output and the words of the command line, handed to `run`.
+//! The program: the current folder, standard output and the words of the command line,
+//! handed to `run`.
 #![tactic(auto)]
 
 ghost use Rattle.std.specs.Prelude.{◌≡◌, ◌<◌};

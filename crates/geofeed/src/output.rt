@@ -5,8 +5,8 @@ use std::fs::{File, Files};
 use std::io::{ErrorKind, Print, Write};
 use std::{fs, io};
 
-/// The names by which Linux leads to what standard output and standard error are open on, and the pages that tell how far
-/// these are written.
+/// The names by which Linux leads to what standard output and standard error are open on, and the
+/// pages that tell how far these are written.
 const OPEN_ON: &str = "/proc/self/fd/1";
 
 const OPEN_AT: &str = "/proc/self/fdinfo/1";
@@ -15,7 +15,8 @@ const ERRORS_ON: &str = "/proc/self/fd/2";
 
 const ERRORS_AT: &str = "/proc/self/fdinfo/2";
 
-/// Standard output. Where it is a file, a write that would pass the process's limit of file size is refused.
+/// Standard output. Where it is a file, a write that would pass the process's
+/// limit of file size is refused.
 #[derive(Drop)]
 pub(crate) struct Output<'a, R: Print + Files<File = File>> {
     rt: &'a R,

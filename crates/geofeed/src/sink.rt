@@ -10,7 +10,8 @@ use std::io::Write;
 /// The most bytes of a stop line that is kept. A name has at most 255.
 const ROOM: usize = 1024;
 
-/// A sink over a writer, which `main` gives as standard output. It tells nothing of what was written.
+/// A sink over a writer, which `main` gives as standard output.
+/// It tells nothing of what was written.
 #[derive(Drop)]
 pub(crate) struct StdSink<W: Write> {
     out: W,
@@ -59,7 +60,8 @@ impl<W: Write> Sink for StdSink<W> {
 
     ghost faults = { λ sink. sink.faults };
 
-    /// It never answers `Memory`: a write that the system has no memory for has failed, and `why` says so.
+    /// It never answers `Memory`: a write that the system has no memory for has failed,
+    /// and `why` says so.
     fn write_all(&mut self, piece: &[u8]) -> Result<(), OutErr>
         ensures never_memory { result ≢ Err OutErr.Memory }
         ensures failed { result ≡ Err OutErr.Failed → Rose self.old.faults self.new.faults }

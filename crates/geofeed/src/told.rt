@@ -12,8 +12,8 @@ use stop_words::{Stopped, stop_text};
 /// What is said where memory ran out, without taking any.
 pub(crate) const OUT_OF_MEMORY: &str = "geofeed: memory ran out\n";
 
-/// Says in one line why the command of these words stopped: `line` is what was printed of the stop, and `system` what
-/// the system said. Where all was done nothing is said.
+/// Says in one line why the command of these words stopped: `line` is what was printed of the stop,
+/// and `system` what the system said. Where all was done nothing is said.
 pub(crate) fn tell<R: Files<File = File> + Eprint + AllocGlobal>(
     rt: &R,
     words: &[String],

@@ -27,15 +27,19 @@ use Rattle.job_run.proofs.CourseLemmas.{course_blocked}
 use Rattle.job_run.proofs.RunLemmas.{named_move}
 use Rattle.geofeed_cmd.specs.declared.status.Status.{Status}
 use Rattle.geofeed_cmd.specs.declared.status.Status.TheVariants as statuses
-use Rattle.geofeed_cmd.specs.Run.Answers.{ComesTo, IsDone, Leaves, Comes, read, write, memory, spent, IsAnswer}
+use Rattle.geofeed_cmd.specs.Run.Answers.{ComesTo, IsDone, Leaves, Comes, read, write, memory}
+use Rattle.geofeed_cmd.specs.Run.Answers.{spent, IsAnswer}
 use Rattle.geofeed_cmd.specs.Run.Closes.{Closes, EndsWith}
 use Rattle.geofeed_cmd.specs.Run.Ending.{ending, ending_by, ending_of}
 use Rattle.geofeed_cmd.specs.Run.Lines.{status_of, cause_status, stop_line}
-use Rattle.geofeed_cmd.specs.Run.Plans.{Reaches, accepted, file_first, held_job, is_command, job_plan, plan_of, planned, refused}
+use Rattle.geofeed_cmd.specs.Run.Plans.{Reaches, accepted, file_first, held_job, is_command}
+use Rattle.geofeed_cmd.specs.Run.Plans.{job_plan, plan_of, planned, refused}
 use Rattle.geofeed_cmd.proofs.CloseLemmas.{append-nil, leaves, no-line, prints-nothing}
 
 -- an answer that comes to the ending
-comes-ended : (cause : Cause) (command : Option Command) (first : Told) (old new : Seen) (puts puts_now : ℕ) → ComesTo (ending first command) (cause_status cause) old new → Comes (cause_status cause) command first old new puts puts_now
+comes-ended : (cause : Cause) (command : Option Command) (first : Told) (old new : Seen)
+    (puts puts_now : ℕ) → ComesTo (ending first command) (cause_status cause) old new
+    → Comes (cause_status cause) command first old new puts puts_now
 comes-ended causes.Words command first old new puts puts_now comes = comes
 comes-ended causes.Missing command first old new puts puts_now comes = comes
 comes-ended (causes.Job fault) command first old new puts puts_now comes = comes
@@ -47,19 +51,30 @@ comes-ended causes.NoFeed command first old new puts puts_now comes = comes
 comes-ended causes.TooLarge command first old new puts puts_now comes = inl comes
 comes-ended (causes.File fault) command first old new puts puts_now comes = comes
 
-module _ (command : Option Command) (first : Told) (moves : List Move) (start : World) (old new : Seen) (puts puts_now : ℕ) (plan : plan_of first command ≡ planned moves start) where
-  reached : (at : ℕ) (move : Move) (world : World) → IsAt moves start at move world → Reaches command first move world
-  reached at move world there = record { moves = moves; start = start; count = at; plan = plan; there = there }
+module _ (command : Option Command) (first : Told) (moves : List Move) (start : World)
+    (old new : Seen) (puts puts_now : ℕ) (plan : plan_of first command ≡ planned moves start) where
+  reached : (at : ℕ) (move : Move) (world : World) → IsAt moves start at move world
+      → Reaches command first move world
+  reached at move world there =
+      record { moves = moves; start = start; count = at; plan = plan; there = there }
 
-  comes-blocked : (why : Cause) (at : ℕ) (move : Move) (world : World) → IsAt moves start at move world → IsBlocked why move world new.told
-      → Leaves (stops.Blocked why) move world old new → new.steps ≤ old.steps + (effect move world).session.spent
+  comes-blocked : (why : Cause) (at : ℕ) (move : Move) (world : World)
+      → IsAt moves start at move world → IsBlocked why move world new.told
+      → Leaves (stops.Blocked why) move world old new
+      → new.steps ≤ old.steps + (effect move world).session.spent
       → ComesTo (ending first command) (cause_status why) old new
   comes-blocked why at move world there stop printed steps =
-      let e : ending_of (stopped move why world) ≡ ending first command = sym (ap (ending_by first) plan ∙ ap ending_of (course_blocked moves start at move world why there stop.cause)) in
-      subst (λ end. ComesTo end (cause_status why) old new) e (record { same = refl; files = stop.files; printed = printed; steps = steps })
+      let e : ending_of (stopped move why world) ≡ ending first command =
+      sym (ap (ending_by first) plan
+      ∙ ap ending_of (course_blocked moves start at move world why there stop.cause)) in
+      subst (λ end. ComesTo end (cause_status why) old new) e
+      (record { same = refl; files = stop.files; printed = printed; steps = steps })
 
-  comes-uncounted : (why : Cause) (at : ℕ) (move : Move) (world : World) → IsAt moves start at move world → IsUncounted why move world new.told
-      → Leaves (stops.Blocked why) move world old new → new.steps ≤ old.steps + (effect move world).session.spent → Comes (cause_status why) command first old new puts puts_now
+  comes-uncounted : (why : Cause) (at : ℕ) (move : Move) (world : World)
+      → IsAt moves start at move world → IsUncounted why move world new.told
+      → Leaves (stops.Blocked why) move world old new
+      → new.steps ≤ old.steps + (effect move world).session.spent
+      → Comes (cause_status why) command first old new puts puts_now
   comes-uncounted why at move world there stop printed steps =
       subst (λ c. Comes (cause_status c) command first old new puts puts_now) (sym stop.large)
       (inr (record {
@@ -75,26 +90,65 @@ module _ (command : Option Command) (first : Told) (moves : List Move) (start : 
       }))
 
   -- the answer of a stop, by its cause
-  pub by_cause : (why : Stop) (at : ℕ) (move : Move) (world : World) → IsAt moves start at move world → Halts why move world new.told
+  pub by_cause : (why : Stop) (at : ℕ) (move : Move) (world : World)
+      → IsAt moves start at move world → Halts why move world new.told
       → Leaves why move world old new → new.steps ≤ old.steps + (effect move world).session.spent
-      → (why ≡ stops.PutFailed → Rose puts puts_now) → (why ≡ stops.SinkFailed → Rose old.print_faults new.print_faults)
+      → (why ≡ stops.PutFailed → Rose puts puts_now)
+      → (why ≡ stops.SinkFailed → Rose old.print_faults new.print_faults)
       → Comes (status_of why) command first old new puts puts_now
   by_cause (stops.Blocked why) at move world there files left steps put sink =
       elim files [
-        | inl stop ↦ comes-ended why command first old new puts puts_now (comes-blocked why at move world there stop left steps)
+        | inl stop ↦ comes-ended why command first old new puts puts_now
+            (comes-blocked why at move world there stop left steps)
         | inr many ↦ comes-uncounted why at move world there many left steps
       ]
   by_cause stops.ReadFailed at move world there files left steps put sink =
-      inr (record { move = move; world = world; there = reached at move world there; files = files; printed = left; steps = steps })
+      inr (record {
+        move = move;
+        world = world;
+        there = reached at move world there;
+        files = files;
+        printed = left;
+        steps = steps;
+      })
   by_cause stops.PutFailed at move world there files left steps put sink =
-      inl (record { rose = put refl; at = record { move = move; world = world; there = reached at move world there; files = files; printed = left; steps = steps } })
+      inl (record {
+        rose = put refl;
+        at = record {
+          move = move;
+          world = world;
+          there = reached at move world there;
+          files = files;
+          printed = left;
+          steps = steps;
+        };
+      })
   by_cause stops.SinkFailed at move world there files left steps put sink =
-      inr (record { rose = sink refl; at = record { move = move; world = world; there = reached at move world there; files = files; printed = left; steps = steps } })
+      inr (record {
+        rose = sink refl;
+        at = record {
+          move = move;
+          world = world;
+          there = reached at move world there;
+          files = files;
+          printed = left;
+          steps = steps;
+        };
+      })
   by_cause stops.Memory at move world there files left steps put sink =
-      inr (record { move = move; world = world; there = reached at move world there; files = files; printed = left; steps = steps })
+      inr (record {
+        move = move;
+        world = world;
+        there = reached at move world there;
+        files = files;
+        printed = left;
+        steps = steps;
+      })
 
 -- the answer of a command is that of its ending, or the ending yields to it
-pub answered : (status : Status) (command : Option Command) (first : Told) (old new : Seen) (puts puts_now : ℕ) → Comes status command first old new puts puts_now → IsAnswer command first status
+pub answered : (status : Status) (command : Option Command) (first : Told)
+    (old new : Seen) (puts puts_now : ℕ) → Comes status command first old new puts puts_now
+    → IsAnswer command first status
 answered statuses.Done command first old new puts puts_now done =
     inl (ap (λ e. e.status) (ap (ending_by first) done.plan ∙ ap ending_of done.all))
 answered statuses.Memory command first old new puts puts_now comes = inr memory
@@ -107,7 +161,12 @@ answered statuses.Source command first old new puts puts_now comes = inl comes.s
 answered statuses.TooLarge command first old new puts puts_now comes =
     elim comes [
       | inl ended ↦ inl ended.same
-      | inr large ↦ inr (spent (record { move = large.at.move; world = large.at.world; there = large.at.there; spent = large.spent }))
+      | inr large ↦ inr (spent (record {
+        move = large.at.move;
+        world = large.at.world;
+        there = large.at.there;
+        spent = large.spent;
+      }))
     ]
 answered statuses.File command first old new puts puts_now comes = inl comes.same
 answered statuses.Drop command first old new puts puts_now comes = inl comes.same
@@ -115,8 +174,10 @@ answered statuses.Mark command first old new puts puts_now comes = inl comes.sam
 answered statuses.Absent command first old new puts puts_now comes = inl comes.same
 
 -- a count of puts that failed that was lower before
-pub comes_earlier : (status : Status) (command : Option Command) (first : Told) (old new : Seen) (earlier puts puts_now : ℕ) → earlier ≤ puts
-    → Comes status command first old new puts puts_now → Comes status command first old new earlier puts_now
+pub comes_earlier : (status : Status) (command : Option Command) (first : Told) (old new : Seen)
+    (earlier puts puts_now : ℕ) → earlier ≤ puts
+    → Comes status command first old new puts puts_now
+    → Comes status command first old new earlier puts_now
 comes_earlier statuses.Done command first old new earlier puts puts_now rises comes = comes
 comes_earlier statuses.Memory command first old new earlier puts puts_now rises comes = comes
 comes_earlier statuses.Words command first old new earlier puts puts_now rises comes = comes
@@ -124,7 +185,10 @@ comes_earlier statuses.ReadFault command first old new earlier puts puts_now ris
 comes_earlier statuses.Missing command first old new earlier puts puts_now rises comes = comes
 comes_earlier statuses.WriteFault command first old new earlier puts puts_now rises comes =
     elim comes [
-      | inl unput ↦ inl (record { rose = let rose : Rose puts puts_now = unput.rose in omega arith; at = unput.at })
+      | inl unput ↦ inl (record {
+        rose = let rose : Rose puts puts_now = unput.rose in omega arith;
+        at = unput.at;
+      })
       | inr unprinted ↦ inr unprinted
     ]
 comes_earlier statuses.Job command first old new earlier puts puts_now rises comes = comes
@@ -136,8 +200,10 @@ comes_earlier statuses.Mark command first old new earlier puts puts_now rises co
 comes_earlier statuses.Absent command first old new earlier puts puts_now rises comes = comes
 
 -- a move that a command reaches is one of the moves of its plan
-pub at_planned : (command : Option Command) (first : Told) (moves : List Move) (start : World) → plan_of first command ≡ planned moves start
-    → (move : Move) (world : World) (reach : Reaches command first move world) → IsAt moves start reach.count move world
+pub at_planned : (command : Option Command) (first : Told) (moves : List Move) (start : World)
+    → plan_of first command ≡ planned moves start
+    → (move : Move) (world : World) (reach : Reaches command first move world)
+    → IsAt moves start reach.count move world
 at_planned command first moves start plan move world reach =
     let e : planned reach.moves reach.start ≡ planned moves start = sym reach.plan ∙ plan in
     let done = reach.there.done in
@@ -145,7 +211,9 @@ at_planned command first moves start plan move world reach =
     record { done = cc; next = cc }
 
 -- all moves were made
-pub comes_done : (command : Option Command) (first : Told) (moves : List Move) (start : World) (old new : Seen) (session : Held) → plan_of first command ≡ planned moves start → start.session.spent ≡ 0
+pub comes_done : (command : Option Command) (first : Told) (moves : List Move)
+    (start : World) (old new : Seen) (session : Held) → plan_of first command ≡ planned moves start
+    → start.session.spent ≡ 0
     → DoesAll moves start session old new → IsDone command first old new
 comes_done command first moves start old new session plan unspent all = record {
   moves = moves;
@@ -155,61 +223,102 @@ comes_done command first moves start old new session plan unspent all = record {
   all = all.done;
   files = all.stands.tells;
   printed = all.printed;
-  steps = let steps : new.steps + start.session.spent ≤ old.steps + all.world.session.spent = all.steps in omega (arith, unspent);
-  published = λ move world reach. all.published reach.count move world (at_planned command first moves start plan move world reach);
+  steps =
+      let steps : new.steps + start.session.spent ≤ old.steps + all.world.session.spent =
+      all.steps in omega (arith, unspent);
+  published =
+      λ move world reach. all.published reach.count move world
+      (at_planned command first moves start plan move world reach);
 }
 
 -- a move that belongs to a step has its line
 move-line : (move : Move) (step : Step) → step_of move ≡ Some step → step.line ≡ line_of move
-move-line (looks other) step its = let same : other ≡ step = cc in ap (λ (s : Step). s.line) (sym same)
-move-line (counts other) step its = let same : other ≡ step = cc in ap (λ (s : Step). s.line) (sym same)
-move-line (does other) step its = let same : other ≡ step = cc in ap (λ (s : Step). s.line) (sym same)
+move-line (looks other) step its =
+    let same : other ≡ step = cc in
+    ap (λ (s : Step). s.line) (sym same)
+move-line (counts other) step its =
+    let same : other ≡ step = cc in
+    ap (λ (s : Step). s.line) (sym same)
+move-line (does other) step its =
+    let same : other ≡ step = cc in
+    ap (λ (s : Step). s.line) (sym same)
 move-line (shows last) step its = absurd (cc)
 
 -- one of the steps of a job was not done, and a line was printed behind
-pub comes_stop : (command : Option Command) (first : Told) (list : List Step) (moves all : List Move) (start : World)
+pub comes_stop : (command : Option Command) (first : Told) (list : List Step)
+    (moves all : List Move) (start : World)
     (old mid : Seen) (written : Option (List ℕ)) (faults : ℕ)
     → plan_of first command ≡ planned all start → start.session.spent ≡ 0
-    → ((count : ℕ) (move : Move) (world : World) → IsAt moves start count move world → IsAt all start count move world)
+    → ((count : ℕ) (move : Move) (world : World) → IsAt moves start count move world
+    → IsAt all start count move world)
     → (why : Stop) (at : ℕ) (stop : StopsAt why at moves list start old mid)
     → Closes mid.written written mid.print_faults faults []
     (stop_line why stop.step.line (file_named stop.step.act)) → old.print_faults ≤ mid.print_faults
     → (puts puts_now : ℕ) → (why ≡ stops.PutFailed → Rose puts puts_now)
     → (why ≡ stops.SinkFailed → Rose old.print_faults faults)
     → Comes (status_of why) command first old (seen mid.told written faults mid.steps) puts puts_now
-comes_stop command first list moves all start old mid written faults plan unspent lift why at stop closed rises puts puts_now put sink =
+comes_stop command first list moves all start old mid written faults plan unspent lift why at stop
+    closed rises puts puts_now put sink =
     let line = stop_line why stop.step.line (file_named stop.step.act) in
     let is : line ≡ stop_line why (line_of stop.move) (effect stop.move stop.world).name =
     ap (λ n. stop_line why n (file_named stop.step.act)) (move-line stop.move stop.step stop.its)
-    ∙ ap (stop_line why (line_of stop.move)) (sym (named_move stop.move stop.step stop.world stop.its)) in
+    ∙ ap (stop_line why (line_of stop.move))
+    (sym (named_move stop.move stop.step stop.world stop.its)) in
     let steps : mid.steps ≤ old.steps + (effect stop.move stop.world).session.spent =
     let paid = stop.spent in omega (arith, unspent, paid) in
-    by_cause command first all start old (seen mid.told written faults mid.steps) puts puts_now plan why stop.count stop.move stop.world
+    by_cause command first all start old
+    (seen mid.told written faults mid.steps) puts puts_now plan why stop.count stop.move stop.world
     (lift stop.count stop.move stop.world stop.there) stop.fails.files
-    (leaves why stop.move stop.world old (seen mid.told written faults mid.steps) mid.written mid.print_faults line is stop.fails.printed closed rises)
+    (leaves why stop.move stop.world old (seen mid.told written faults mid.steps) mid.written
+    mid.print_faults line is stop.fails.printed closed rises)
     steps put sink
 
 -- a command that is refused before its first move
-comes-refused : (command : Option Command) (first : Told) (cause : Cause) (name : List ℕ) (old new : Seen) → plan_of first command ≡ refused cause name → new.told ≡ Some first
-    → EndsWith old new [] (stop_line (stops.Blocked cause) 0 name) → new.steps ≤ old.steps → ComesTo (ending first command) (cause_status cause) old new
+comes-refused : (command : Option Command) (first : Told) (cause : Cause) (name : List ℕ)
+    (old new : Seen) → plan_of first command ≡ refused cause name → new.told ≡ Some first
+    → EndsWith old new [] (stop_line (stops.Blocked cause) 0 name) → new.steps ≤ old.steps
+    → ComesTo (ending first command) (cause_status cause) old new
 comes-refused command first cause name old new plan files closed steps =
     subst (λ end. ComesTo end (cause_status cause) old new) (sym (ap (ending_by first) plan))
-    (record { same = refl; files = files; printed = closed; steps = let e : new.steps ≤ old.steps + 0 = omega arith in e })
+    (record {
+      same = refl;
+      files = files;
+      printed = closed;
+      steps = let e : new.steps ≤ old.steps + 0 = omega arith in e;
+    })
 
 -- a command that stops before its first move
-pub comes_hindered : (known : Command) (name : List ℕ) (first : Told) (old new : Seen) (puts puts_now : ℕ) → file_first known ≡ Some name
-    → (why : Stop) → IsHindered why (λ cause. plan_of first (Some known) ≡ refused cause name) → new.told ≡ Some first
-    → EndsWith old new [] (stop_line why 0 name) → new.steps ≤ old.steps → Comes (status_of why) (Some known) first old new puts puts_now
-comes_hindered known name first old new puts puts_now named (stops.Blocked cause) stop files closed steps =
-    comes-ended cause (Some known) first old new puts puts_now (comes-refused (Some known) first cause name old new stop files closed steps)
-comes_hindered known name first old new puts puts_now named stops.ReadFailed stop files closed steps =
-    inl (record { known = known; name = name; commanded = refl; named = named; files = files; printed = closed; steps = steps })
-comes_hindered known name first old new puts puts_now named stops.PutFailed stop files closed steps = absurd stop
-comes_hindered known name first old new puts puts_now named stops.SinkFailed stop files closed steps = absurd stop
+pub comes_hindered : (known : Command) (name : List ℕ) (first : Told) (old new : Seen)
+    (puts puts_now : ℕ) → file_first known ≡ Some name
+    → (why : Stop) → IsHindered why (λ cause. plan_of first (Some known) ≡ refused cause name)
+    → new.told ≡ Some first
+    → EndsWith old new [] (stop_line why 0 name) → new.steps ≤ old.steps
+    → Comes (status_of why) (Some known) first old new puts puts_now
+comes_hindered known name first old new puts puts_now named
+    (stops.Blocked cause) stop files closed steps =
+    comes-ended cause (Some known) first old new puts puts_now
+    (comes-refused (Some known) first cause name old new stop files closed steps)
+comes_hindered known name first old new puts puts_now named stops.ReadFailed stop files
+    closed steps =
+    inl (record {
+      known = known;
+      name = name;
+      commanded = refl;
+      named = named;
+      files = files;
+      printed = closed;
+      steps = steps;
+    })
+comes_hindered known name first old new puts puts_now named stops.PutFailed stop files closed
+    steps = absurd stop
+comes_hindered known name first old new puts puts_now named stops.SinkFailed stop files closed
+    steps = absurd stop
 comes_hindered known name first old new puts puts_now named stops.Memory stop files closed steps =
     inl (record {
       files = files;
-      printed = prints-nothing old.written new.written old.print_faults new.print_faults [] (subst (EndsWith old new []) (no-line 0 name).1 closed);
+      printed =
+          prints-nothing old.written new.written old.print_faults new.print_faults []
+          (subst (EndsWith old new []) (no-line 0 name).1 closed);
       steps = steps;
     })
 
@@ -240,7 +349,8 @@ pub comes_words : (command : Option Command) (first : Told) (old new : Seen) (pu
     → EndsWith old new [] (stop_line (stops.Blocked causes.Words) 0 []) → new.steps ≤ old.steps
     → Comes statuses.Words command first old new puts puts_now
 comes_words command first old new puts puts_now none files closed steps =
-    comes-refused command first causes.Words [] old new (no-plan command first none) files closed steps
+    comes-refused command first causes.Words [] old new
+    (no-plan command first none) files closed steps
 
 if-true : {A : Type 0} (b : Bool) (x y : A) → b ≡ true → (if b then x else y) ≡ x
 if-true true x y h = refl
@@ -250,7 +360,8 @@ too-long : (bytes : List ℕ) → 1048576 < length bytes → job bytes ≡ Err j
 unfolding job
 too-long bytes long =
     if-true (nat_lt 1048576 (length bytes)) (Err job_faults.TooLong)
-    (if is_utf8 bytes then job_of_draft (draft_from (numbered_lines bytes) no_lines) else Err job_faults.Utf8)
+    (if is_utf8 bytes then job_of_draft (draft_from (numbered_lines bytes) no_lines)
+    else Err job_faults.Utf8)
     (search rules)
 
 -- a job of too many bytes
@@ -260,7 +371,8 @@ held-too-long None long = absurd long
 held-too-long (Some bytes) long = ap accepted (too-long bytes long)
 
 -- a job that is there, or is not, as the plan of a command
-pub hindered_job : (known : Command) (first : Told) (name : List ℕ) (why : Stop) (file : Option (List ℕ))
+pub hindered_job : (known : Command) (first : Told) (name : List ℕ) (why : Stop)
+    (file : Option (List ℕ))
     → IsHindered why (λ cause. held_job file ≡ Err cause)
     → IsHindered why (λ cause. job_plan known first name (held_job file) ≡ refused cause name)
 hindered_job known first name (stops.Blocked cause) file stop = ap (job_plan known first name) stop

@@ -1,6 +1,8 @@
 -- The causes for which a move of a command is blocked.
-use Rattle.std.proofs.Common.{◌≡◌, ℕ, zero, suc, Bool, true, false, nat_lt, List, [], ◌∷◌, ◌++◌, length, map, subst}
-use Rattle.std.specs.Prelude.{is_some, Option, Some, None, Result, Ok, Err, slice_get, if◌then◌else◌}
+use Rattle.std.proofs.Common.{◌≡◌, ℕ, zero, suc, Bool, true, false, nat_lt, List, [], ◌∷◌, ◌++◌}
+use Rattle.std.proofs.Common.{length, map, subst}
+use Rattle.std.specs.Prelude.{is_some, Option, Some, None, Result, Ok, Err, slice_get}
+use Rattle.std.specs.Prelude.{if◌then◌else◌}
 use Rattle.geo_terms.specs.SourceForm.{DumpParts, FeedParts}
 use Rattle.geo_terms.specs.Sources.{feed_of}
 use Rattle.geo_terms.specs.declared.source.SourceFault.{SourceFault}
@@ -23,7 +25,8 @@ use Rattle.job_run.specs.declared.stop.Cause.TheVariants as causes
 use Rattle.job_run.specs.Acts.{Move, looks, counts, does, shows, act_effect, blocked}
 use Rattle.job_run.specs.Dumps.{no_dump, refusal}
 use Rattle.job_run.specs.Moves.{alone, most_together, moves_from, sets_feed, takes, together}
-use Rattle.job_run.specs.Sources.{crowded, entries_of, file_named, is_there, no_source, rows_of, settings_of, uncounted, unreadable, unusable}
+use Rattle.job_run.specs.Sources.{crowded, entries_of, file_named, is_there, no_source, rows_of}
+use Rattle.job_run.specs.Sources.{settings_of, uncounted, unreadable, unusable}
 use Rattle.job_run.specs.World.{World, file_in, printing}
 use Rattle.publish_move.specs.Publishing.{publishing}
 use Rattle.geofeed_cmd.specs.Commands.Census.{counting as census_of}
@@ -48,7 +51,8 @@ abbrev pub AreOfMove : Option Cause → Type 0
 AreOfMove None = Unit {0}
 AreOfMove (Some why) = IsOfMove why
 
-either : (b : Bool) (x y : Option Cause) → AreOfMove x → AreOfMove y → AreOfMove (if b then x else y)
+either : (b : Bool) (x y : Option Cause) → AreOfMove x → AreOfMove y
+    → AreOfMove (if b then x else y)
 either true x y p q = p
 either false x y p q = q
 
@@ -69,7 +73,8 @@ setting None room statements (Some bytes) its = counting room (statements bytes)
 
 using : (limit room : ℕ) (statements : List ℕ → ℕ) (held : Option (List ℕ))
     → AreOfMove (unusable limit room statements held)
-using limit room statements held = setting (unreadable limit held) room statements held (reading limit held)
+using limit room statements held =
+    setting (unreadable limit held) room statements held (reading limit held)
 
 refusing : (found : Result DumpParts SourceFault) → AreOfMove (refusal found)
 refusing (Ok found) = tt
@@ -100,7 +105,8 @@ acting (acts.Feed url file) world = tt
 acting (acts.Overrides file) world = sourcing (acts.Overrides file) (file_in world file)
 acting (acts.Drop source) world =
     either (is_there source world.session.state.sources) None (Some causes.NotThere) tt tt
-acting (acts.Emit file) world = either (is_too_large world.session.state) (Some causes.TooLarge) None tt tt
+acting (acts.Emit file) world =
+    either (is_too_large world.session.state) (Some causes.TooLarge) None tt tt
 acting acts.Report world = tt
 acting (acts.Mark name) world = tt
 acting (acts.Back name) world =
@@ -112,7 +118,8 @@ abbrev pub AreFit : List Move → Type 0
 AreFit [] = Unit {0}
 AreFit (move ∷ moves) = ((world : World) → AreOfMove (blocked move world)) × AreFit moves
 
-pub fit_at : (moves : List Move) (count : ℕ) (move : Move) → AreFit moves → slice_get moves count ≡ Some move
+pub fit_at : (moves : List Move) (count : ℕ) (move : Move) → AreFit moves
+    → slice_get moves count ≡ Some move
     → (world : World) → AreOfMove (blocked move world)
 fit_at [] count move fit next world = absurd (cc)
 fit_at (first ∷ rest) zero move fit next world =
@@ -123,13 +130,15 @@ pub fit_append : (moves more : List Move) → AreFit moves → AreFit more → A
 fit_append [] more fit also = also
 fit_append (move ∷ moves) more fit also = (fit.0, fit_append moves more fit.1 also)
 
-fit-choice : (b : Bool) (moves more : List Move) → AreFit moves → AreFit more → AreFit (if b then moves else more)
+fit-choice : (b : Bool) (moves more : List Move) → AreFit moves → AreFit more
+    → AreFit (if b then moves else more)
 fit-choice true moves more fit also = fit
 fit-choice false moves more fit also = also
 
 fit-looks : (group : List Step) → AreFit (map looks group)
 fit-looks [] = tt
-fit-looks (step ∷ steps) = (λ world. reading longest_feed (file_in world (file_named step.act)), fit-looks steps)
+fit-looks (step ∷ steps) =
+    (λ world. reading longest_feed (file_in world (file_named step.act)), fit-looks steps)
 
 fit-counts : (group : List Step) → AreFit (map counts group)
 fit-counts [] = tt
@@ -158,7 +167,8 @@ fit_moves scope group (step ∷ steps) =
     (fit_moves scope (group ++ step ∷ []) steps)
     (fit_append (together group) (moves_from scope (step ∷ []) steps) (fit-together group)
     (fit_moves scope (step ∷ []) steps)))
-    (fit_append (together group) (alone scope step ++ moves_from scope [] steps) (fit-together group)
+    (fit_append (together group) (alone scope step ++ moves_from scope [] steps)
+    (fit-together group)
     (fit_append (alone scope step) (moves_from scope [] steps) (fit-alone scope step)
     (fit_moves scope [] steps)))
 
@@ -176,14 +186,17 @@ pub fit_for : (known : Command) (steps : List Step) → AreFit (moves_for known 
 fit_for (commands.build name) steps = fit_moves Whole [] steps
 fit_for (commands.lookup name address) steps = tt
 fit_for (commands.explain name address) steps =
-    fit_append (moves_from Sources [] steps) (shows (explaining address) ∷ []) (fit_moves Sources [] steps)
+    fit_append (moves_from Sources [] steps) (shows (explaining address) ∷ [])
+    (fit_moves Sources [] steps)
     (λ world. tt, tt)
 fit_for (commands.gen lines file) steps = tt
 fit_for (commands.publish name block file) steps =
-    fit_append (moves_from Sources [] steps) (shows (publishing block file) ∷ []) (fit_moves Sources [] steps)
+    fit_append (moves_from Sources [] steps) (shows (publishing block file) ∷ [])
+    (fit_moves Sources [] steps)
     (λ world. tt, tt)
 fit_for (commands.check name url) steps =
-    fit_append (moves_from Sources [] steps) (shows (checking url) ∷ []) (fit_moves Sources [] steps)
+    fit_append (moves_from Sources [] steps) (shows (checking url) ∷ [])
+    (fit_moves Sources [] steps)
     (λ world. checked (feed_of world.session.state.sources url), tt)
 fit_for (commands.census name) steps =
     fit_append (moves_from Sources [] steps) (shows census_of ∷ []) (fit_moves Sources [] steps)

@@ -1,5 +1,6 @@
 -- How a command's answer follows from its last move, behind the sources of its job.
-use Rattle.std.proofs.Common.{◌≡◌, ℕ, zero, suc, ◌+◌, ◌≤◌, ◌⊎◌, inl, inr, List, [], ◌∷◌, ◌++◌, length, take, refl, sym}
+use Rattle.std.proofs.Common.{◌≡◌, ℕ, zero, suc, ◌+◌, ◌≤◌, ◌⊎◌, inl, inr, List, [], ◌∷◌, ◌++◌}
+use Rattle.std.proofs.Common.{length, take, refl, sym}
 use Rattle.std.proofs.Common.{◌∙◌, ap, subst, arith, append_assoc}
 use Rattle.std.proofs.lemmas.List.{take-append-le}
 use Rattle.std.proofs.lemmas.Option.{slice_get_within}
@@ -58,9 +59,12 @@ prints_still old mid new text first then before was =
 
 tail_more : (why : Stop) (old mid new : Option (List ℕ)) (text part : List ℕ)
     → Prints old mid text → Tail why [] part mid new → Tail why text part old new
-tail_more (stops.Blocked cause) old mid new text part first tail = prints_still old mid new text first tail
-tail_more stops.ReadFailed old mid new text part first tail = prints_still old mid new text first tail
-tail_more stops.PutFailed old mid new text part first tail = prints_still old mid new text first tail
+tail_more (stops.Blocked cause) old mid new text part first tail =
+    prints_still old mid new text first tail
+tail_more stops.ReadFailed old mid new text part first tail =
+    prints_still old mid new text first tail
+tail_more stops.PutFailed old mid new text part first tail =
+    prints_still old mid new text first tail
 tail_more stops.SinkFailed old mid new text part first tail = λ before was.
     let p = tail (before ++ text) (first before was) in
     (p.0, p.1 ∙ ap Some (append_assoc before text (take p.0 part)))
@@ -91,10 +95,12 @@ place-in (first ∷ rest) last (suc count) move next = elim (place-in rest last 
 ]
 
 module _ (command : Option Command) (first : Told) (moves : List Move) (last : Move) (start : World)
-    (plan : plan_of first command ≡ planned (moves ++ last ∷ []) start) (unspent : start.session.spent ≡ 0)
+    (plan : plan_of first command ≡ planned (moves ++ last ∷ []) start)
+    (unspent : start.session.spent ≡ 0)
     (session : Held) (old mid : Seen) (all : DoesAll moves start session old mid) where
   -- the last move was made
-  pub comes_last : (session' : Held) (new : Seen) → IsPaid (effect last all.world) all.world mid.steps new.steps
+  pub comes_last : (session' : Held) (new : Seen)
+      → IsPaid (effect last all.world) all.world mid.steps new.steps
       → Does last all.world session' mid new → IsDone command first old new
   comes_last session' new paid made = record {
     moves = moves ++ last ∷ [];
@@ -104,14 +110,18 @@ module _ (command : Option Command) (first : Told) (moves : List Move) (last : M
     all = course-append moves (last ∷ []) start ∙ ap (λ o. go_on o (last ∷ [])) all.done
         ∙ ap (λ b. unless b last all.world (ended (after last all.world))) made.free;
     files = made.now.tells;
-    printed = prints_more old.written mid.written new.written all.world.text (effect last all.world).text
+    printed =
+        prints_more old.written mid.written new.written all.world.text (effect last all.world).text
         all.printed made.printed;
     steps = (let p = all.steps in omega (arith, p, paid, unspent));
     published = λ move world reach.
         let there = at_planned command first (moves ++ last ∷ []) start plan move world reach in
         elim (place-in moves last reach.count move there.next) [
           | among here same ↦ all.published reach.count move world
-              (record { done = ap (λ (ms : List Move). course ms start) (sym same) ∙ there.done; next = here })
+              (record {
+                done = ap (λ (ms : List Move). course ms start) (sym same) ∙ there.done;
+                next = here;
+              })
           | at_end is same ↦
               let both : ended all.world ≡ ended world =
               sym all.done ∙ ap (λ (ms : List Move). course ms start) (sym same) ∙ there.done in
@@ -122,27 +132,37 @@ module _ (command : Option Command) (first : Told) (moves : List Move) (last : M
   }
 
   -- the last move was not made, and a line was printed behind
-  pub comes_unmade : (why : Stop) (new : Seen) (written : Option (List ℕ)) (faults : ℕ) (line : List ℕ)
+  pub comes_unmade : (why : Stop) (new : Seen) (written : Option (List ℕ)) (faults : ℕ)
+      (line : List ℕ)
       → line ≡ stop_line why (line_of last) (effect last all.world).name
-      → IsPaid (effect last all.world) all.world mid.steps new.steps → Fails why last all.world [] mid new
-      → Closes new.written written new.print_faults faults [] line → old.print_faults ≤ new.print_faults
+      → IsPaid (effect last all.world) all.world mid.steps new.steps
+      → Fails why last all.world [] mid new
+      → Closes new.written written new.print_faults faults [] line
+      → old.print_faults ≤ new.print_faults
       → (puts puts_now : ℕ) → (why ≡ stops.PutFailed → Rose puts puts_now)
       → (why ≡ stops.SinkFailed → Rose old.print_faults faults)
-      → Comes (status_of why) command first old (seen new.told written faults new.steps) puts puts_now
+      → Comes (status_of why) command first old
+      (seen new.told written faults new.steps) puts puts_now
   comes_unmade why new written faults line is paid fails closed rises puts puts_now put sink =
       let now = seen new.told written faults new.steps in
-      let printed = tail_more why old.written mid.written new.written all.world.text (effect last all.world).text
+      let printed =
+      tail_more why old.written mid.written new.written all.world.text (effect last all.world).text
       all.printed fails.printed in
       let steps : now.steps ≤ old.steps + (effect last all.world).session.spent =
       let p = all.steps in omega (arith, p, paid, unspent) in
-      by_cause command first (moves ++ last ∷ []) start old now puts puts_now plan why (length moves) last all.world
+      by_cause command first (moves ++ last ∷ []) start old now puts puts_now plan why
+      (length moves) last all.world
       (at_last moves last start all.world all.done) fails.files
-      (leaves why last all.world old now new.written new.print_faults line is printed closed rises) steps put sink
+      (leaves why last all.world old now new.written new.print_faults line is printed closed rises)
+      steps put sink
 
 -- the last move only prints
-module _ (text : World → List ℕ) (command : Option Command) (first : Told) (moves : List Move) (start : World)
-    (plan : plan_of first command ≡ planned (moves ++ shows (λ world. printing (text world) world) ∷ []) start)
-    (unspent : start.session.spent ≡ 0) (session : Held) (old mid : Seen) (all : DoesAll moves start session old mid)
+module _ (text : World → List ℕ) (command : Option Command) (first : Told) (moves : List Move)
+    (start : World)
+    (plan : plan_of first command
+    ≡ planned (moves ++ shows (λ world. printing (text world) world) ∷ []) start)
+    (unspent : start.session.spent ≡ 0) (session : Held) (old mid : Seen)
+    (all : DoesAll moves start session old mid)
     (new : Seen) (told : new.told ≡ mid.told) (steps : new.steps ≡ mid.steps) where
   abbrev shown : Move
   shown = shows (λ world. printing (text world) world)
@@ -166,12 +186,14 @@ module _ (text : World → List ℕ) (command : Option Command) (first : Told) (
     files = elim causes [
       | inl failed ↦ subst (λ w. Halts w shown all.world new.told) (sym failed)
           (record { prints = tt; free = refl; files = told ∙ all.stands.tells })
-      | inr out ↦ subst (λ w. Halts w shown all.world new.told) (sym out) (inl (told ∙ all.stands.tells))
+      | inr out ↦
+          subst (λ w. Halts w shown all.world new.told) (sym out) (inl (told ∙ all.stands.tells))
     ];
     printed = tail;
   }
 
-  no-line-of : (why : Stop) → (why ≡ stops.SinkFailed) ⊎ (why ≡ stops.Memory) → [] ≡ stop_line why 0 []
+  no-line-of : (why : Stop)
+      → (why ≡ stops.SinkFailed) ⊎ (why ≡ stops.Memory) → [] ≡ stop_line why 0 []
   no-line-of why causes = elim causes [
     | inl failed ↦ sym (ap (λ w. stop_line w 0 []) failed ∙ (no-line 0 []).0)
     | inr out ↦ sym (ap (λ w. stop_line w 0 []) out ∙ (no-line 0 []).1)
@@ -182,9 +204,11 @@ module _ (text : World → List ℕ) (command : Option Command) (first : Told) (
       → (puts puts_now : ℕ) → (why ≡ stops.SinkFailed → Rose old.print_faults new.print_faults)
       → Comes (status_of why) command first old new puts puts_now
   comes_unshown why causes tail rises puts puts_now sink =
-      comes_unmade command first moves shown start plan unspent session old mid all why new new.written
+      comes_unmade command first moves shown start plan unspent session old mid all why
+      new new.written
       new.print_faults [] (no-line-of why causes) paid (fails why causes tail)
-      (closes-nothing new.written new.written new.print_faults new.print_faults refl) rises puts puts_now
+      (closes-nothing new.written new.written new.print_faults new.print_faults refl) rises
+      puts puts_now
       (λ put. absurd (elim causes [
         | inl failed ↦ (let a = put in let b = failed in cc)
         | inr out ↦ (let a = put in let b = out in cc)

@@ -1,9 +1,11 @@
 -- Which stop has a status.
 use Rattle.std.proofs.Common.{◌≡◌, ◌⊎◌, inl, inr, refl}
 use Rattle.geofeed_cmd.specs.declared.status.Status.TheVariants as statuses
-use Rattle.job_run.specs.declared.stop.Cause.TheVariants.{Words, Missing, Job, TooLong, TooMany, NotThere, NoMark, NoFeed, TooLarge, File}
+use Rattle.job_run.specs.declared.stop.Cause.TheVariants.{Words, Missing, Job, TooLong, TooMany}
+use Rattle.job_run.specs.declared.stop.Cause.TheVariants.{NotThere, NoMark, NoFeed, TooLarge, File}
 use Rattle.job_run.specs.declared.stop.Stop.{Stop}
-use Rattle.job_run.specs.declared.stop.Stop.TheVariants.{Blocked, ReadFailed, PutFailed, SinkFailed, Memory}
+use Rattle.job_run.specs.declared.stop.Stop.TheVariants.{Blocked, ReadFailed, PutFailed, SinkFailed}
+use Rattle.job_run.specs.declared.stop.Stop.TheVariants.{Memory}
 use Rattle.geofeed_cmd.specs.Run.Lines.{status_of}
 
 pub read_status : (why : Stop) → status_of why ≡ statuses.ReadFault → why ≡ ReadFailed
@@ -54,7 +56,8 @@ words_status PutFailed is = cc
 words_status SinkFailed is = cc
 words_status Memory is = cc
 
-pub write_status : (why : Stop) → status_of why ≡ statuses.WriteFault → (why ≡ PutFailed) ⊎ (why ≡ SinkFailed)
+pub write_status : (why : Stop) → status_of why ≡ statuses.WriteFault
+    → (why ≡ PutFailed) ⊎ (why ≡ SinkFailed)
 write_status (Blocked Words) is = absurd (cc)
 write_status (Blocked Missing) is = absurd (cc)
 write_status (Blocked (Job fault)) is = absurd (cc)

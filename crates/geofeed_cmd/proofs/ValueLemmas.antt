@@ -1,5 +1,6 @@
 -- The values of places, told apart by a test; and the least tree where trees carry values.
-use Rattle.std.proofs.Common.{◌≡◌, ℕ, ◌^◌, ◌<◌, inl, inr, Bool, true, false, ◌&&◌, List, [], ◌∷◌, ◌++◌, refl, sym, ◌∙◌, ap, ap₂}
+use Rattle.std.proofs.Common.{◌≡◌, ℕ, ◌^◌, ◌<◌, inl, inr, Bool, true, false, ◌&&◌, List, [], ◌∷◌}
+use Rattle.std.proofs.Common.{◌++◌, refl, sym, ◌∙◌, ap, ap₂}
 use Rattle.std.specs.Cmp.Lexicographic.{bytes_decides}
 use Rattle.std.specs.Prelude.{Option, Some, None, option_map, unwrap_or, codes, if◌then◌else◌}
 use Rattle.geo_addr.specs.Bits.{bits_of}
@@ -8,10 +9,15 @@ use Rattle.geo_terms.specs.Precedence.{record_at}
 use Rattle.geo_terms.specs.Sources.{InForce}
 use Rattle.trie_core.specs.Tree.{Tree, leaf, node, look, HasLeaf, tree}
 use Rattle.trie_core.proofs.TreeLemmas.{TreeOfFunction-holds}
-use Rattle.mmdb_data.specs.Tree.{Tree as Value, Members, Items, map as map_value, list as list_value, text as text_value, bytes as bytes_value, u16, u32, i32, u64, u128, bool, double, float, no_members, member, no_items, item}
+use Rattle.mmdb_data.specs.Tree.{Tree as Value, Members, Items, map as map_value}
+use Rattle.mmdb_data.specs.Tree.{list as list_value, text as text_value, bytes as bytes_value, u16}
+use Rattle.mmdb_data.specs.Tree.{u32, i32, u64, u128, bool, double, float, no_members, member}
+use Rattle.mmdb_data.specs.Tree.{no_items, item}
 use Rattle.mmdb_data.specs.View.{members_of}
 use Rattle.mmdb_file.specs.FileImage.{same_answer, record_tree}
-use Rattle.mmdb_file.specs.PlaceValue.{place_value, one, unless_empty, subdivision, subdivision_list, city_member, country_member, postal_member, region_member}
+use Rattle.mmdb_file.specs.PlaceValue.{place_value, one, unless_empty, subdivision}
+use Rattle.mmdb_file.specs.PlaceValue.{subdivision_list, city_member, country_member, postal_member}
+use Rattle.mmdb_file.specs.PlaceValue.{region_member}
 use Rattle.mmdb_file.proofs.PlaceTreeLemmas.{answer_equality}
 use Rattle.job_run.specs.Published.{AreDistinct}
 use Rattle.update_session.specs.State.{State}
@@ -52,7 +58,8 @@ abbrev mutual
   same_members no_members no_members = true
   same_members no_members (member key value ms) = false
   same_members (member key value ms) no_members = false
-  same_members (member key value ms) (member other v ns) = same_text key other && (same_value value v && same_members ms ns)
+  same_members (member key value ms) (member other v ns) =
+      same_text key other && (same_value value v && same_members ms ns)
 
   same_items : Items → Items → Bool
   same_items no_items no_items = true
@@ -60,23 +67,32 @@ abbrev mutual
   same_items (item value items) no_items = false
   same_items (item value items) (item v vs) = same_value value v && same_items items vs
 
-is-map : (v : Value) (test : Members → Bool) → if_map v test ≡ true → (ms : Members) × (v ≡ map_value ms) × (test ms ≡ true)
+is-map : (v : Value) (test : Members → Bool) → if_map v test ≡ true
+    → (ms : Members) × (v ≡ map_value ms) × (test ms ≡ true)
 is-map (map_value ms) test h = (ms, refl, h)
 is-map _ test h = absurd (cc)
 
-is-list : (v : Value) (test : Items → Bool) → if_list v test ≡ true → (items : Items) × (v ≡ list_value items) × (test items ≡ true)
+is-list : (v : Value) (test : Items → Bool) → if_list v test ≡ true
+    → (items : Items) × (v ≡ list_value items) × (test items ≡ true)
 is-list (list_value items) test h = (items, refl, h)
 is-list _ test h = absurd (cc)
 
-is-text : (v : Value) (test : List ℕ → Bool) → if_text v test ≡ true → (content : List ℕ) × (v ≡ text_value content) × (test content ≡ true)
+is-text : (v : Value) (test : List ℕ → Bool) → if_text v test ≡ true
+    → (content : List ℕ) × (v ≡ text_value content) × (test content ≡ true)
 is-text (text_value content) test h = (content, refl, h)
 is-text _ test h = absurd (cc)
 
 mutual
   sound : (u v : Value) → same_value u v ≡ true → u ≡ v
-  sound (map_value ms) v h = let found = is-map v (same_members ms) h in ap map_value (sound-members ms found.0 found.2) ∙ sym found.1
-  sound (list_value items) v h = let found = is-list v (same_items items) h in ap list_value (sound-items items found.0 found.2) ∙ sym found.1
-  sound (text_value content) v h = let found = is-text v (same_text content) h in ap text_value ((bytes_decides content found.0).0 found.2) ∙ sym found.1
+  sound (map_value ms) v h =
+      let found = is-map v (same_members ms) h in
+      ap map_value (sound-members ms found.0 found.2) ∙ sym found.1
+  sound (list_value items) v h =
+      let found = is-list v (same_items items) h in
+      ap list_value (sound-items items found.0 found.2) ∙ sym found.1
+  sound (text_value content) v h =
+      let found = is-text v (same_text content) h in
+      ap text_value ((bytes_decides content found.0).0 found.2) ∙ sym found.1
   sound (bytes_value content) v h = absurd (cc)
   sound (u16 n) v h = absurd (cc)
   sound (u32 n) v h = absurd (cc)
@@ -97,7 +113,8 @@ mutual
       let keys : key ≡ other = (bytes_decides key other).0 outer.0 in
       let values : value ≡ v = sound value v inner.0 in
       let rest : ms ≡ ns = sound-members ms ns inner.1 in
-      ap (λ k. member k value ms) keys ∙ ap (λ w. member other w ms) values ∙ ap (λ n. member other v n) rest
+      ap (λ k. member k value ms) keys ∙ ap (λ w. member other w ms) values
+      ∙ ap (λ n. member other v n) rest
 
   sound-items : (is js : Items) → same_items is js ≡ true → is ≡ js
   sound-items no_items no_items h = refl
@@ -124,18 +141,24 @@ same-text x = (bytes_decides x x).1 refl
 and-true : {a b : Bool} → a ≡ true → b ≡ true → a && b ≡ true
 and-true {a} {b} pa pb = ap₂ ◌&&◌ pa pb
 
-alike-members : (pairs : List (List ℕ × Value)) → Alike pairs → same_members (members_of pairs) (members_of pairs) ≡ true
+alike-members : (pairs : List (List ℕ × Value)) → Alike pairs
+    → same_members (members_of pairs) (members_of pairs) ≡ true
 alike-members [] a = refl
-alike-members (pair ∷ pairs) a = and-true (same-text pair.0) (and-true a.0 (alike-members pairs a.1))
+alike-members (pair ∷ pairs) a =
+    and-true (same-text pair.0) (and-true a.0 (alike-members pairs a.1))
 
-alike-unless : (content key : List ℕ) (value : Value) → same_value value value ≡ true → Alike (unless_empty content key value)
+alike-unless : (content key : List ℕ) (value : Value) → same_value value value ≡ true
+    → Alike (unless_empty content key value)
 alike-unless [] key value a = tt
 alike-unless (b ∷ content) key value a = (a, tt)
 
-one-alike : (key : List ℕ) (value : Value) → same_value value value ≡ true → same_value (one key value) (one key value) ≡ true
+one-alike : (key : List ℕ) (value : Value) → same_value value value ≡ true
+    → same_value (one key value) (one key value) ≡ true
 one-alike key value a = alike-members ((key, value) ∷ []) (a, tt)
 
-subdivisions-alike : (region : List ℕ) → same_value (one (codes "iso_code") (text_value (subdivision region))) (one (codes "iso_code") (text_value (subdivision region))) ≡ true
+subdivisions-alike : (region : List ℕ)
+    → same_value (one (codes "iso_code") (text_value (subdivision region)))
+    (one (codes "iso_code") (text_value (subdivision region))) ≡ true
     → same_value (subdivision_list region) (subdivision_list region) ≡ true
 subdivisions-alike region part = and-true part refl
 
@@ -145,14 +168,23 @@ unfolding place_value
 place-alike p =
     let inner_city = one-alike (codes "en") (text_value p.city) (same-text p.city) in
     let names = one-alike (codes "names") (one (codes "en") (text_value p.city)) inner_city in
-    let city = alike-unless p.city (codes "city") (one (codes "names") (one (codes "en") (text_value p.city))) names in
-    let country = alike-unless p.country (codes "country") (one (codes "iso_code") (text_value p.country)) (one-alike (codes "iso_code") (text_value p.country) (same-text p.country)) in
-    let postal = alike-unless p.postal (codes "postal") (one (codes "code") (text_value p.postal)) (one-alike (codes "code") (text_value p.postal) (same-text p.postal)) in
-    let part = one-alike (codes "iso_code") (text_value (subdivision p.region)) (same-text (subdivision p.region)) in
-    let region = alike-unless p.region (codes "subdivisions") (subdivision_list p.region) (subdivisions-alike p.region part) in
-    alike-members (city_member p.city ++ (country_member p.country ++ (postal_member p.postal ++ region_member p.region)))
-    (alike-append (city_member p.city) (country_member p.country ++ (postal_member p.postal ++ region_member p.region)) city
-    (alike-append (country_member p.country) (postal_member p.postal ++ region_member p.region) country
+    let city = alike-unless p.city (codes "city")
+    (one (codes "names") (one (codes "en") (text_value p.city))) names in
+    let country =
+    alike-unless p.country (codes "country") (one (codes "iso_code") (text_value p.country))
+    (one-alike (codes "iso_code") (text_value p.country) (same-text p.country)) in
+    let postal = alike-unless p.postal (codes "postal") (one (codes "code") (text_value p.postal))
+    (one-alike (codes "code") (text_value p.postal) (same-text p.postal)) in
+    let part = one-alike (codes "iso_code") (text_value (subdivision p.region))
+    (same-text (subdivision p.region)) in
+    let region = alike-unless p.region (codes "subdivisions") (subdivision_list p.region)
+    (subdivisions-alike p.region part) in
+    alike-members (city_member p.city
+    ++ (country_member p.country ++ (postal_member p.postal ++ region_member p.region)))
+    (alike-append (city_member p.city)
+    (country_member p.country ++ (postal_member p.postal ++ region_member p.region)) city
+    (alike-append (country_member p.country)
+    (postal_member p.postal ++ region_member p.region) country
     (alike-append (postal_member p.postal) (region_member p.region) postal region)))
 
 -- whether an answer has this value
@@ -166,7 +198,8 @@ has-own : (r : Option PlaceParts) → has_value (option_map place_value r) r ≡
 has-own None = refl
 has-own (Some p) = place-alike p
 
-has-same : (v : Option Value) (r : Option PlaceParts) → has_value v r ≡ true → option_map place_value r ≡ v
+has-same : (v : Option Value) (r : Option PlaceParts) → has_value v r ≡ true
+    → option_map place_value r ≡ v
 has-same None None h = refl
 has-same None (Some p) h = absurd (cc)
 has-same (Some v) None h = absurd (cc)
@@ -184,29 +217,37 @@ leaf_that test (node l r) = or_else (leaf_that test l) (leaf_that test r)
 module _ {A : Type 0} (test : A → Bool) where
   that-sound : (t : Tree A) (a : A) → leaf_that test t ≡ Some a → (test a ≡ true) × HasLeaf t a
   that-sound (leaf x) a is =
-      let go : (b : Bool) → test x ≡ b → (if b then Some x else None) ≡ Some a → (test a ≡ true) × HasLeaf (leaf x) a =
-      λ b. elim b as (λ (b : Bool). test x ≡ b → (if b then Some x else None) ≡ Some a → (test a ≡ true) × HasLeaf (leaf x) a) [
+      let go : (b : Bool) → test x ≡ b → (if b then Some x else None) ≡ Some a
+      → (test a ≡ true) × HasLeaf (leaf x) a =
+      λ b. elim b as (λ (b : Bool). test x ≡ b → (if b then Some x else None) ≡ Some a
+      → (test a ≡ true) × HasLeaf (leaf x) a) [
         | true ↦ λ passes same. let this : x ≡ a = cc in (ap test (sym this) ∙ passes, this)
         | false ↦ λ fails same. absurd (cc)
       ] in
       go (test x) refl is
   that-sound (node l r) a is =
-      let go : (x : Option A) → leaf_that test l ≡ x → or_else x (leaf_that test r) ≡ Some a → (test a ≡ true) × HasLeaf (node l r) a =
-      λ x. elim x as (λ (x : Option A). leaf_that test l ≡ x → or_else x (leaf_that test r) ≡ Some a → (test a ≡ true) × HasLeaf (node l r) a) [
+      let go : (x : Option A) → leaf_that test l ≡ x → or_else x (leaf_that test r) ≡ Some a
+      → (test a ≡ true) × HasLeaf (node l r) a =
+      λ x. elim x as (λ (x : Option A). leaf_that test l ≡ x → or_else x (leaf_that test r) ≡ Some a
+      → (test a ≡ true) × HasLeaf (node l r) a) [
         | None ↦ λ none same. let right = that-sound r a same in (right.0, inr right.1)
         | Some b ↦ λ found same. let left = that-sound l a (found ∙ same) in (left.0, inl left.1)
       ] in
       go (leaf_that test l) refl is
 
-  that-some : (t : Tree A) (a : A) → HasLeaf t a → test a ≡ true → (b : A) × (leaf_that test t ≡ Some b)
-  that-some (leaf x) a same passes = (x, ap (λ (b : Bool). if b then Some x else None) (ap test same ∙ passes))
+  that-some : (t : Tree A) (a : A) → HasLeaf t a → test a ≡ true
+      → (b : A) × (leaf_that test t ≡ Some b)
+  that-some (leaf x) a same passes =
+      (x, ap (λ (b : Bool). if b then Some x else None) (ap test same ∙ passes))
   that-some (node l r) a (inl left) passes =
       let found = that-some l a left passes in
       (found.0, ap (λ x. or_else x (leaf_that test r)) found.1)
   that-some (node l r) a (inr right) passes =
       let found = that-some r a right passes in
-      let go : (x : Option A) → leaf_that test l ≡ x → (b : A) × (or_else x (leaf_that test r) ≡ Some b) =
-      λ x. elim x as (λ (x : Option A). leaf_that test l ≡ x → (b : A) × (or_else x (leaf_that test r) ≡ Some b)) [
+      let go : (x : Option A) → leaf_that test l ≡ x
+      → (b : A) × (or_else x (leaf_that test r) ≡ Some b) =
+      λ x. elim x as (λ (x : Option A). leaf_that test l ≡ x
+      → (b : A) × (or_else x (leaf_that test r) ≡ Some b)) [
         | None ↦ λ none. (found.0, found.1)
         | Some b ↦ λ some. (b, refl)
       ] in
@@ -222,21 +263,25 @@ look-leaf (node l r) (true ∷ w) a is = inr (look-leaf r w a is)
 record-stands : (s : InForce) (a : ℕ) → a < 2 ^ 128 → HasLeaf (record_tree s) (record_at s a)
 unfolding record_tree
 record-stands s a low =
-    look-leaf (tree same_answer (record_at s) 128 0) (bits_of 128 a) (record_at s a) ((TreeOfFunction-holds same_answer answer_equality (record_at s) 128).1 a low)
+    look-leaf (tree same_answer (record_at s) 128 0) (bits_of 128 a) (record_at s a)
+    ((TreeOfFunction-holds same_answer answer_equality (record_at s) 128).1 a low)
 
-same-record : (state : State) → AreDistinct state → (r q : Option PlaceParts) → HasLeaf (record_tree state.sources) r → HasLeaf (record_tree state.sources) q
+same-record : (state : State) → AreDistinct state → (r q : Option PlaceParts)
+    → HasLeaf (record_tree state.sources) r → HasLeaf (record_tree state.sources) q
     → option_map place_value r ≡ option_map place_value q → r ≡ q
 same-record state distinct None None here there same = refl
 same-record state distinct None (Some q) here there same = absurd (cc)
 same-record state distinct (Some p) None here there same = absurd (cc)
-same-record state distinct (Some p) (Some q) here there same = ap Some (distinct p q here there (cc))
+same-record state distinct (Some p) (Some q) here there same =
+    ap Some (distinct p q here there (cc))
 
 -- the record of a value
 pub record_of : State → Option Value → Option PlaceParts
 record_of state v = unwrap_or (leaf_that (has_value v) (record_tree state.sources)) None
 
 -- where values tell places apart, each record is got back from its value
-pub record_back : (state : State) → AreDistinct state → (a : ℕ) → a < 2 ^ 128 → record_of state (option_map place_value (record_at state.sources a)) ≡ record_at state.sources a
+pub record_back : (state : State) → AreDistinct state → (a : ℕ) → a < 2 ^ 128 → record_of state
+    (option_map place_value (record_at state.sources a)) ≡ record_at state.sources a
 unfolding record_of
 record_back state distinct a low =
     let r = record_at state.sources a in
@@ -245,4 +290,5 @@ record_back state distinct a low =
     let stands = record-stands state.sources a low in
     let some = that-some (has_value v) t r stands (has-own r) in
     let found = that-sound (has_value v) t some.0 some.1 in
-    ap (λ x. unwrap_or x None) some.1 ∙ same-record state distinct some.0 r found.1 stands (has-same v some.0 found.0)
+    ap (λ x. unwrap_or x None) some.1
+    ∙ same-record state distinct some.0 r found.1 stands (has-same v some.0 found.0)

@@ -1,5 +1,6 @@
 //! The whole command.
-ghost use Rattle.std.specs.Prelude.{◌≡◌, ◌⊎◌, ◌≢◌, ◌≤◌, ◌+◌, ℕ, [], List, None, Some, false, map, string_bytes};
+ghost use Rattle.std.specs.Prelude.{◌≡◌, ◌⊎◌, ◌≢◌, ◌≤◌, ◌+◌, ℕ, [], List, None, Some, false, map};
+ghost use Rattle.std.specs.Prelude.{string_bytes};
 ghost use Rattle.geo_outside.specs.Count.{Rose};
 ghost use Rattle.geo_outside.specs.Files.{Told};
 ghost use Rattle.command_words.specs.Commands.{command_of, gen};
@@ -10,9 +11,11 @@ ghost use Rattle.job_run.specs.Acts.{does};
 ghost use Rattle.job_run.specs.Published.{IsLeastByValue, IsPublished};
 ghost use Rattle.job_run.specs.Seen.{seen};
 ghost use Rattle.job_run.specs.World.{World};
-ghost use Rattle.geofeed_cmd.specs.Run.Answers.{Comes, EndsGenerated, IsAnswer, IsDone, Prevails, SpendsAll};
+ghost use Rattle.geofeed_cmd.specs.Run.Answers.{Comes, EndsGenerated, IsAnswer, IsDone, Prevails};
+ghost use Rattle.geofeed_cmd.specs.Run.Answers.{SpendsAll};
 ghost use Rattle.geofeed_cmd.specs.Run.Causes.{Causes, IsFree};
-ghost use Rattle.geofeed_cmd.specs.Run.Plans.{Reaches, is_command, puts_files, reads_folder, room_of, takes_steps};
+ghost use Rattle.geofeed_cmd.specs.Run.Plans.{Reaches, is_command, puts_files, reads_folder};
+ghost use Rattle.geofeed_cmd.specs.Run.Plans.{room_of, takes_steps};
 ghost use Rattle.geofeed_cmd.specs.declared.status.Status as statuses;
 
 use crate::commands::build::build;
@@ -34,16 +37,18 @@ use std::thread::Threads;
 
 /// Does the command that the words are.
 ///
-/// `build JOB` does the job in the file JOB. By its sources `explain JOB ADDR` prints why the address ADDR has its
-/// record, `publish JOB BLOCK FILE` writes the shortest feed of a block, `check JOB URL` prints what becomes of each
-/// line of a feed, and `census JOB` how many addresses each country has. `lookup FILE ADDR` prints what FILE says of
-/// ADDR, and `gen N FILE` does a generated job.
+/// `build JOB` does the job in the file JOB. By its sources `explain JOB ADDR` prints why the
+/// address ADDR has its record, `publish JOB BLOCK FILE` writes the shortest feed of a block,
+/// `check JOB URL` prints what becomes of each line of a feed, and `census JOB` how many addresses
+/// each country has. `lookup FILE ADDR` prints what FILE says of ADDR,
+/// and `gen N FILE` does a generated job.
 ///
-/// Files are read and put by `folder`, and what is printed goes to `out`. A job is done line by line. The
-/// first line that cannot be done ends it, and one line on why is printed behind what was printed before.
+/// Files are read and put by `folder`, and what is printed goes to `out`. A job is done line by
+/// line. The first line that cannot be done ends it, and one line on why is printed
+/// behind what was printed before.
 ///
-/// What each answer leaves is in the document on runs (`docs/run.md`): `Comes` has a case for each, and
-/// `Causes` says of the job alone when it comes.
+/// What each answer leaves is in the document on runs (`docs/run.md`): `Comes` has a case for each,
+/// and `Causes` says of the job alone when it comes.
 pub fn run<R: Threads + Sync, F: Folder, O: Sink, G: Gate, L: Ledger>(
     rt: &R,
     alloc: Global,
@@ -59,8 +64,9 @@ pub fn run<R: Threads + Sync, F: Folder, O: Sink, G: Gate, L: Ledger>(
         (seen (F.told folder.old) (O.written out.old) (O.faults out.old) steps.old)
         (seen (F.told folder.new) (O.written out.new) (O.faults out.new) steps.new) }
 
-    // Each file that was written is a fresh build of the sources then in force; the walk through it gives every
-    // address the value of its record, or none; and no list of nodes that finds the same records is shorter.
+    // Each file that was written is a fresh build of the sources then in force; the walk through it
+    // gives every address the value of its record, or none; and no list of nodes that finds the
+    // same records is shorter.
     ensures headline { (first : Told) → F.told folder.old ≡ Some first → result ≡ Status.Done
         → (step : steps_of.Step) (name : List ℕ) (world : World)
         → Reaches (command_of (map string_bytes words.now)) first (does step) world
@@ -71,20 +77,24 @@ pub fn run<R: Threads + Sync, F: Folder, O: Sink, G: Gate, L: Ledger>(
         → step.act ≡ Emit name → IsLeastByValue world.session.state }
 
     // What there is at each answer.
-    ensures comes { (first : Told) → F.told folder.old ≡ Some first → Comes result (command_of (map string_bytes words.now)) first
+    ensures comes { (first : Told) → F.told folder.old ≡ Some first
+        → Comes result (command_of (map string_bytes words.now)) first
         (seen (F.told folder.old) (O.written out.old) (O.faults out.old) steps.old)
         (seen (F.told folder.new) (O.written out.new) (O.faults out.new) steps.new)
         (F.put_faults folder.old) (F.put_faults folder.new) }
 
     // Each answer has its cause, and a cause no other answer but those that prevail.
-    ensures exact { (first : Told) → F.told folder.old ≡ Some first → IsAnswer (command_of (map string_bytes words.now)) first result }
+    ensures exact { (first : Told) → F.told folder.old ≡ Some first
+        → IsAnswer (command_of (map string_bytes words.now)) first result }
     ensures caused { (first : Told) → F.told folder.old ≡ Some first
-        → Prevails (command_of (map string_bytes words.now)) first result ⊎ Causes result (command_of (map string_bytes words.now)) first }
+        → Prevails (command_of (map string_bytes words.now)) first result
+        ⊎ Causes result (command_of (map string_bytes words.now)) first }
     ensures certain { (first : Told) → F.told folder.old ≡ Some first
         → (status : statuses.Status) → Causes status (command_of (map string_bytes words.now)) first
         → (result ≡ status) ⊎ Prevails (command_of (map string_bytes words.now)) first result }
     ensures complete { (first : Told) → F.told folder.old ≡ Some first
-        → IsFree (command_of (map string_bytes words.now)) first → ¬ SpendsAll (command_of (map string_bytes words.now)) first
+        → IsFree (command_of (map string_bytes words.now)) first
+        → ¬ SpendsAll (command_of (map string_bytes words.now)) first
         → ¬ Rose (F.read_faults folder.old) (F.read_faults folder.new)
         → ¬ Rose (F.put_faults folder.old) (F.put_faults folder.new)
         → ¬ Rose (O.faults out.old) (O.faults out.new)
@@ -95,23 +105,30 @@ pub fn run<R: Threads + Sync, F: Folder, O: Sink, G: Gate, L: Ledger>(
         → command_of (map string_bytes words.now) ≡ Some (gen lines file) → EndsGenerated result }
 
     // These stand whatever the folder and the sink tell.
-    ensures words { result ≡ Status.Words → is_command (command_of (map string_bytes words.now)) ≡ false }
+    ensures words { result ≡ Status.Words
+        → is_command (command_of (map string_bytes words.now)) ≡ false }
     ensures none { is_command (command_of (map string_bytes words.now)) ≡ false
         → (result ≡ Status.Words) ⊎ (result ≡ Status.Memory) }
-    ensures untouched { is_command (command_of (map string_bytes words.now)) ≡ false → folder.new ≡ folder.old }
-    ensures unput { puts_files (command_of (map string_bytes words.now)) ≡ false → F.told folder.new ≡ F.told folder.old }
-    ensures still { takes_steps (command_of (map string_bytes words.now)) ≡ false → steps.new ≡ steps.old }
+    ensures untouched { is_command (command_of (map string_bytes words.now)) ≡ false
+        → folder.new ≡ folder.old }
+    ensures unput { puts_files (command_of (map string_bytes words.now)) ≡ false
+        → F.told folder.new ≡ F.told folder.old }
+    ensures still { takes_steps (command_of (map string_bytes words.now)) ≡ false
+        → steps.new ≡ steps.old }
     ensures given { (first : Told) → F.told folder.old ≡ Some first
-        → F.given folder.new ≤ F.given folder.old + room_of first (command_of (map string_bytes words.now)) }
+        → F.given folder.new
+        ≤ F.given folder.old + room_of first (command_of (map string_bytes words.now)) }
     ensures read { result ≡ Status.ReadFault
         → Rose (F.read_faults folder.old) (F.read_faults folder.new) }
     ensures missing { result ≡ Status.Missing → Rose (F.misses folder.old) (F.misses folder.new) }
-    ensures unread { reads_folder (command_of (map string_bytes words.now)) ≡ false → (result ≢ Status.ReadFault)
+    ensures unread { reads_folder (command_of (map string_bytes words.now)) ≡ false
+        → (result ≢ Status.ReadFault)
         × (F.given folder.new ≤ F.given folder.old) }
     ensures write { result ≡ Status.WriteFault
         → Rose (F.put_faults folder.old) (F.put_faults folder.new)
         ⊎ Rose (O.faults out.old) (O.faults out.new) }
-    ensures unprinted { puts_files (command_of (map string_bytes words.now)) ≡ false → result ≡ Status.WriteFault
+    ensures unprinted { puts_files (command_of (map string_bytes words.now)) ≡ false
+        → result ≡ Status.WriteFault
         → Rose (O.faults out.old) (O.faults out.new) }
 {
     do_words(rt, alloc, words, folder, out, gate, steps)
@@ -126,27 +143,35 @@ fn do_words<R: Threads + Sync, F: Folder, O: Sink, G: Gate, L: Ledger>(
     gate: &G,
     steps: &mut Steps<L>,
 ) -> Status
-    ensures comes { (first : Told) → F.told folder.old ≡ Some first → Comes result (command_of (map string_bytes words.now)) first
+    ensures comes { (first : Told) → F.told folder.old ≡ Some first
+        → Comes result (command_of (map string_bytes words.now)) first
         (seen (F.told folder.old) (O.written out.old) (O.faults out.old) steps.old)
         (seen (F.told folder.new) (O.written out.new) (O.faults out.new) steps.new)
         (F.put_faults folder.old) (F.put_faults folder.new) }
-    ensures words { result ≡ Status.Words → is_command (command_of (map string_bytes words.now)) ≡ false }
+    ensures words { result ≡ Status.Words
+        → is_command (command_of (map string_bytes words.now)) ≡ false }
     ensures none { is_command (command_of (map string_bytes words.now)) ≡ false
         → (result ≡ Status.Words) ⊎ (result ≡ Status.Memory) }
-    ensures untouched { is_command (command_of (map string_bytes words.now)) ≡ false → folder.new ≡ folder.old }
-    ensures unput { puts_files (command_of (map string_bytes words.now)) ≡ false → F.told folder.new ≡ F.told folder.old }
-    ensures still { takes_steps (command_of (map string_bytes words.now)) ≡ false → steps.new ≡ steps.old }
+    ensures untouched { is_command (command_of (map string_bytes words.now)) ≡ false
+        → folder.new ≡ folder.old }
+    ensures unput { puts_files (command_of (map string_bytes words.now)) ≡ false
+        → F.told folder.new ≡ F.told folder.old }
+    ensures still { takes_steps (command_of (map string_bytes words.now)) ≡ false
+        → steps.new ≡ steps.old }
     ensures given { (first : Told) → F.told folder.old ≡ Some first
-        → F.given folder.new ≤ F.given folder.old + room_of first (command_of (map string_bytes words.now)) }
+        → F.given folder.new
+        ≤ F.given folder.old + room_of first (command_of (map string_bytes words.now)) }
     ensures read { result ≡ Status.ReadFault
         → Rose (F.read_faults folder.old) (F.read_faults folder.new) }
     ensures missing { result ≡ Status.Missing → Rose (F.misses folder.old) (F.misses folder.new) }
-    ensures unread { reads_folder (command_of (map string_bytes words.now)) ≡ false → (result ≢ Status.ReadFault)
+    ensures unread { reads_folder (command_of (map string_bytes words.now)) ≡ false
+        → (result ≢ Status.ReadFault)
         × (F.given folder.new ≤ F.given folder.old) }
     ensures write { result ≡ Status.WriteFault
         → Rose (F.put_faults folder.old) (F.put_faults folder.new)
         ⊎ Rose (O.faults out.old) (O.faults out.new) }
-    ensures unprinted { puts_files (command_of (map string_bytes words.now)) ≡ false → result ≡ Status.WriteFault
+    ensures unprinted { puts_files (command_of (map string_bytes words.now)) ≡ false
+        → result ≡ Status.WriteFault
         → Rose (O.faults out.old) (O.faults out.new) }
 {
     match command_in(words) {
@@ -166,7 +191,8 @@ fn do_spoken<R: Threads + Sync, F: Folder, O: Sink, G: Gate, L: Ledger>(
     steps: &mut Steps<L>,
 ) -> Status
     requires few { lines_said spoken ≤ 1000000 }
-    ensures comes { (first : Told) → F.told folder.old ≡ Some first → Comes result (named spoken.entry) first
+    ensures comes { (first : Told) → F.told folder.old ≡ Some first
+        → Comes result (named spoken.entry) first
         (seen (F.told folder.old) (O.written out.old) (O.faults out.old) steps.old)
         (seen (F.told folder.new) (O.written out.new) (O.faults out.new) steps.new)
         (F.put_faults folder.old) (F.put_faults folder.new) }
@@ -174,7 +200,8 @@ fn do_spoken<R: Threads + Sync, F: Folder, O: Sink, G: Gate, L: Ledger>(
     ensures none { is_command (named spoken.entry) ≡ false
         → (result ≡ Status.Words) ⊎ (result ≡ Status.Memory) }
     ensures untouched { is_command (named spoken.entry) ≡ false → folder.new ≡ folder.old }
-    ensures unput { puts_files (named spoken.entry) ≡ false → F.told folder.new ≡ F.told folder.old }
+    ensures unput { puts_files (named spoken.entry) ≡ false
+        → F.told folder.new ≡ F.told folder.old }
     ensures still { takes_steps (named spoken.entry) ≡ false → steps.new ≡ steps.old }
     ensures given { (first : Told) → F.told folder.old ≡ Some first
         → F.given folder.new ≤ F.given folder.old + room_of first (named spoken.entry) }

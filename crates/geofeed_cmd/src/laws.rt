@@ -1,16 +1,18 @@
-//! Laws over the definitions of commands alone, as functions that do nothing: what each ensures is the law.
+//! Laws over the definitions of commands alone, as functions that do nothing:
+//! what each ensures is the law.
 ghost use Rattle.geofeed_cmd.specs.Run.LookupEnds.{LookupEndsByCases};
 ghost use Rattle.geofeed_cmd.specs.Run.Pieces.{PiecesChangeNothing};
 
 use job_lines::laws::accepted_job_says_its_lines;
 
-/// How a lookup comes out: by whether the file is held and within its limit, and by what the walk through it gives.
+/// How a lookup comes out: by whether the file is held and within its limit,
+/// and by what the walk through it gives.
 pub fn lookup_ends_by_cases()
     ensures { LookupEndsByCases }
 {}
 
-/// Two jobs whose texts say the same beside the number of pieces: where all is done of one, all is done of the other,
-/// and the same files, puts and text are there then.
+/// Two jobs whose texts say the same beside the number of pieces: where all is done of one, all is
+/// done of the other, and the same files, puts and text are there then.
 pub fn pieces_change_nothing()
     ensures { PiecesChangeNothing }
 {

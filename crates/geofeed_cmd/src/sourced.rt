@@ -1,5 +1,6 @@
 //! The sources of a job, set before a command goes on with them.
-ghost use Rattle.std.specs.Prelude.{◌≡◌, ◌⊎◌, ◌≤◌, ◌<◌, ◌≢◌, ◌+◌, [], ◌∷◌, ◌++◌, IfErr, IfOk, Option, Some, length, slice_get};
+ghost use Rattle.std.specs.Prelude.{◌≡◌, ◌⊎◌, ◌≤◌, ◌<◌, ◌≢◌, ◌+◌, [], ◌∷◌, ◌++◌, IfErr, IfOk};
+ghost use Rattle.std.specs.Prelude.{Option, Some, length, slice_get};
 ghost use Rattle.geo_outside.specs.Count.{Rose};
 ghost use Rattle.geo_outside.specs.Files.{Told};
 ghost use Rattle.job_run.specs.Seen.{seen};
@@ -29,8 +30,8 @@ use std::thread::Threads;
 use update_session::Session;
 use update_session::laws::standing_stays;
 
-/// A session in which the lines of a job were done that set and drop sources, mark, and go back; or the status of
-/// the command, whose stop line was printed.
+/// A session in which the lines of a job were done that set and drop sources, mark, and go back; or
+/// the status of the command, whose stop line was printed.
 #[tactic(auto, using(crate::proofs::StatusLemmas::status_causes))]
 pub(crate) fn sources_of<R: Threads + Sync, F: Folder, O: Sink, G: Gate, L: Ledger>(
     forks: &Forks<'_, R, G>,

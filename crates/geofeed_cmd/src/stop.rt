@@ -33,8 +33,8 @@ pub(crate) fn status_of(why: Stop) -> Status
     }
 }
 
-/// The line that is printed at a stop: `line` is that of the job, or 0, and `name` what was read, written or
-/// asked for.
+/// The line that is printed at a stop: `line` is that of the job, or 0, and `name` what was read,
+/// written or asked for.
 #[tactic(auto, unfolding(crate::specs::Run::Lines::stop_line))]
 pub(crate) fn stop_line(alloc: Global, why: Stop, line: u64, name: &str) -> Result<Text, Memory>
     ensures { IfOk result (λ text. text ≡ stop_line why line name.now) }
@@ -89,7 +89,8 @@ fn numbered_line(alloc: Global, before: &str, line: u64, after: &str) -> Result<
     Ok(text)
 }
 
-/// Prints the line of a stop, and says its status. Where the line does not go out, the status stays.
+/// Prints the line of a stop, and says its status. Where the line does not go out,
+/// the status stays.
 pub(crate) fn stop_at<O: Sink>(
     alloc: Global,
     why: Stop,
@@ -98,7 +99,8 @@ pub(crate) fn stop_at<O: Sink>(
     out: &mut O,
 ) -> Status
     ensures status { result ≡ status_of why }
-    ensures closed { Closes (O.written out.old) (O.written out.new) (O.faults out.old) (O.faults out.new) [] (stop_line why line name.now) }
+    ensures closed { Closes (O.written out.old) (O.written out.new) (O.faults out.old)
+        (O.faults out.new) [] (stop_line why line name.now) }
     ensures faults { O.faults out.old ≤ O.faults out.new }
 {
     print_line(out, stop_line(alloc, why, line, name));
@@ -118,7 +120,8 @@ pub(crate) fn no_command<O: Sink>(alloc: Global, out: &mut O) -> Status
 // An empty line is not written, so nothing follows a sink that failed.
 fn print_line<O: Sink>(out: &mut O, line: Result<Text, Memory>)
     ensures closed { (wanted : List ℕ) → IfOk line (λ text. text ≡ wanted)
-        → Closes (O.written out.old) (O.written out.new) (O.faults out.old) (O.faults out.new) [] wanted }
+        → Closes (O.written out.old) (O.written out.new) (O.faults out.old)
+        (O.faults out.new) [] wanted }
     ensures faults { O.faults out.old ≤ O.faults out.new }
 {
     match line {
@@ -128,7 +131,8 @@ fn print_line<O: Sink>(out: &mut O, line: Result<Text, Memory>)
 }
 
 fn print_text<O: Sink>(out: &mut O, text: &str)
-    ensures closed { Closes (O.written out.old) (O.written out.new) (O.faults out.old) (O.faults out.new) [] text.now }
+    ensures closed { Closes (O.written out.old) (O.written out.new) (O.faults out.old)
+        (O.faults out.new) [] text.now }
     ensures faults { O.faults out.old ≤ O.faults out.new }
 {
     if !text.is_empty() {

@@ -21,7 +21,8 @@ use std::sync::ledger::Ledger;
 use std::thread::Threads;
 use update_session::Session;
 
-/// Does all lines of a job, over the files that stand apart, and over the folder's where there are none.
+/// Does all lines of a job, over the files that stand apart,
+/// and over the folder's where there are none.
 #[tactic(auto, using(crate::proofs::StatusLemmas::status_causes))]
 pub(crate) fn do_whole<R: Threads + Sync, F: Folder, O: Sink, G: Gate, L: Ledger>(
     forks: &Forks<'_, R, G>,

@@ -3,14 +3,15 @@ ghost use Rattle.std.specs.Prelude.{◌≡◌, ◌≤◌, ◌<◌, Some, length,
 ghost use Rattle.std.specs.Option.{option_copied};
 ghost use Rattle.geo_terms.specs.Precedence.{reference_before};
 ghost use Rattle.geo_terms.specs.First.{better};
-ghost use Rattle.inetnum_index.specs.Links.{AreLinks, AreShelved, EndsAt, IsEnd, IsFirstReaching, IsNearest, TellsSome};
+ghost use Rattle.inetnum_index.specs.Links.{AreLinks, AreShelved, EndsAt, IsEnd, IsFirstReaching};
+ghost use Rattle.inetnum_index.specs.Links.{IsNearest, TellsSome};
 
 use crate::links::Link;
 use crate::shelf::{is_behind, is_of, last_of};
 use geo_terms::{Reference, Statement};
 
-/// The end of the references that stand before or with those of this URL and family that begin at or
-/// before this address.
+/// The end of the references that stand before or with those of this URL and family that begin at
+/// or before this address.
 pub fn end_of(refs: &[Reference], url: &str, family: u8, first: u128) -> usize
     requires { AreShelved refs.now }
     ensures within { result ≤ length refs.now }
@@ -33,7 +34,8 @@ pub fn first_reaching<'a>(
     requires linked { length links.now ≡ length refs.now }
     requires links { AreLinks refs.now links.now }
     requires grouped { EndsAt url.now family refs.now end }
-    ensures { IsFirstReaching url.entry.now family last refs.entry.now 0 end (option_copied result) }
+    ensures { IsFirstReaching url.entry.now family last refs.entry.now 0 end
+        (option_copied result) }
 {
     let mut first: Option<&'a Reference> = None;
     let mut left = end;
@@ -60,8 +62,8 @@ fn better<'a>(first: Option<&'a Reference>, next: &'a Reference) -> &'a Referenc
     }
 }
 
-// The last place before the end at which a reference of this URL and family reaches this address: from
-// link to link.
+// The last place before the end at which a reference of this URL and family reaches this address:
+// from link to link.
 fn nearest(
     refs: &[Reference],
     links: &[Link],

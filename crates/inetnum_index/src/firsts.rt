@@ -10,7 +10,8 @@ use std::alloc::Global;
 
 /// The index of these references.
 pub fn firsts_of(alloc: Global, refs: &[Reference]) -> Result<FirstIndex, Memory>
-    ensures first { IfOk result (λ firsts. TellsFirst reference_cmp (λ r. r.range) refs.now firsts) }
+    ensures first { IfOk result
+        (λ firsts. TellsFirst reference_cmp (λ r. r.range) refs.now firsts) }
     ensures ranges { OnOk result (All (λ r. IsRange r.range) refs.now) }
 {
     let borrowed = borrowed(alloc, refs)?;

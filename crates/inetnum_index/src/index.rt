@@ -9,8 +9,8 @@ use std::marker::Model;
 
 /// References of registry objects, kept so that the one that speaks is found by halving.
 ///
-/// Contracts see the list of references, in the order in which the index keeps them: those of one URL
-/// and one family together, by their first addresses.
+/// Contracts see the list of references, in the order in which the index keeps them: those of one
+/// URL and one family together, by their first addresses.
 #[derive(Debug, Drop)]
 pub struct Index {
     refs: Vec<Reference>,
@@ -82,13 +82,14 @@ impl Index {
         self.refs.as_slice().get(place)
     }
 
-    /// The first reference of this URL, in the order of references, whose range is of the block's family
-    /// and contains the block.
+    /// The first reference of this URL, in the order of references, whose range is of the block's
+    /// family and contains the block.
     ///
-    /// Those that begin behind the block are passed over by halving; from the last one that does not, the
-    /// way leads outward from each range to the nearest one that reaches farther, so that where ranges
-    /// nest no more are looked at than lie around the block or its neighbour. Where ranges overlap without
-    /// nesting, or many contain the block, each one that contains it is looked at.
+    /// Those that begin behind the block are passed over by halving; from the last one that does
+    /// not, the way leads outward from each range to the nearest one that reaches farther, so that
+    /// where ranges nest no more are looked at than lie around the block or its neighbour. Where
+    /// ranges overlap without nesting, or many contain the block,
+    /// each one that contains it is looked at.
     pub fn covering(&self, block: Block, url: &str) -> Option<&Reference>
         ensures { option_copied result ≡ covering self.now url.entry.now block }
     {
@@ -99,7 +100,8 @@ impl Index {
         first_reaching(refs, self.links.as_slice(), url, family, range.last, end)
     }
 
-    /// Whether a reference of this URL is of the block's family and contains the block: by one halving.
+    /// Whether a reference of this URL is of the block's family and contains the block:
+    /// by one halving.
     pub fn covers(&self, block: Block, url: &str) -> bool
         ensures { result ≡ is_covered self.now url.now block }
     {

@@ -1,4 +1,5 @@
-//! What is kept of each reference in an index, so that those that cover a block are found in a few looks.
+//! What is kept of each reference in an index, so that those that cover a
+//! block are found in a few looks.
 ghost use Rattle.std.specs.Prelude.{◌≡◌, ◌&&◌, IfOk, length, nat_le, slice_get, Some};
 ghost use Rattle.geo_terms.specs.declared.statement.Reference.{Reference};
 ghost use Rattle.inetnum_index.specs.Links.{AreLinks, AreShelved, IsOuter, IsReach};

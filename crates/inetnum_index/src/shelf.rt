@@ -1,5 +1,5 @@
-//! The order in which references stand in an index: those of one URL and one family together, by their
-//! first addresses, and of those that begin alike the largest first.
+//! The order in which references stand in an index: those of one URL and one family together, by
+//! their first addresses, and of those that begin alike the largest first.
 ghost use Rattle.std.specs.Prelude.{◌≡◌, not};
 ghost use Rattle.std.specs.Ordering.{is_lt};
 ghost use Rattle.std.specs.declared.cmp.Ordering.{Ordering};
@@ -33,7 +33,8 @@ pub(crate) fn shelf_order(x: &Reference, y: &Reference) -> Ordering
 // address.
 #[tactic(auto, unfolding(crate::specs::Shelf::key_cmp))]
 pub(crate) fn is_behind(url: &str, of_family: u8, first: u128, reference: &Reference) -> bool
-    ensures { result ≡ is_lt (key_cmp (record { url = url.now; family = of_family; first = first }) (key_of reference.now)) }
+    ensures { result ≡ is_lt (key_cmp (record { url = url.now; family = of_family; first = first })
+        (key_of reference.now)) }
 {
     let by_url = url.cmp(reference.url.as_str());
     let by_family = of_family.cmp(&family(&reference.range));

@@ -33,8 +33,8 @@ fn reference(
     })
 }
 
-// Lines 1 and 2 nest, 3 and 4 overlap, 5 and 6 are of one range and one date in two slots, 7 is older
-// than these; the others touch the ends of both families.
+// Lines 1 and 2 nest, 3 and 4 overlap, 5 and 6 are of one range and one date in two slots, 7 is
+// older than these; the others touch the ends of both families.
 fn references(alloc: Global) -> Result<Vec<Reference>, Fail> {
     let table: [(&str, u64, u128, u128, u64, &str); 12] = [
         ("a", 1, 0xC000_0000, 0xC000_FFFF, 0, FEED),
@@ -132,7 +132,8 @@ fn next(number: &mut u64) -> u64 {
     *number >> 33
 }
 
-// Many references whose ranges nest, overlap and repeat, on both sides of the border of the families.
+// Many references whose ranges nest, overlap and repeat, on both sides
+// of the border of the families.
 fn made(alloc: Global, count: u64) -> Result<Vec<Reference>, Fail> {
     let mut number = 1;
     let mut refs = Vec::new(alloc);

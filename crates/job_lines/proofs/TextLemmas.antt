@@ -1,5 +1,6 @@
 -- Lemmas on UTF-8 texts.
-use Rattle.std.proofs.Common.{◌≡◌, ℕ, ◌<◌, ◌&&◌, Bool, true, false, List, length, refl, sym, arith, IsTrue}
+use Rattle.std.proofs.Common.{◌≡◌, ℕ, ◌<◌, ◌&&◌, Bool, true, false, List, length, refl, sym, arith}
+use Rattle.std.proofs.Common.{IsTrue}
 use Rattle.std.specs.List.{list_all}
 use Rattle.std.specs.Str.{IsAscii, IsUtf8, is_utf8}
 use Rattle.std.proofs.lemmas.Bool.Decides.{nat_tests}
@@ -37,8 +38,11 @@ visible_low : (b : ℕ) → is_visible b ≡ true → b < 128
 visible_low b is = grind (arith, nat_tests)
 
 -- bytes that are all of a kind below 128 are ASCII
-all_low : (test : ℕ → Bool) (low : (b : ℕ) → test b ≡ true → b < 128) (word : List ℕ) → list_all test word ≡ true → IsAscii word
-all_low test low word all = IsAscii-from_reads word (length word) (omega arith) (λ k below. low _ (AllPass-from_list_all test word all k 0 below))
+all_low : (test : ℕ → Bool) (low : (b : ℕ) → test b ≡ true → b < 128) (word : List ℕ)
+    → list_all test word ≡ true → IsAscii word
+all_low test low word all =
+    IsAscii-from_reads word (length word) (omega arith)
+    (λ k below. low _ (AllPass-from_list_all test word all k 0 below))
 
 -- the name of a file is a text
 pub name_is_text : (word : List ℕ) → is_name word ≡ true → IsTrue (is_utf8 word)
@@ -48,10 +52,14 @@ name_is_text word is = (both _ _ (both _ _ (both _ _ is).0).0).1
 -- and so is a slot, and a database type
 pub slot_is_text : (word : List ℕ) → is_slot word ≡ true → IsTrue (is_utf8 word)
 unfolding is_slot
-slot_is_text word is = is_utf8-from_IsUtf8 word (IsUtf8-from_ascii word (all_low is_slot_byte slot_byte_low word (both _ _ is).1))
+slot_is_text word is =
+    is_utf8-from_IsUtf8 word
+    (IsUtf8-from_ascii word (all_low is_slot_byte slot_byte_low word (both _ _ is).1))
 
 pub type_is_text : (word : List ℕ) → is_type_name word ≡ true → IsTrue (is_utf8 word)
 unfolding is_type_name
-type_is_text word is = is_utf8-from_IsUtf8 word (IsUtf8-from_ascii word (all_low is_visible visible_low word (both _ _ is).1))
+type_is_text word is =
+    is_utf8-from_IsUtf8 word
+    (IsUtf8-from_ascii word (all_low is_visible visible_low word (both _ _ is).1))
 
 pub ruleset words_are_texts = (name_is_text, slot_is_text, type_is_text)

@@ -1,12 +1,14 @@
--- The act that the words of a line say: a source that is set or dropped, a file that is written, a report; sources that
--- are kept under a name or taken from there; nodes that are given up.
-use Rattle.std.specs.Prelude.{ℕ, ◌&&◌, List, [], ◌∷◌, codes, Option, None, Some, option_and_then, option_map, if◌then◌else◌}
+-- The act that the words of a line say: a source that is set or dropped, a file that is written, a
+-- report; sources that are kept under a name or taken from there; nodes that are given up.
+use Rattle.std.specs.Prelude.{ℕ, ◌&&◌, List, [], ◌∷◌, codes, Option, None, Some, option_and_then}
+use Rattle.std.specs.Prelude.{option_map, if◌then◌else◌}
 use Rattle.geo_terms.specs.PlaceForm.{same_text}
 use Rattle.feed_refs.specs.Urls.{url_read}
 use Rattle.feed_refs.specs.declared.feed_url.UrlRead.{UrlRead}
 use Rattle.feed_refs.specs.declared.feed_url.UrlRead.TheVariants as reads
 use Rattle.job_lines.specs.declared.act.Act.{Act}
-use Rattle.job_lines.specs.declared.act.Act.TheVariants.{Rpsl, Stats, Feed, Overrides, Drop, Emit, Report, Mark, Back, Compact}
+use Rattle.job_lines.specs.declared.act.Act.TheVariants.{Rpsl, Stats, Feed, Overrides, Drop, Emit}
+use Rattle.job_lines.specs.declared.act.Act.TheVariants.{Report, Mark, Back, Compact}
 use Rattle.job_lines.specs.declared.act.Gone.{Gone}
 use Rattle.job_lines.specs.declared.act.Gone.TheVariants as gone
 use Rattle.job_lines.specs.Names.{is_name, is_slot}

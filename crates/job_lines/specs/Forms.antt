@@ -1,5 +1,6 @@
 -- The form that the words of a line fit: a setting of the whole job, or an act.
-use Rattle.std.specs.Prelude.{ℕ, ◌^◌, ◌&&◌, ◌==◌, Bool, false, not, nat_lt, nat_le, List, [], ◌∷◌, codes, Option, None, Some, option_and_then, option_map, if◌then◌else◌}
+use Rattle.std.specs.Prelude.{ℕ, ◌^◌, ◌&&◌, ◌==◌, Bool, false, not, nat_lt, nat_le, List, [], ◌∷◌}
+use Rattle.std.specs.Prelude.{codes, Option, None, Some, option_and_then, option_map, if◌then◌else◌}
 use Rattle.geo_addr.specs.Decimals.{decimal}
 use Rattle.geo_terms.specs.PlaceForm.{same_text}
 use Rattle.job_lines.specs.declared.form.Form.{Form}
@@ -47,7 +48,8 @@ unfoldable pub form_by : (word : List ℕ) → (rest : List (List ℕ)) → Opti
 form_by word rest =
     if same_text word (codes "epoch") then epoch_line rest
     else (if same_text word (codes "type") then type_line rest
-    else (if same_text word (codes "pieces") then pieces_line rest else option_map Do (act_by word rest)))
+    else (if same_text word (codes "pieces") then pieces_line rest
+    else option_map Do (act_by word rest)))
 
 -- the form that words fit, if they fit one
 abbrev pub form_of : List (List ℕ) → Option Form

@@ -1,5 +1,6 @@
 -- The job that a text is.
-use Rattle.std.specs.Prelude.{ℕ, nat_lt, List, [], ◌∷◌, length, codes, Option, None, Some, Result, Ok, Err, unwrap_or, if◌then◌else◌}
+use Rattle.std.specs.Prelude.{ℕ, nat_lt, List, [], ◌∷◌, length, codes, Option, None, Some, Result}
+use Rattle.std.specs.Prelude.{Ok, Err, unwrap_or, if◌then◌else◌}
 use Rattle.std.specs.Str.{is_utf8}
 use Rattle.geo_addr.specs.Lines.{numbered_lines}
 use Rattle.job_lines.specs.declared.form.Form.{Form}
@@ -21,19 +22,22 @@ default_name = codes "Geofeed-City"
 abbrev pub default_pieces : ℕ
 default_pieces = 4
 
--- the draft with one more line: the same where the line is passed over, and none where it fits no form or breaks its place
+-- the draft with one more line: the same where the line is passed over,
+-- and none where it fits no form or breaks its place
 abbrev pub with_fitting : ℕ → Option Form → DraftParts → Option DraftParts
 with_fitting line None draft = None
 with_fitting line (Some form) draft = with_form line form draft
 
 abbrev pub with_words : ℕ → List (List ℕ) → DraftParts → Option DraftParts
-with_words line said draft = if is_passed_over said then Some draft else with_fitting line (form_of said) draft
+with_words line said draft =
+    if is_passed_over said then Some draft else with_fitting line (form_of said) draft
 
 unfoldable pub with_line : (ℕ × List ℕ) → DraftParts → Option DraftParts
 with_line line draft = with_words line.0 (words line.1) draft
 
 -- the draft behind all lines, or the number of the first line that is refused
-abbrev pub unless_refused : ℕ → Option DraftParts → (DraftParts → Result DraftParts JobFault) → Result DraftParts JobFault
+abbrev pub unless_refused : ℕ → Option DraftParts
+    → (DraftParts → Result DraftParts JobFault) → Result DraftParts JobFault
 unless_refused line None next = Err (Line line)
 unless_refused line (Some draft) next = next draft
 

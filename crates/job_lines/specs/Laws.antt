@@ -18,20 +18,24 @@ AcceptedJobSaysItsLines = (bytes : List ℕ) (j : Job) → job bytes ≡ Ok j �
 abbrev pub AcceptedJobIsWithinLimits : Type 0
 AcceptedJobIsWithinLimits = (bytes : List ℕ) (j : Job) → job bytes ≡ Ok j → IsWithinLimits j
 
--- the first line that says something gives the epoch, and no other does; the type and the number of pieces stand before every step
+-- the first line that says something gives the epoch, and no other does;
+-- the type and the number of pieces stand before every step
 abbrev pub AcceptedJobIsInOrder : Type 0
 AcceptedJobIsInOrder = (bytes : List ℕ) (j : Job) → job bytes ≡ Ok j → IsInOrder bytes j
 
--- a text is refused at a line exactly where it is no longer than a job may be, is UTF-8, and that line is the first that
--- fits no form or breaks its place
+-- a text is refused at a line exactly where it is no longer than a job may be, is UTF-8, and that
+-- line is the first that fits no form or breaks its place
 abbrev pub RefusedLineIsFirst : Type 0
 RefusedLineIsFirst = (bytes : List ℕ) (number : ℕ) →
-    (job bytes ≡ Err (Line number)) ↔ ((length bytes ≤ longest) × (is_utf8 bytes ≡ true) × IsFirstRefused (numbered_lines bytes) number)
+    (job bytes ≡ Err (Line number)) ↔ ((length bytes ≤ longest) × (is_utf8 bytes ≡ true)
+    × IsFirstRefused (numbered_lines bytes) number)
 
 abbrev pub passes_over : (ℕ × List ℕ) → Bool
 passes_over line = is_passed_over (words line.1)
 
--- a text has no epoch exactly where it is no longer than a job may be, is UTF-8, and has only lines that are passed over
+-- a text has no epoch exactly where it is no longer than a job may be, is UTF-8,
+-- and has only lines that are passed over
 abbrev pub OnlyPassedLinesHaveNoEpoch : Type 0
 OnlyPassedLinesHaveNoEpoch = (bytes : List ℕ) →
-    (job bytes ≡ Err Epoch) ↔ ((length bytes ≤ longest) × (is_utf8 bytes ≡ true) × (list_all passes_over (numbered_lines bytes) ≡ true))
+    (job bytes ≡ Err Epoch) ↔ ((length bytes ≤ longest) × (is_utf8 bytes ≡ true)
+    × (list_all passes_over (numbered_lines bytes) ≡ true))

@@ -1,5 +1,6 @@
 -- The names that stand in a job: of files, of slots and of a database type.
--- A byte is its number: 10 is the line feed, 13 the carriage return, 45 to 47 are `-`, `.` and `/`, 95 is `_`.
+-- A byte is its number: 10 is the line feed, 13 the carriage return, 45 to 47
+-- are `-`, `.` and `/`, 95 is `_`.
 use Rattle.std.specs.Prelude.{ℕ, ◌&&◌, ◌||◌, ◌==◌, Bool, not, nat_le, List, length, codes}
 use Rattle.std.specs.Char.{is_ascii_alphanumeric}
 use Rattle.std.specs.List.{list_all}
@@ -17,7 +18,9 @@ is_part part = not (is_empty part || same_text part (codes ".") || same_text par
 
 -- the name of a file: a text of 1 to 255 such bytes, of parts between single slashes
 unfoldable pub is_name : List ℕ → Bool
-is_name name = nat_le 1 (length name) && nat_le (length name) 255 && is_utf8 name && list_all is_name_byte name && list_all is_part (pieces 47 name)
+is_name name =
+    nat_le 1 (length name) && nat_le (length name) 255 && is_utf8 name && list_all is_name_byte name
+    && list_all is_part (pieces 47 name)
 
 -- a byte of a slot: an ASCII letter, a digit, a dash, a dot or a low line
 abbrev pub is_slot_byte : ℕ → Bool

@@ -1,5 +1,6 @@
 -- The forms that the lines of a job say, in line order, and the places that they keep.
-use Rattle.std.specs.Prelude.{◌≡◌, ◌<◌, ◌&&◌, ◌||◌, ℕ, Bool, true, false, not, List, [], ◌∷◌, ◌++◌, take, slice_get, map, filter_map, Option, None, Some, is_some}
+use Rattle.std.specs.Prelude.{◌≡◌, ◌<◌, ◌&&◌, ◌||◌, ℕ, Bool, true, false, not, List, [], ◌∷◌, ◌++◌}
+use Rattle.std.specs.Prelude.{take, slice_get, map, filter_map, Option, None, Some, is_some}
 use Rattle.std.specs.List.{list_all, list_any}
 use Rattle.geo_addr.specs.Lines.{numbered_lines}
 use Rattle.job_lines.specs.declared.form.Form.{Form}
@@ -58,33 +59,38 @@ is_first (form ∷ more) = false
 abbrev pub takes_setting : List Form → Bool
 takes_setting before = list_any is_epoch before && not (list_any is_act before)
 
--- whether a form keeps its place behind these forms: the epoch is the first and stands before each other one;
--- the type and the number of pieces are given once each, before each act
+-- whether a form keeps its place behind these forms: the epoch is the first and stands before each
+-- other one; the type and the number of pieces are given once each, before each act
 abbrev pub keeps_place : List Form → Form → Bool
 keeps_place before (Epoch epoch) = is_first before
 keeps_place before (TypeName name) = takes_setting before && not (list_any is_type before)
 keeps_place before (Pieces n) = takes_setting before && not (list_any is_pieces before)
 keeps_place before (Do act) = list_any is_epoch before
 
--- whether the words of a line say what cannot stand behind these forms: no form, or one that breaks its place
+-- whether the words of a line say what cannot stand behind these forms:
+-- no form, or one that breaks its place
 abbrev pub breaks_place : List Form → Option Form → Bool
 breaks_place before None = true
 breaks_place before (Some form) = not (keeps_place before form)
 
 abbrev pub is_refused : List Form → List ℕ → Bool
-is_refused before text = not (is_passed_over (words text)) && breaks_place before (form_of (words text))
+is_refused before text =
+    not (is_passed_over (words text)) && breaks_place before (form_of (words text))
 
--- the line with this number is refused behind the forms of the lines before it, and none of those is
+-- the line with this number is refused behind the forms of the lines before it,
+-- and none of those is
 pub record IsFirstRefused (lines : List (ℕ × List ℕ)) (number : ℕ) : Type 0 where
   pub at : ℕ
   pub text : List ℕ
   pub there : slice_get lines at ≡ Some (number, text)
   pub refused : is_refused (forms (take at lines)) text ≡ true
-  pub first : (place : ℕ) (line : ℕ × List ℕ) → place < at → slice_get lines place ≡ Some line → is_refused (forms (take place lines)) line.1 ≡ false
+  pub first : (place : ℕ) (line : ℕ × List ℕ) → place < at → slice_get lines place ≡ Some line
+      → is_refused (forms (take place lines)) line.1 ≡ false
 
 -- the lines of a text say, in order: the epoch of a job, its settings, and its steps
 pub record IsInOrder (bytes : List ℕ) (j : Job) : Type 0 where
   pub fit : list_all fits (numbered_lines bytes) ≡ true
   pub settings : List Form
   pub are : list_all is_setting settings ≡ true
-  pub order : forms (numbered_lines bytes) ≡ Epoch j.meta.epoch ∷ (settings ++ map (λ (step : Step). Do step.act) j.steps)
+  pub order : forms (numbered_lines bytes)
+      ≡ Epoch j.meta.epoch ∷ (settings ++ map (λ (step : Step). Do step.act) j.steps)

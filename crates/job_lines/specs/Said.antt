@@ -1,5 +1,6 @@
 -- What the lines of a text say, one by one, and the job that says the same.
-use Rattle.std.specs.Prelude.{◌≡◌, ◌≤◌, ℕ, List, [], ◌∷◌, filter_map, length, Option, None, Some, if◌then◌else◌}
+use Rattle.std.specs.Prelude.{◌≡◌, ◌≤◌, ℕ, List, [], ◌∷◌, filter_map, length, Option, None, Some}
+use Rattle.std.specs.Prelude.{if◌then◌else◌}
 use Rattle.geo_addr.specs.Lines.{numbered_lines}
 use Rattle.job_lines.specs.declared.form.Form.{Form}
 use Rattle.job_lines.specs.declared.form.Form.TheVariants.{Epoch, TypeName, Pieces, Do}
@@ -61,8 +62,8 @@ IsOnly default x [] = x ≡ default
 IsOnly default x (only ∷ []) = x ≡ only
 IsOnly default x (first ∷ second ∷ more) = ⊥
 
--- a job says what the lines of its text say: one of them gives the epoch, one at most the type, one at most the number of
--- pieces, and each other one a step
+-- a job says what the lines of its text say: one of them gives the epoch, one at most the type, one
+-- at most the number of pieces, and each other one a step
 pub record SaysItsLines (bytes : List ℕ) (j : Job) : Type 0 where
   pub epoch : filter_map epoch_said (numbered_lines bytes) ≡ j.meta.epoch ∷ []
   pub name : IsOnly default_name j.meta.name (filter_map name_said (numbered_lines bytes))

@@ -1,5 +1,6 @@
 -- The words of a line of a job.
-use Rattle.std.specs.Prelude.{ℕ, ◌==◌, Bool, true, false, not, List, [], ◌∷◌, filter, Option, None, Some}
+use Rattle.std.specs.Prelude.{ℕ, ◌==◌, Bool, true, false, not, List, [], ◌∷◌, filter, Option, None}
+use Rattle.std.specs.Prelude.{Some}
 use Rattle.std.specs.List.{slice_split}
 use Rattle.geo_addr.specs.Lines.{is_blank}
 use Rattle.geo_terms.specs.PlaceForm.{is_empty}

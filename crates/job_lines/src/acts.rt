@@ -1,6 +1,7 @@
 //! The lines of a job that do something.
 ghost use Rattle.std.specs.Prelude.{◌≡◌, IfOk};
-ghost use Rattle.job_lines.specs.Acts.{act_by, emit_line, feed_form, feed_line, overrides_line, report_line, rpsl_line, stats_line};
+ghost use Rattle.job_lines.specs.Acts.{act_by, emit_line, feed_form, feed_line, overrides_line};
+ghost use Rattle.job_lines.specs.Acts.{report_line, rpsl_line, stats_line};
 ghost use Rattle.job_lines.specs.Words.{words};
 
 use crate::act::Act;

@@ -19,7 +19,8 @@ const DEFAULT_NAME: &str = "Geofeed-City";
 /// The number of pieces where no line gives one.
 const DEFAULT_PIECES: u32 = 4;
 
-/// The epoch, the database type and the number of pieces, where a line gave them, and the steps in line order.
+/// The epoch, the database type and the number of pieces, where a line gave them,
+/// and the steps in line order.
 #[derive(Drop)]
 pub(crate) struct Draft {
     epoch: Option<u64>,
@@ -33,14 +34,21 @@ impl Model for Draft {
 
     ghost Value = { DraftParts };
 
-    ghost view = { λ d. record { epoch = d.epoch; name = d.name; pieces = d.pieces; steps = d.steps.items } };
+    ghost view = { λ d. record {
+      epoch = d.epoch;
+      name = d.name;
+      pieces = d.pieces;
+      steps = d.steps.items;
+    } };
 }
 
 impl Draft {
     /// The draft behind all lines of a job, or the first line that is refused.
     pub fn of(alloc: Global, bytes: &[u8]) -> Result<Draft, JobFault>
-        ensures ok { IfOk result (λ draft. draft_from (numbered_lines bytes.now) no_lines ≡ Ok draft) }
-        ensures err { IfErr result (λ why. (why ≡ JobFault.Memory) ⊎ (draft_from (numbered_lines bytes.now) no_lines ≡ Err why)) }
+        ensures ok { IfOk result
+            (λ draft. draft_from (numbered_lines bytes.now) no_lines ≡ Ok draft) }
+        ensures err { IfErr result (λ why. (why ≡ JobFault.Memory)
+            ⊎ (draft_from (numbered_lines bytes.now) no_lines ≡ Err why)) }
     {
         let mut draft = Draft::new(alloc);
         for line in Lines::of(bytes) {
@@ -63,9 +71,11 @@ impl Draft {
     // Adds what one more line says.
     #[tactic(auto, unfolding(crate::specs::Job::with_line))]
     fn take_line(&mut self, alloc: Global, line: Line) -> Result<(), JobFault>
-        ensures ok { OnOk result (with_line (line.entry.number, line.entry.text.now) self.old ≡ Some self.new) }
+        ensures ok { OnOk result
+            (with_line (line.entry.number, line.entry.text.now) self.old ≡ Some self.new) }
         ensures err { IfErr result (λ why. (why ≡ JobFault.Memory)
-            ⊎ (why ≡ JobFault.Line line.entry.number) × (with_line (line.entry.number, line.entry.text.now) self.old ≡ None)) }
+            ⊎ (why ≡ JobFault.Line line.entry.number)
+            × (with_line (line.entry.number, line.entry.text.now) self.old ≡ None)) }
     {
         if is_passed_over(line.text) {
             return Ok(());
@@ -121,7 +131,8 @@ impl Draft {
     /// The job that the draft is, where it has an epoch.
     pub fn finish(self, alloc: Global) -> Result<Job, JobFault>
         ensures ok { IfOk result (λ j. job_with self.epoch self ≡ Ok j) }
-        ensures err { IfErr result (λ why. (why ≡ JobFault.Memory) ⊎ (job_with self.epoch self ≡ Err why)) }
+        ensures err { IfErr result
+            (λ why. (why ≡ JobFault.Memory) ⊎ (job_with self.epoch self ≡ Err why)) }
     {
         let Draft {
             epoch,

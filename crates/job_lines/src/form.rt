@@ -1,6 +1,7 @@
 //! The form that a line of a job fits.
 ghost use Rattle.std.specs.Prelude.{◌≡◌, IfOk, None};
-ghost use Rattle.job_lines.specs.Forms.{begins_plain, epoch_form, epoch_line, form_by, form_of, pieces_form, pieces_line, type_form, type_line};
+ghost use Rattle.job_lines.specs.Forms.{begins_plain, epoch_form, epoch_line, form_by, form_of};
+ghost use Rattle.job_lines.specs.Forms.{pieces_form, pieces_line, type_form, type_line};
 ghost use Rattle.job_lines.specs.Words.{words};
 
 use crate::act::Act;

@@ -17,8 +17,8 @@ pub struct Step {
     pub act: Act,
 }
 
-/// A job: what the files that it emits tell about themselves, in how many pieces work on several threads is cut, and
-/// its steps in line order.
+/// A job: what the files that it emits tell about themselves, in how many pieces work on several
+/// threads is cut, and its steps in line order.
 #[derive(Debug, Drop)]
 pub struct Job {
     pub meta: Meta,
@@ -31,11 +31,12 @@ const LONGEST: usize = 1_048_576;
 
 /// Reads a job, whole.
 ///
-/// A job is UTF-8 text of at most 1,048,576 bytes. A byte order mark at its start and a carriage return at the end of
-/// a line are dropped. Blank lines, and lines whose first byte after blanks is `#`, are passed over. Every other line
-/// is words between blanks: `epoch N` first; then, before every step, at most one `type NAME` and at most one
-/// `pieces N`; and then the steps, in any number and order: `rpsl SLOT FILE`, `stats SLOT FILE`, `feed URL FILE`,
-/// `overrides FILE`, `drop rpsl SLOT`, `drop stats SLOT`, `drop feed URL`, `drop overrides`, `emit FILE`, `report`,
+/// A job is UTF-8 text of at most 1,048,576 bytes. A byte order mark at its start and a carriage
+/// return at the end of a line are dropped. Blank lines, and lines whose first byte after blanks is
+/// `#`, are passed over. Every other line is words between blanks: `epoch N` first; then, before
+/// every step, at most one `type NAME` and at most one `pieces N`; and then the steps, in any
+/// number and order: `rpsl SLOT FILE`, `stats SLOT FILE`, `feed URL FILE`, `overrides FILE`,
+/// `drop rpsl SLOT`, `drop stats SLOT`, `drop feed URL`, `drop overrides`, `emit FILE`, `report`,
 /// `mark NAME`, `back NAME` and `compact`. NAME has the form of SLOT.
 #[tactic(auto, unfolding(crate::specs::Job::job))]
 pub fn read_job(alloc: Global, bytes: &[u8]) -> Result<Job, JobFault>

@@ -3,7 +3,8 @@ ghost use Rattle.std.specs.Prelude.{◌≡◌};
 ghost use Rattle.std.specs.List.{list_all};
 ghost use Rattle.std.specs.Str.{is_utf8};
 ghost use Rattle.geo_addr.specs.Lines.{pieces};
-ghost use Rattle.job_lines.specs.Names.{is_name, is_name_byte, is_part, is_slot, is_slot_byte, is_type_name, is_visible};
+ghost use Rattle.job_lines.specs.Names.{is_name, is_name_byte, is_part, is_slot, is_slot_byte};
+ghost use Rattle.job_lines.specs.Names.{is_type_name, is_visible};
 
 use geo_addr::{cut_at, is_blank};
 
@@ -13,8 +14,8 @@ const LONGEST_NAME: usize = 255;
 /// The most bytes of a slot and of a database type.
 const LONGEST_WORD: usize = 64;
 
-/// Whether a word is the name of a file: UTF-8, 1 to 255 bytes without blanks and line ends, of parts between single
-/// `/`, none of which is empty, `.` or `..`.
+/// Whether a word is the name of a file: UTF-8, 1 to 255 bytes without blanks and line ends, of
+/// parts between single `/`, none of which is empty, `.` or `..`.
 #[tactic(auto, unfolding(crate::specs::Names::is_name))]
 pub fn is_name(word: &[u8]) -> bool
     ensures { result ≡ is_name word.now }

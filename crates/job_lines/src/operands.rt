@@ -1,7 +1,8 @@
 //! What stands behind the first word of a line.
 ghost use Rattle.std.specs.Prelude.{◌≡◌, IfOk, IsTrue, MatchOption, None, Some};
 ghost use Rattle.std.specs.Str.{is_utf8};
-ghost use Rattle.job_lines.specs.Acts.{feed_key, file_alone, file_word, slot_alone, slot_and_file, slot_file_words, slot_word, url_alone};
+ghost use Rattle.job_lines.specs.Acts.{feed_key, file_alone, file_word, slot_alone, slot_and_file};
+ghost use Rattle.job_lines.specs.Acts.{slot_file_words, slot_word, url_alone};
 ghost use Rattle.job_lines.specs.Words.{both, has_none, only, words};
 
 use crate::names::{is_name, is_slot};
@@ -22,7 +23,8 @@ pub(crate) fn has_none(rest: &[u8]) -> bool
 
 /// The word of a text that has one alone.
 pub(crate) fn only(rest: &[u8]) -> Option<&[u8]>
-    ensures { MatchOption result (only (words rest.now) ≡ None) (λ word. only (words rest.now) ≡ Some word.now) }
+    ensures { MatchOption result (only (words rest.now) ≡ None)
+        (λ word. only (words rest.now) ≡ Some word.now) }
 {
     let (word, more) = next_word(rest)?;
     match next_word(more) {
@@ -33,7 +35,8 @@ pub(crate) fn only(rest: &[u8]) -> Option<&[u8]>
 
 /// The words of a text that has two alone.
 pub(crate) fn both(rest: &[u8]) -> Option<(&[u8], &[u8])>
-    ensures { MatchOption result (both (words rest.now) ≡ None) (λ found. both (words rest.now) ≡ Some (found.0.now, found.1.now)) }
+    ensures { MatchOption result (both (words rest.now) ≡ None)
+        (λ found. both (words rest.now) ≡ Some (found.0.now, found.1.now)) }
 {
     let (first, more) = next_word(rest)?;
     let (second, more) = next_word(more)?;
@@ -120,8 +123,8 @@ fn slot_file_words(alloc: Global, slot: &[u8], file: &[u8]) -> Result<Option<(Te
     Ok(Some((slot, file)))
 }
 
-/// The key of a feed, which is its https URL, serialised by the URL Standard, or `None` where a word is no such URL
-/// (RFC 9632, section 3).
+/// The key of a feed, which is its https URL, serialised by the URL Standard, or `None` where a
+/// word is no such URL (RFC 9632, section 3).
 pub fn feed_key(alloc: Global, url: &[u8]) -> Result<Option<Text>, Memory>
     ensures { IfOk result (λ key. key ≡ feed_key url.now) }
 {

@@ -2,7 +2,8 @@ use crate::{Act, Gone, Job, JobFault, feed_key, is_name, is_slot, read_job};
 use std::alloc::Global;
 use std::test::Fail;
 
-// A job in one line: epoch, database type, number of pieces, and each step with its line; or the fault.
+// A job in one line: epoch, database type, number of pieces, and each step with its line;
+// or the fault.
 fn told(alloc: Global, bytes: &[u8]) -> Result<String, Fail> {
     match read_job(alloc, bytes) {
         Ok(job) => spelt(alloc, &job),

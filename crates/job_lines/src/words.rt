@@ -28,7 +28,8 @@ fn is_comment(word: &[u8]) -> bool
 
 /// The first word of a text and what stands behind it, or `None` where the text has no words.
 pub(crate) fn next_word(text: &[u8]) -> Option<(&[u8], &[u8])>
-    ensures { MatchOption result (words text.now ≡ []) (λ found. words text.now ≡ found.0.now ∷ words found.1.now) }
+    ensures { MatchOption result (words text.now ≡ [])
+        (λ found. words text.now ≡ found.0.now ∷ words found.1.now) }
 {
     let mut left = text;
     loop {
@@ -53,7 +54,8 @@ pub(crate) fn next_word(text: &[u8]) -> Option<(&[u8], &[u8])>
 // The text before the first blank, and the text after it, which is `None` where there is no blank.
 #[tactic(auto, using(crate::proofs::WordLemmas::blank_cuts))]
 fn cut_blank(text: &[u8]) -> (&[u8], Option<&[u8]>)
-    ensures pieces { slice_split is_blank text.now ≡ result.0.now ∷ pieces_after_blank (option_copied result.1) }
+    ensures pieces { slice_split is_blank text.now
+        ≡ result.0.now ∷ pieces_after_blank (option_copied result.1) }
     ensures shorter { IfSome result.1 (λ rest. length rest.now < length text.now) }
 {
     let place = blank_at(text);

@@ -1,8 +1,10 @@
 //! The steps of a job, one after another.
-ghost use Rattle.std.specs.Prelude.{◌≡◌, ◌≢◌, ◌≤◌, ◌<◌, ◌+◌, ◌⊎◌, [], drop, false, length, take, true, IfErr, IfOk, OnErr, OnOk};
+ghost use Rattle.std.specs.Prelude.{◌≡◌, ◌≢◌, ◌≤◌, ◌<◌, ◌+◌, ◌⊎◌, [], drop, false, length, take};
+ghost use Rattle.std.specs.Prelude.{true, IfErr, IfOk, OnErr, OnOk};
 ghost use Rattle.std.specs.List.{list_all};
 ghost use Rattle.geo_outside.specs.Count.{Rose};
-ghost use Rattle.job_run.specs.Moves.{LacksAt, alone, begins_feed, most_together, moves_by, read_rooms, sets_feed, takes};
+ghost use Rattle.job_run.specs.Moves.{LacksAt, alone, begins_feed, most_together, moves_by};
+ghost use Rattle.job_run.specs.Moves.{read_rooms, sets_feed, takes};
 ghost use Rattle.job_run.specs.Parts.{DoesFirst, DoesPart, FailsAt, FailsPart};
 ghost use Rattle.job_run.specs.Seen.{seen};
 ghost use Rattle.job_run.specs.Sources.{LacksApart, read_room};

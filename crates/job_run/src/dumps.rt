@@ -1,5 +1,6 @@
 //! A registry dump, read from a file piece by piece.
-ghost use Rattle.std.specs.Prelude.{◌≡◌, ◌≢◌, ◌+◌, ◌++◌, ◌^◌, ◌<◌, ◌≤◌, ◌⊎◌, ℕ, List, [], IfErr, IfOk, IsSome, None, Ok, OnErr, OnOk, Some, length, vec_len};
+ghost use Rattle.std.specs.Prelude.{◌≡◌, ◌≢◌, ◌+◌, ◌++◌, ◌^◌, ◌<◌, ◌≤◌, ◌⊎◌, ℕ, List, [], IfErr};
+ghost use Rattle.std.specs.Prelude.{IfOk, IsSome, None, Ok, OnErr, OnOk, Some, length, vec_len};
 ghost use Rattle.std.specs.FinMap as map;
 ghost use Rattle.geo_outside.specs.Count.{Rose};
 ghost use Rattle.geo_outside.specs.Files.{IsReadFrom, Told};

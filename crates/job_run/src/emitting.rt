@@ -1,5 +1,6 @@
 //! The file of a session, written, and its line, printed.
-ghost use Rattle.std.specs.Prelude.{◌≡◌, ◌≢◌, ◌⊎◌, ◌≤◌, ◌+◌, ◌-◌, ◌^◌, List, [], IfErr, IfOk, IsTrue, None, OnOk, Some};
+ghost use Rattle.std.specs.Prelude.{◌≡◌, ◌≢◌, ◌⊎◌, ◌≤◌, ◌+◌, ◌-◌, ◌^◌, List, [], IfErr, IfOk};
+ghost use Rattle.std.specs.Prelude.{IsTrue, None, OnOk, Some};
 ghost use Rattle.geo_outside.specs.Count.{Rose};
 ghost use Rattle.geo_outside.specs.Files.{Told, Spoils, after_put};
 ghost use Rattle.update_session.specs.Calls.{HasEmitted, HasGrown, IsSpent};

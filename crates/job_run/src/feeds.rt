@@ -1,12 +1,14 @@
 //! Lines that set feeds together: their files are read in order, then parsed side by side, then
 //! set in order.
-ghost use Rattle.std.specs.Prelude.{◌≡◌, ◌≢◌, ◌≤◌, ◌<◌, ◌+◌, ◌⊎◌, [], true, length, map, IfErr, IfOk, None, Ok, OnOk, Some};
+ghost use Rattle.std.specs.Prelude.{◌≡◌, ◌≢◌, ◌≤◌, ◌<◌, ◌+◌, ◌⊎◌, [], true, length, map, IfErr};
+ghost use Rattle.std.specs.Prelude.{IfOk, None, Ok, OnOk, Some};
 ghost use Rattle.std.specs.List.{AllZip, list_all};
 ghost use Rattle.feed_csv.specs.File.{feed, longest};
 ghost use Rattle.geo_outside.specs.Count.{Rose};
 ghost use Rattle.geo_outside.specs.Files.{Told};
 ghost use Rattle.update_session.specs.Standing.{Standing, Stands};
-ghost use Rattle.job_run.specs.Feeds.{HaltsReading, IsFirstRefused, IsRead, Parses, RefusesParsing, no_read, with_feeds};
+ghost use Rattle.job_run.specs.Feeds.{HaltsReading, IsFirstRefused, IsRead, Parses, RefusesParsing};
+ghost use Rattle.job_run.specs.Feeds.{no_read, with_feeds};
 ghost use Rattle.job_run.specs.Moves.{LacksAt, read_rooms, sets_feed, together};
 ghost use Rattle.job_run.specs.Parts.{DoesPart, FailsAt};
 ghost use Rattle.job_run.specs.Seen.{Seen};

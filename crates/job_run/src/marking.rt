@@ -47,7 +47,8 @@ pub(crate) fn compact<O: Sink>(
     ensures printed { OnOk result (Prints (O.written out.old) (O.written out.new)
         (compact_line (length session.new.store))) }
     ensures unprinted { result ≡ Err Stop.SinkFailed → HasCompacted session.old session.new
-        × Tail Stop.SinkFailed [] (compact_line (length session.new.store)) (O.written out.old) (O.written out.new) }
+        × Tail Stop.SinkFailed [] (compact_line (length session.new.store)) (O.written out.old)
+        (O.written out.new) }
     ensures starved { result ≡ Err Stop.Memory → Prints (O.written out.old) (O.written out.new) [] }
     ensures causes { IfErr result (λ why. (why ≡ Stop.SinkFailed) ⊎ (why ≡ Stop.Memory)) }
     ensures sink_failed { result ≡ Err Stop.SinkFailed

@@ -21,9 +21,11 @@ pub(crate) fn print_report<O: Sink>(
     session: &Session,
     out: &mut O,
 ) -> Result<(), Stop>
-    ensures printed { OnOk result (Prints (O.written out.old) (O.written out.new) (report_text (report session.now.state.sources))) }
+    ensures printed { OnOk result (Prints (O.written out.old) (O.written out.new)
+        (report_text (report session.now.state.sources))) }
     ensures tail { IfErr result
-        (λ why. Tail why [] (report_text (report session.now.state.sources)) (O.written out.old) (O.written out.new)) }
+        (λ why. Tail why [] (report_text (report session.now.state.sources)) (O.written out.old)
+        (O.written out.new)) }
     ensures causes { IfErr result (λ why. (why ≡ Stop.SinkFailed) ⊎ (why ≡ Stop.Memory)) }
     ensures sink_failed { result ≡ Err Stop.SinkFailed
         → Rose (O.faults out.old) (O.faults out.new) }

@@ -1,5 +1,6 @@
 //! A source, read and set.
-ghost use Rattle.std.specs.Prelude.{◌≡◌, ◌≢◌, ◌⊎◌, ◌≤◌, ◌+◌, ◌^◌, [], IfErr, IfOk, None, OnErr, OnOk, Some};
+ghost use Rattle.std.specs.Prelude.{◌≡◌, ◌≢◌, ◌⊎◌, ◌≤◌, ◌+◌, ◌^◌, [], IfErr, IfOk, None, OnErr};
+ghost use Rattle.std.specs.Prelude.{OnOk, Some};
 ghost use Rattle.geo_outside.specs.Count.{Rose};
 ghost use Rattle.geo_outside.specs.Files.{Told};
 ghost use Rattle.nro_stats.specs.File.{stats};
@@ -36,9 +37,11 @@ pub(crate) fn set_dump<F: Folder>(
     folder: &mut F,
 ) -> Result<(), Stop>
     ensures set { (w : Told) → F.told folder.old ≡ Some w → OnOk result
-        (IsSet (Act.Rpsl slot.now name.now) (held_in apart.now w name.now) session.old session.new) }
+        (IsSet (Act.Rpsl slot.now name.now)
+        (held_in apart.now w name.now) session.old session.new) }
     ensures unset { (w : Told) → F.told folder.old ≡ Some w → IfErr result (λ why. IsHindered why
-        (λ cause. no_source (Act.Rpsl slot.now name.now) (held_in apart.now w name.now) ≡ Some cause)) }
+        (λ cause. no_source (Act.Rpsl slot.now name.now) (held_in apart.now w name.now)
+        ≡ Some cause)) }
     ensures err { OnErr result (session.new ≡ session.old) }
     ensures reads { (result ≢ Err Stop.PutFailed) × (result ≢ Err Stop.SinkFailed)
         × (result ≢ Err (Stop.Blocked Cause.Words)) }
@@ -76,9 +79,11 @@ pub(crate) fn set_stats<F: Folder>(
     folder: &mut F,
 ) -> Result<(), Stop>
     ensures set { (w : Told) → F.told folder.old ≡ Some w → OnOk result
-        (IsSet (Act.Stats slot.now name.now) (held_in apart.now w name.now) session.old session.new) }
+        (IsSet (Act.Stats slot.now name.now)
+        (held_in apart.now w name.now) session.old session.new) }
     ensures unset { (w : Told) → F.told folder.old ≡ Some w → IfErr result (λ why. IsHindered why
-        (λ cause. no_source (Act.Stats slot.now name.now) (held_in apart.now w name.now) ≡ Some cause)) }
+        (λ cause. no_source (Act.Stats slot.now name.now) (held_in apart.now w name.now)
+        ≡ Some cause)) }
     ensures err { OnErr result (session.new ≡ session.old) }
     ensures reads { (result ≢ Err Stop.PutFailed) × (result ≢ Err Stop.SinkFailed)
         × (result ≢ Err (Stop.Blocked Cause.Words)) }

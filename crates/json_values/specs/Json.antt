@@ -1,5 +1,6 @@
 -- The JSON text of a value (RFC 8259), without blanks.
-use Rattle.std.specs.Prelude.{ℕ, ◌/◌, ◌%◌, ◌==◌, nat_lt, if◌then◌else◌, Bool, true, false, List, [], ◌∷◌, ◌++◌, flat_map, codes, decimal}
+use Rattle.std.specs.Prelude.{ℕ, ◌/◌, ◌%◌, ◌==◌, nat_lt, if◌then◌else◌, Bool, true, false, List, []}
+use Rattle.std.specs.Prelude.{◌∷◌, ◌++◌, flat_map, codes, decimal}
 use Rattle.std.specs.Char.{digit_char}
 use Rattle.std.specs.Fmt.{signed_decimal}
 use Rattle.std.specs.List.{fold, join_by}
@@ -7,9 +8,11 @@ use Rattle.std.specs.Ordering.{nat_cmp}
 use Rattle.std.specs.Cmp.Lexicographic.{slice_cmp}
 use Rattle.std.specs.FinMap as finite
 use Rattle.hex.specs.Hex.{encode_lower}
-use Rattle.mmdb_data.specs.Tree.{Tree, Members, Items, map, list, text, bytes, u16, u32, i32, u64, u128, bool, double, float, no_members, member, no_items, item}
+use Rattle.mmdb_data.specs.Tree.{Tree, Members, Items, map, list, text, bytes, u16, u32, i32, u64}
+use Rattle.mmdb_data.specs.Tree.{u128, bool, double, float, no_members, member, no_items, item}
 
--- what stands in a string for a byte: a quotation mark, a backslash and a control are escaped (RFC 8259, section 7)
+-- what stands in a string for a byte: a quotation mark, a backslash and a control
+-- are escaped (RFC 8259, section 7)
 unfoldable pub escaped : ℕ → List ℕ
 escaped b =
     if b == 34 then codes "\\\""
@@ -47,8 +50,8 @@ abbrev pub bool_text : Bool → List ℕ
 bool_text true = codes "true"
 bool_text false = codes "false"
 
--- Numbers of up to 64 bits are numbers. A number of 128 bits is a string of its decimal digits, and bytes, doubles and
--- floats are strings of two hexadecimal digits a byte.
+-- Numbers of up to 64 bits are numbers. A number of 128 bits is a string of its decimal digits, and
+-- bytes, doubles and floats are strings of two hexadecimal digits a byte.
 abbrev mutual
   pub json : Tree → List ℕ
   json (map members) = object_text (object_of (member_texts members))

@@ -1,9 +1,12 @@
 -- The JSON value that is made of a value of the data section.
 use Rattle.std.specs.Prelude.{decimal}
 use Rattle.hex.specs.Hex.{encode_lower}
-use Rattle.serde_json.specs.Data.{Data, boolean, number, string, array, object, unsigned, put, Items as DataItems, no_items as no_data_items, item as data_item, Members as DataMembers, no_members as no_data_members}
+use Rattle.serde_json.specs.Data.{Data, boolean, number, string, array, object, unsigned, put}
+use Rattle.serde_json.specs.Data.{Items as DataItems, no_items as no_data_items, item as data_item}
+use Rattle.serde_json.specs.Data.{Members as DataMembers, no_members as no_data_members}
 use Rattle.serde_json.specs.Find.{of_integer}
-use Rattle.mmdb_data.specs.Tree.{Tree, Members, Items, map, list, text, bytes, u16, u32, i32, u64, u128, bool, double, float, no_members, member, no_items, item}
+use Rattle.mmdb_data.specs.Tree.{Tree, Members, Items, map, list, text, bytes, u16, u32, i32, u64}
+use Rattle.mmdb_data.specs.Tree.{u128, bool, double, float, no_members, member, no_items, item}
 
 abbrev mutual
   pub data_of : Tree → Data

@@ -2,7 +2,8 @@
 ghost use Rattle.std.specs.Prelude.{◌≡◌, IfOk};
 ghost use Rattle.hex.specs.Hex.{encode_lower};
 ghost use Rattle.serde_json.specs.Data.{string as string_data, no_members};
-ghost use Rattle.serde_json.specs.View.{view as data_view, items_view as data_items_view, members_view as data_members_view};
+ghost use Rattle.serde_json.specs.View.{view as data_view, items_view as data_items_view};
+ghost use Rattle.serde_json.specs.View.{members_view as data_members_view};
 ghost use Rattle.mmdb_data.specs.View.{tree, items_view, members_view};
 ghost use Rattle.json_values.specs.Json.{json};
 ghost use Rattle.json_values.specs.JsonData.{data_of, members_put, items_data};
@@ -14,8 +15,8 @@ use std::alloc::Global;
 
 /// The JSON text of a value, without blanks (RFC 8259).
 ///
-/// Maps are objects with ascending keys, of equal ones the last. Numbers of 128 bits are strings of decimal
-/// digits; byte strings, doubles and floats are strings of lower-case hexadecimal digits.
+/// Maps are objects with ascending keys, of equal ones the last. Numbers of 128 bits are strings of
+/// decimal digits; byte strings, doubles and floats are strings of lower-case hexadecimal digits.
 pub fn json_text(alloc: Global, value: &Value) -> Result<Text, Memory>
     ensures { IfOk result (λ text. text ≡ json (tree value.now)) }
 {
@@ -47,7 +48,8 @@ fn json_of(alloc: Global, value: &Value) -> Result<Json, Memory>
 
 #[cycle(making)]
 fn object_of(alloc: Global, pairs: &[(Text, Value)]) -> Result<Map<String, Json>, Memory>
-    ensures { IfOk result (λ object. data_members_view object.entries ≡ members_put (members_view pairs.now) no_members) }
+    ensures { IfOk result (λ object. data_members_view object.entries
+        ≡ members_put (members_view pairs.now) no_members) }
 {
     let mut object = Map::new(alloc);
     for (key, value) in pairs {
@@ -59,7 +61,8 @@ fn object_of(alloc: Global, pairs: &[(Text, Value)]) -> Result<Map<String, Json>
 
 #[cycle(making)]
 fn array_of(alloc: Global, values: &[Value]) -> Result<Vec<Json>, Memory>
-    ensures { IfOk result (λ array. data_items_view array.items ≡ items_data (items_view values.now)) }
+    ensures { IfOk result
+        (λ array. data_items_view array.items ≡ items_data (items_view values.now)) }
 {
     let mut array = Vec::new(alloc);
     for value in values {

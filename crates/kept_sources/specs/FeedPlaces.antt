@@ -27,7 +27,8 @@ module _ {Z : Type 0} where
   kept_places kept = (arc_value kept).places.items
 
   -- what is kept beside dumps and feeds
-  pub record AreSpeaking (s : InForce) (refs : Option (Arc ReferencePlaces Z)) (feeds : List (Arc FeedPlaces Z)) : Type 0 where
+  pub record AreSpeaking (s : InForce) (refs : Option (Arc ReferencePlaces Z))
+      (feeds : List (Arc FeedPlaces Z)) : Type 0 where
     pub of_references : AreCutsOf (map (λ r. r.range) (references s)) (reference_places refs)
     pub of_feeds : AllZip HasCutsOf s.feeds (map arc_value feeds)
     pub ordered : AreInOrder (λ k. k.url) (map arc_value feeds)

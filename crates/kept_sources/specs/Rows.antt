@@ -12,4 +12,5 @@ overrides_of held = arc_value held.overrides
 -- what is kept where overrides are in force
 abbrev pub AreHeld : Option Held → Type 0
 AreHeld None = ⊤
-AreHeld (Some held) = IsKindIndex override_cmp (λ o. o.range) (arc_value held.overrides).rows (arc_value held.index)
+AreHeld (Some held) =
+    IsKindIndex override_cmp (λ o. o.range) (arc_value held.overrides).rows (arc_value held.index)

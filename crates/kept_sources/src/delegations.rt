@@ -23,7 +23,8 @@ pub fn indexed(alloc: Global, files: &[Arc<Stats>]) -> Result<Arc<KindIndex>, Me
 
 /// The delegation at a place among those of all files.
 pub fn delegation_at<'a>(files: &'a [Arc<Stats>], place: usize) -> Option<&'a Delegation>
-    ensures { option_copied result ≡ slice_get (flat_map (λ t. t.rows) (map arc_value files.entry.now)) place }
+    ensures { option_copied result
+        ≡ slice_get (flat_map (λ t. t.rows) (map arc_value files.entry.now)) place }
 {
     let mut left = place;
     for file in files {
@@ -44,7 +45,8 @@ fn row_at(rows: &[Delegation], place: usize) -> Option<&Delegation>
 
 // The delegations of all files, borrowed.
 fn rows_of<'a>(alloc: Global, files: &'a [Arc<Stats>]) -> Result<Vec<&'a Delegation>, Memory>
-    ensures { IfOk result (λ rows. map (λ d. d.now) rows.items ≡ flat_map (λ t. t.rows) (map arc_value files.entry.now)) }
+    ensures { IfOk result (λ rows. map (λ d. d.now) rows.items
+        ≡ flat_map (λ t. t.rows) (map arc_value files.entry.now)) }
 {
     let mut rows = Vec::new(alloc);
     for file in files {

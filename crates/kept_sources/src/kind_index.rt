@@ -18,7 +18,8 @@ pub struct KindIndex {
 
 /// The index of these statements.
 pub fn index_of<S: Statement>(alloc: Global, statements: &[&S]) -> Result<KindIndex, Memory>
-    ensures index { IfOk result (λ index. IsKindIndex S.order S.range (map (λ s. s.now) statements.entry.now) index) }
+    ensures index { IfOk result
+        (λ index. IsKindIndex S.order S.range (map (λ s. s.now) statements.entry.now) index) }
     ensures kept { OnOk result (All S.kept (map (λ s. s.now) statements.entry.now)) }
 {
     let firsts = FirstIndex::of(alloc, statements)?;
@@ -39,7 +40,8 @@ pub fn push_ranges<S: Statement>(ranges: &mut Vec<Range>, statements: &[S]) -> R
 
 /// The cut points of statements.
 pub fn places_of<S: Statement>(alloc: Global, statements: &[&S]) -> Result<Vec<u128>, Memory>
-    ensures { IfOk result (λ places. AreCutsOf (map S.range (map (λ s. s.now) statements.entry.now)) places.items) }
+    ensures { IfOk result
+        (λ places. AreCutsOf (map S.range (map (λ s. s.now) statements.entry.now)) places.items) }
 {
     // Of ranges that lie side by side each adds one place.
     let mut places = Vec::with_capacity(alloc, statements.len())?;

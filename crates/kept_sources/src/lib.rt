@@ -1,4 +1,5 @@
-//! What is kept of the sources of each kind: the sources, the first statement at each address, cut points.
+//! What is kept of the sources of each kind: the sources, the first statement at each address,
+//! cut points.
 #![tactic(auto)]
 
 mod delegations;

@@ -41,7 +41,8 @@ impl Model for Overriding {
 }
 
 impl Overriding {
-    ghost use Rattle.std.specs.Prelude.{◌≡◌, ◌++◌, flat_map, map, option_map, IfOk, IsOk, OnOk, OnErr, Some, None};
+    ghost use Rattle.std.specs.Prelude.{◌≡◌, ◌++◌, flat_map, map, option_map, IfOk, IsOk, OnOk};
+    ghost use Rattle.std.specs.Prelude.{OnErr, Some, None};
     ghost use Rattle.std.specs.Arc.{arc_value};
     ghost use Rattle.std.specs.Option.{option_copied};
     ghost use Rattle.geo_terms.specs.First.{first_at};
@@ -95,7 +96,8 @@ impl Overriding {
 
     /// The first override that holds an address.
     pub fn first_at(&self, at: Addr) -> Option<&Override>
-        ensures { option_copied result ≡ first_at override_before (λ o. o.range) (rows_in self.now) at.0 }
+        ensures { option_copied result
+            ≡ first_at override_before (λ o. o.range) (rows_in self.now) at.0 }
     {
         let held = self.held.as_ref()?;
         let place = held.index.firsts.place_at(at)?;
@@ -104,7 +106,8 @@ impl Overriding {
 
     /// Appends the ranges of all rows.
     pub fn push_ranges(&self, ranges: &mut Vec<Range>) -> Result<(), Memory>
-        ensures { OnOk result (ranges.new.items ≡ ranges.old.items ++ map (λ o. o.range) (rows_in self.now)) }
+        ensures { OnOk result
+            (ranges.new.items ≡ ranges.old.items ++ map (λ o. o.range) (rows_in self.now)) }
     {
         if let Some(held) = &self.held {
             push_ranges(ranges, held.overrides.rows.as_slice())?;
@@ -124,7 +127,8 @@ impl Overriding {
 
     /// Appends the notes on rows that speak nowhere.
     pub fn push_alias_notes(&self, notes: &mut Vec<Note>) -> Result<(), Memory>
-        ensures { OnOk result (notes.new.items ≡ notes.old.items ++ flat_map (λ o. alias_note Origin.Overrides o.range o.line) (rows_in self.now)) }
+        ensures { OnOk result (notes.new.items ≡ notes.old.items
+            ++ flat_map (λ o. alias_note Origin.Overrides o.range o.line) (rows_in self.now)) }
     {
         if let Some(held) = &self.held {
             note_overrides(notes, held.overrides.rows.as_slice())?;
@@ -159,7 +163,8 @@ impl Overriding {
 // Overrides with the index of their rows.
 fn indexed(alloc: Global, overrides: Overrides) -> Result<Held, Memory>
     ensures overrides { IfOk result (λ held. arc_value held.overrides ≡ overrides) }
-    ensures index { IfOk result (λ held. IsKindIndex override_cmp (λ o. o.range) overrides.rows (arc_value held.index)) }
+    ensures index { IfOk result
+        (λ held. IsKindIndex override_cmp (λ o. o.range) overrides.rows (arc_value held.index)) }
 {
     let index = row_index(alloc, overrides.rows.as_slice())?;
     let overrides = Arc::new(alloc, overrides)?;
@@ -167,7 +172,8 @@ fn indexed(alloc: Global, overrides: Overrides) -> Result<Held, Memory>
 }
 
 fn row_index(alloc: Global, rows: &[Override]) -> Result<Arc<KindIndex>, Memory>
-    ensures { IfOk result (λ index. IsKindIndex override_cmp (λ o. o.range) rows.now (arc_value index)) }
+    ensures { IfOk result
+        (λ index. IsKindIndex override_cmp (λ o. o.range) rows.now (arc_value index)) }
 {
     let mut borrowed = Vec::new(alloc);
     push_borrows(&mut borrowed, rows)?;

@@ -1,5 +1,6 @@
 //! Shared values of one kind in the order of their names.
-ghost use Rattle.std.specs.Prelude.{◌≡◌, ◌<◌, ◌≤◌, ℕ, List, length, map, find, insert, option_map, remove, slice_set, IfOk, OnOk};
+ghost use Rattle.std.specs.Prelude.{◌≡◌, ◌<◌, ◌≤◌, ℕ, List, length, map, find, insert, option_map};
+ghost use Rattle.std.specs.Prelude.{remove, slice_set, IfOk, OnOk};
 ghost use Rattle.std.specs.Arc.{arc_value};
 ghost use Rattle.std.specs.List.Sorted.{IsBinarySearchResult, IsSearchInRange};
 ghost use Rattle.std.specs.Option.{option_copied};
@@ -31,7 +32,8 @@ impl Named for Stats {
 /// The value of a name.
 pub fn find_named<'a, T: Named + Drop>(shelf: &'a [Arc<T>], name: &str) -> Option<&'a Arc<T>>
     requires { AreInOrder T.name (map arc_value shelf.now) }
-    ensures { option_map arc_value (option_copied result) ≡ find (λ t. same_text (T.name t) name.now) (map arc_value shelf.entry.now) }
+    ensures { option_map arc_value (option_copied result)
+        ≡ find (λ t. same_text (T.name t) name.now) (map arc_value shelf.entry.now) }
 {
     match place_of(shelf, name) {
         Ok(place) => Some(&shelf[place]),
@@ -46,7 +48,8 @@ pub fn with_one<T: Named + Drop>(
     item: Arc<T>,
 ) -> Result<Vec<Arc<T>>, Memory>
     requires { AreInOrder T.name (map arc_value shelf.now) }
-    ensures { IfOk result (λ new. map arc_value new.items ≡ placed T.name (arc_value item) (map arc_value shelf.now)) }
+    ensures { IfOk result (λ new. map arc_value new.items
+        ≡ placed T.name (arc_value item) (map arc_value shelf.now)) }
 {
     let mut new = copies(alloc, shelf)?;
     match place_of(new.as_slice(), item.name()) {
@@ -68,7 +71,8 @@ pub fn without<T: Named + Drop>(
     name: &str,
 ) -> Result<Vec<Arc<T>>, Memory>
     requires { AreInOrder T.name (map arc_value shelf.now) }
-    ensures { IfOk result (λ new. map arc_value new.items ≡ removed T.name name.now (map arc_value shelf.now)) }
+    ensures { IfOk result
+        (λ new. map arc_value new.items ≡ removed T.name name.now (map arc_value shelf.now)) }
 {
     let mut new = copies(alloc, shelf)?;
     take_out(&mut new, name);
@@ -78,7 +82,8 @@ pub fn without<T: Named + Drop>(
 /// Takes the value of a name out.
 pub fn take_out<T: Named + Drop>(shelf: &mut Vec<Arc<T>>, name: &str)
     requires { AreInOrder T.name (map arc_value shelf.old.items) }
-    ensures { map arc_value shelf.new.items ≡ removed T.name name.now (map arc_value shelf.old.items) }
+    ensures { map arc_value shelf.new.items
+        ≡ removed T.name name.now (map arc_value shelf.old.items) }
 {
     match place_of(shelf.as_slice(), name) {
         Ok(place) => {
@@ -132,7 +137,8 @@ pub fn second<T: Drop>(item: &Arc<T>) -> Result<Arc<T>, Memory>
 /// A second owner of the value of a name.
 pub fn held<T: Named + Drop>(shelf: &[Arc<T>], name: &str) -> Result<Option<Arc<T>>, Memory>
     requires { AreInOrder T.name (map arc_value shelf.now) }
-    ensures { IfOk result (λ item. option_map arc_value item ≡ find (λ t. same_text (T.name t) name.now) (map arc_value shelf.now)) }
+    ensures { IfOk result (λ item. option_map arc_value item
+        ≡ find (λ t. same_text (T.name t) name.now) (map arc_value shelf.now)) }
 {
     match find_named(shelf, name) {
         Some(item) => {
@@ -146,7 +152,8 @@ pub fn held<T: Named + Drop>(shelf: &[Arc<T>], name: &str) -> Result<Option<Arc<
 // Where the value of a name stands, or where one is to be put.
 fn place_of<T: Named + Drop>(shelf: &[Arc<T>], name: &str) -> Result<usize, usize>
     ensures within { IsSearchInRange result (length shelf.now) }
-    ensures found { IsBinarySearchResult (λ t. text_cmp (T.name (arc_value t)) name.now) shelf.now result }
+    ensures found { IsBinarySearchResult (λ t. text_cmp (T.name (arc_value t)) name.now)
+        shelf.now result }
 {
     shelf.binary_search_by(|item| item.name().cmp(name))
 }

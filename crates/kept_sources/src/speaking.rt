@@ -1,5 +1,6 @@
 //! The dumps and feeds in force.
-ghost use Rattle.std.specs.Prelude.{◌≡◌, ◌↔◌, ◌⊎◌, ◌<◌, ◌++◌, ℕ, All, Any, Contains, length, map, flat_map, IfOk, OnOk};
+ghost use Rattle.std.specs.Prelude.{◌≡◌, ◌↔◌, ◌⊎◌, ◌<◌, ◌++◌, ℕ, All, Any, Contains, length, map};
+ghost use Rattle.std.specs.Prelude.{flat_map, IfOk, OnOk};
 ghost use Rattle.std.specs.Arc.{arc_value};
 ghost use Rattle.std.specs.List.{AllAdjacentBelow};
 ghost use Rattle.std.specs.List.Sorted.{IsStrictlyIncreasing};
@@ -72,7 +73,8 @@ impl Model for Speaking {
 }
 
 impl Speaking {
-    ghost use Rattle.std.specs.Prelude.{◌≡◌, ◌↔◌, ◌++◌, ◌<◌, [], All, map, flat_map, find, length, option_map, IfOk, IfErr, OnOk, OnErr, Some, None};
+    ghost use Rattle.std.specs.Prelude.{◌≡◌, ◌↔◌, ◌++◌, ◌<◌, [], All, map, flat_map, find, length};
+    ghost use Rattle.std.specs.Prelude.{option_map, IfOk, IfErr, OnOk, OnErr, Some, None};
     ghost use Rattle.std.specs.Arc.{arc_value};
     ghost use Rattle.std.specs.List.{AllAdjacentBelow};
     ghost use Rattle.authority.specs.declared.fault.DropFault.{DropFault};
@@ -98,8 +100,10 @@ impl Speaking {
 
     /// Puts a dump in the place of the one with the same slot, and hands the old one back.
     pub fn set_dump(&mut self, dump: Dump) -> Result<Option<Arc<Dump>>, Memory>
-        ensures sources { OnOk result (self.new ≡ record self.old { dumps = placed (λ d. d.slot) dump self.old.dumps }) }
-        ensures old { IfOk result (λ old. option_map arc_value old ≡ find (λ d. same_text d.slot dump.slot) self.old.dumps) }
+        ensures sources { OnOk result
+            (self.new ≡ record self.old { dumps = placed (λ d. d.slot) dump self.old.dumps }) }
+        ensures old { IfOk result (λ old. option_map arc_value old
+            ≡ find (λ d. same_text d.slot dump.slot) self.old.dumps) }
         ensures err { OnErr result (self.new ≡ self.old) }
     {
         let mut next = self.authority.snapshot()?;
@@ -112,9 +116,12 @@ impl Speaking {
 
     /// Takes the dump of a slot out of force, and hands it back.
     pub fn drop_dump(&mut self, slot: &str) -> Result<Arc<Dump>, DropFault>
-        ensures sources { OnOk result (self.new ≡ record self.old { dumps = removed (λ d. d.slot) slot.now self.old.dumps }) }
-        ensures old { IfOk result (λ old. Some (arc_value old) ≡ find (λ d. same_text d.slot slot.now) self.old.dumps) }
-        ensures not_there { IfErr result (λ fault. fault ≡ DropFault.NotThere ↔ (find (λ d. same_text d.slot slot.now) self.old.dumps ≡ None)) }
+        ensures sources { OnOk result
+            (self.new ≡ record self.old { dumps = removed (λ d. d.slot) slot.now self.old.dumps }) }
+        ensures old { IfOk result
+            (λ old. Some (arc_value old) ≡ find (λ d. same_text d.slot slot.now) self.old.dumps) }
+        ensures not_there { IfErr result (λ fault. fault ≡ DropFault.NotThere
+            ↔ (find (λ d. same_text d.slot slot.now) self.old.dumps ≡ None)) }
         ensures err { OnErr result (self.new ≡ self.old) }
     {
         let Some(_held) = find_named(self.authority.dumps(), slot) else {
@@ -130,8 +137,10 @@ impl Speaking {
 
     /// Puts a feed in the place of the one with the same URL, and hands the old one back.
     pub fn set_feed(&mut self, feed: Feed) -> Result<Option<Arc<Feed>>, Memory>
-        ensures sources { OnOk result (self.new ≡ record self.old { feeds = placed (λ f. f.url) feed self.old.feeds }) }
-        ensures old { IfOk result (λ old. option_map arc_value old ≡ find (λ f. same_text f.url feed.url) self.old.feeds) }
+        ensures sources { OnOk result
+            (self.new ≡ record self.old { feeds = placed (λ f. f.url) feed self.old.feeds }) }
+        ensures old { IfOk result (λ old. option_map arc_value old
+            ≡ find (λ f. same_text f.url feed.url) self.old.feeds) }
         ensures err { OnErr result (self.new ≡ self.old) }
     {
         let places = places_of_feed(self.alloc, &feed)?;
@@ -143,9 +152,12 @@ impl Speaking {
 
     /// Takes the feed of a URL out of force, and hands it back. It takes no memory.
     pub fn drop_feed(&mut self, url: &str) -> Result<Arc<Feed>, DropFault>
-        ensures sources { OnOk result (self.new ≡ record self.old { feeds = removed (λ f. f.url) url.now self.old.feeds }) }
-        ensures old { IfOk result (λ old. Some (arc_value old) ≡ find (λ f. same_text f.url url.now) self.old.feeds) }
-        ensures not_there { IfErr result (λ fault. fault ≡ DropFault.NotThere ↔ (find (λ f. same_text f.url url.now) self.old.feeds ≡ None)) }
+        ensures sources { OnOk result
+            (self.new ≡ record self.old { feeds = removed (λ f. f.url) url.now self.old.feeds }) }
+        ensures old { IfOk result
+            (λ old. Some (arc_value old) ≡ find (λ f. same_text f.url url.now) self.old.feeds) }
+        ensures not_there { IfErr result (λ fault. fault ≡ DropFault.NotThere
+            ↔ (find (λ f. same_text f.url url.now) self.old.feeds ≡ None)) }
         ensures err { OnErr result (self.new ≡ self.old) }
     {
         let old = self.authority.drop_feed(url)?;
@@ -160,21 +172,25 @@ impl Speaking {
         &self.authority
     }
 
-    /// Appends the ranges of all references, dump by dump, and then those of all entries, feed by feed.
+    /// Appends the ranges of all references, dump by dump, and then those of all entries,
+    /// feed by feed.
     pub fn push_ranges(&self, ranges: &mut Vec<Range>) -> Result<(), Memory>
-        ensures { OnOk result (ranges.new.items ≡ (ranges.old.items ++ map (λ r. r.range) (references self.now)) ++ map (λ e. range_of_block e.block) (entries self.now)) }
+        ensures { OnOk result
+            (ranges.new.items ≡ (ranges.old.items ++ map (λ r. r.range) (references self.now))
+            ++ map (λ e. range_of_block e.block) (entries self.now)) }
     {
         push_references(ranges, self.authority.dumps())?;
         push_entries(ranges, self.authority.feeds())
     }
 
-    /// Appends the cut points of all references and entries that lie inside one of ascending ranges, to an
-    /// empty vector.
+    /// Appends the cut points of all references and entries that lie inside one of ascending
+    /// ranges, to an empty vector.
     pub fn push_inside(&self, places: &mut Vec<u128>, bounds: &[Range]) -> Result<(), Memory>
         requires ranges { All IsRange bounds.now }
         requires apart { AllAdjacentBelow (λ r t. r.last < t.first) bounds.now (length bounds.now) }
         requires none { places.old.items ≡ [] }
-        ensures { OnOk result (AreCutsInside (map (λ r. r.range) (references self.now) ++ map (λ e. range_of_block e.block) (entries self.now)) bounds.now places.new.items) }
+        ensures { OnOk result (AreCutsInside (map (λ r. r.range) (references self.now)
+            ++ map (λ e. range_of_block e.block) (entries self.now)) bounds.now places.new.items) }
     {
         push_inside(places, self.kept_references(), bounds)?;
         push_feeds_inside(places, self.feeds.as_slice(), bounds)?;
@@ -202,17 +218,21 @@ impl Speaking {
 
     /// Appends the notes of all dumps, and then those of all feeds.
     pub fn push_notes(&self, notes: &mut Vec<Note>) -> Result<(), Memory>
-        ensures { OnOk result (notes.new.items ≡ (notes.old.items ++ flat_map (λ d. d.notes) self.now.dumps) ++ flat_map (λ f. f.notes) self.now.feeds) }
+        ensures { OnOk result
+            (notes.new.items ≡ (notes.old.items ++ flat_map (λ d. d.notes) self.now.dumps)
+            ++ flat_map (λ f. f.notes) self.now.feeds) }
     {
         push_dump_notes(notes, self.authority.dumps())?;
         push_feed_notes(notes, self.authority.feeds())
     }
 
-    /// Appends the notes on references that speak nowhere, dump by dump, and then those on entries, feed by
-    /// feed.
+    /// Appends the notes on references that speak nowhere, dump by dump, and then those on entries,
+    /// feed by feed.
     pub fn push_alias_notes(&self, notes: &mut Vec<Note>) -> Result<(), Memory>
-        ensures { OnOk result (notes.new.items ≡ (notes.old.items ++ flat_map (λ r. alias_note (Origin.Rpsl r.slot) r.range r.line) (references self.now))
-            ++ flat_map (λ f. flat_map (λ e. alias_note (Origin.Feed f.url) (range_of_block e.block) e.line) f.entries) self.now.feeds) }
+        ensures { OnOk result (notes.new.items ≡ (notes.old.items
+            ++ flat_map (λ r. alias_note (Origin.Rpsl r.slot) r.range r.line) (references self.now))
+            ++ flat_map (λ f. flat_map (λ e. alias_note (Origin.Feed f.url)
+            (range_of_block e.block) e.line) f.entries) self.now.feeds) }
     {
         push_dump_aliases(notes, self.authority.dumps())?;
         push_feed_aliases(notes, self.authority.feeds())
@@ -237,7 +257,9 @@ impl Speaking {
 
 // The cut points of the references of these dumps, to be shared.
 fn places_of_dumps(alloc: Global, dumps: &[Arc<Dump>]) -> Result<Arc<ReferencePlaces>, Memory>
-    ensures { IfOk result (λ kept. AreCutsOf (map (λ r. r.range) (flat_map (λ d. d.refs) (map arc_value dumps.now))) (arc_value kept).places.items) }
+    ensures { IfOk result
+        (λ kept. AreCutsOf (map (λ r. r.range) (flat_map (λ d. d.refs) (map arc_value dumps.now)))
+        (arc_value kept).places.items) }
 {
     let places = reference_places(alloc, dumps)?;
     let kept = Arc::new(alloc, ReferencePlaces { places })?;
@@ -245,7 +267,8 @@ fn places_of_dumps(alloc: Global, dumps: &[Arc<Dump>]) -> Result<Arc<ReferencePl
 }
 
 fn reference_places(alloc: Global, dumps: &[Arc<Dump>]) -> Result<Vec<u128>, Memory>
-    ensures { IfOk result (λ places. AreCutsOf (map (λ r. r.range) (flat_map (λ d. d.refs) (map arc_value dumps.now))) places.items) }
+    ensures { IfOk result (λ places. AreCutsOf
+        (map (λ r. r.range) (flat_map (λ d. d.refs) (map arc_value dumps.now))) places.items) }
 {
     let mut ranges = Vec::new(alloc);
     push_references(&mut ranges, dumps)?;
@@ -264,7 +287,8 @@ fn places_of_feed(alloc: Global, feed: &Feed) -> Result<Arc<FeedPlaces>, Memory>
 }
 
 fn entry_places(alloc: Global, entries: &[Entry]) -> Result<Vec<u128>, Memory>
-    ensures { IfOk result (λ places. AreCutsOf (map (λ e. range_of_block e.block) entries.now) places.items) }
+    ensures { IfOk result
+        (λ places. AreCutsOf (map (λ e. range_of_block e.block) entries.now) places.items) }
 {
     let mut borrowed = Vec::new(alloc);
     push_borrows(&mut borrowed, entries)?;
@@ -272,7 +296,8 @@ fn entry_places(alloc: Global, entries: &[Entry]) -> Result<Vec<u128>, Memory>
 }
 
 fn push_references(ranges: &mut Vec<Range>, dumps: &[Arc<Dump>]) -> Result<(), Memory>
-    ensures { OnOk result (ranges.new.items ≡ ranges.old.items ++ map (λ r. r.range) (flat_map (λ d. d.refs) (map arc_value dumps.now))) }
+    ensures { OnOk result (ranges.new.items ≡ ranges.old.items
+        ++ map (λ r. r.range) (flat_map (λ d. d.refs) (map arc_value dumps.now))) }
 {
     for dump in dumps {
         push_ranges(ranges, dump.refs.as_slice())?;
@@ -281,7 +306,8 @@ fn push_references(ranges: &mut Vec<Range>, dumps: &[Arc<Dump>]) -> Result<(), M
 }
 
 fn push_entries(ranges: &mut Vec<Range>, feeds: &[Arc<Feed>]) -> Result<(), Memory>
-    ensures { OnOk result (ranges.new.items ≡ ranges.old.items ++ map (λ e. range_of_block e.block) (flat_map (λ f. f.entries) (map arc_value feeds.now))) }
+    ensures { OnOk result (ranges.new.items ≡ ranges.old.items ++ map (λ e. range_of_block e.block)
+        (flat_map (λ f. f.entries) (map arc_value feeds.now))) }
 {
     for feed in feeds {
         push_ranges(ranges, feed.entries.as_slice())?;
@@ -298,7 +324,8 @@ fn push_feeds_inside(
     requires ascending { All (λ f. IsStrictlyIncreasing (kept_places f)) feeds.now }
     requires ranges { All IsRange bounds.now }
     requires apart { AllAdjacentBelow (λ r t. r.last < t.first) bounds.now (length bounds.now) }
-    ensures { OnOk result ((c : ℕ) → Contains places.new.items c ↔ (Contains places.old.items c ⊎ (Any (λ f. Contains (kept_places f) c) feeds.now × Any (λ r. IsWithin r c) bounds.now))) }
+    ensures { OnOk result ((c : ℕ) → Contains places.new.items c ↔ (Contains places.old.items c
+        ⊎ (Any (λ f. Contains (kept_places f) c) feeds.now × Any (λ r. IsWithin r c) bounds.now))) }
 {
     for feed in feeds {
         push_inside(places, feed.places.as_slice(), bounds)?;

@@ -33,11 +33,13 @@ impl Model for Statistics {
 
     ghost view = { λ s. map arc_value s.files.items };
 
-    ghost invariant = { λ s. AreInOrder (λ t. t.slot) (map arc_value s.files.items) × IsIndexed (map arc_value s.files.items) (option_map arc_value s.index) };
+    ghost invariant = { λ s. AreInOrder (λ t. t.slot) (map arc_value s.files.items)
+        × IsIndexed (map arc_value s.files.items) (option_map arc_value s.index) };
 }
 
 impl Statistics {
-    ghost use Rattle.std.specs.Prelude.{◌≡◌, ◌↔◌, ◌++◌, [], map, flat_map, find, option_map, IfOk, IfErr, OnOk, OnErr, Some, None};
+    ghost use Rattle.std.specs.Prelude.{◌≡◌, ◌↔◌, ◌++◌, [], map, flat_map, find, option_map, IfOk};
+    ghost use Rattle.std.specs.Prelude.{IfErr, OnOk, OnErr, Some, None};
     ghost use Rattle.std.specs.Arc.{arc_value};
     ghost use Rattle.std.specs.Option.{option_copied};
     ghost use Rattle.geo_terms.specs.First.{first_at};
@@ -63,7 +65,8 @@ impl Statistics {
     /// Puts a file in the place of the one with the same slot, and hands the old one back.
     pub fn set(&mut self, stats: Stats) -> Result<Option<Arc<Stats>>, Memory>
         ensures new { OnOk result (self.new ≡ placed (λ t. t.slot) stats self.old) }
-        ensures old { IfOk result (λ old. option_map arc_value old ≡ find (λ t. same_text t.slot stats.slot) self.old) }
+        ensures old { IfOk result
+            (λ old. option_map arc_value old ≡ find (λ t. same_text t.slot stats.slot) self.old) }
         ensures err { OnErr result (self.new ≡ self.old) }
     {
         let stats = Arc::new(self.alloc, stats)?;
@@ -78,8 +81,10 @@ impl Statistics {
     /// Takes the file of a slot out of force, and hands it back.
     pub fn remove(&mut self, slot: &str) -> Result<Arc<Stats>, DropFault>
         ensures new { OnOk result (self.new ≡ removed (λ t. t.slot) slot.now self.old) }
-        ensures old { IfOk result (λ old. Some (arc_value old) ≡ find (λ t. same_text t.slot slot.now) self.old) }
-        ensures not_there { IfErr result (λ fault. fault ≡ DropFault.NotThere ↔ (find (λ t. same_text t.slot slot.now) self.old ≡ None)) }
+        ensures old { IfOk result
+            (λ old. Some (arc_value old) ≡ find (λ t. same_text t.slot slot.now) self.old) }
+        ensures not_there { IfErr result (λ fault. fault ≡ DropFault.NotThere
+            ↔ (find (λ t. same_text t.slot slot.now) self.old ≡ None)) }
         ensures err { OnErr result (self.new ≡ self.old) }
     {
         let Some(old) = find_named(self.files.as_slice(), slot) else {
@@ -103,7 +108,8 @@ impl Statistics {
 
     /// The first delegation that holds an address.
     pub fn first_at(&self, at: Addr) -> Option<&Delegation>
-        ensures { option_copied result ≡ first_at delegation_before (λ d. d.range) (flat_map (λ t. t.rows) self.now) at.0 }
+        ensures { option_copied result
+            ≡ first_at delegation_before (λ d. d.range) (flat_map (λ t. t.rows) self.now) at.0 }
     {
         let index = self.index.as_ref()?;
         let place = index.firsts.place_at(at)?;
@@ -112,21 +118,24 @@ impl Statistics {
 
     /// Appends the ranges of all delegations, file by file.
     pub fn push_ranges(&self, ranges: &mut Vec<Range>) -> Result<(), Memory>
-        ensures { OnOk result (ranges.new.items ≡ ranges.old.items ++ map (λ d. d.range) (flat_map (λ t. t.rows) self.now)) }
+        ensures { OnOk result (ranges.new.items
+            ≡ ranges.old.items ++ map (λ d. d.range) (flat_map (λ t. t.rows) self.now)) }
     {
         push_file_ranges(ranges, self.files.as_slice())
     }
 
     /// Appends the notes of all files, file by file.
     pub fn push_notes(&self, notes: &mut Vec<Note>) -> Result<(), Memory>
-        ensures { OnOk result (notes.new.items ≡ notes.old.items ++ flat_map (λ t. t.notes) self.now) }
+        ensures { OnOk result
+            (notes.new.items ≡ notes.old.items ++ flat_map (λ t. t.notes) self.now) }
     {
         push_file_notes(notes, self.files.as_slice())
     }
 
     /// Appends the notes on delegations that speak nowhere, file by file.
     pub fn push_alias_notes(&self, notes: &mut Vec<Note>) -> Result<(), Memory>
-        ensures { OnOk result (notes.new.items ≡ notes.old.items ++ flat_map (λ d. alias_note (Origin.Stats d.slot) d.range d.line) (flat_map (λ t. t.rows) self.now)) }
+        ensures { OnOk result (notes.new.items ≡ notes.old.items ++ flat_map (λ d.
+            alias_note (Origin.Stats d.slot) d.range d.line) (flat_map (λ t. t.rows) self.now)) }
     {
         push_file_aliases(notes, self.files.as_slice())
     }
@@ -159,7 +168,8 @@ impl Statistics {
 }
 
 fn push_file_ranges(ranges: &mut Vec<Range>, files: &[Arc<Stats>]) -> Result<(), Memory>
-    ensures { OnOk result (ranges.new.items ≡ ranges.old.items ++ map (λ d. d.range) (flat_map (λ t. t.rows) (map arc_value files.now))) }
+    ensures { OnOk result (ranges.new.items ≡ ranges.old.items
+        ++ map (λ d. d.range) (flat_map (λ t. t.rows) (map arc_value files.now))) }
 {
     for file in files {
         push_ranges(ranges, file.rows.as_slice())?;

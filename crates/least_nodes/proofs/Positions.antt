@@ -1,5 +1,8 @@
--- Distinct subtrees need distinct nodes: a position of a list of nodes has the lookups of one reduced tree alone.
-use Rattle.std.proofs.Common.{◌≡◌, ℕ, zero, suc, ◌^◌, ◌<◌, ◌≤◌, inl, inr, Bool, true, false, true≢false, List, [], ◌∷◌, ◌++◌, length, take, drop, Some, None, refl, sym, ◌∙◌, ap, subst, arith, eqb, length-take-le, take-append-drop}
+-- Distinct subtrees need distinct nodes: a position of a list of nodes has the
+-- lookups of one reduced tree alone.
+use Rattle.std.proofs.Common.{◌≡◌, ℕ, zero, suc, ◌^◌, ◌<◌, ◌≤◌, inl, inr, Bool, true, false}
+use Rattle.std.proofs.Common.{true≢false, List, [], ◌∷◌, ◌++◌, length, take, drop, Some, None, refl}
+use Rattle.std.proofs.Common.{sym, ◌∙◌, ap, subst, arith, eqb, length-take-le, take-append-drop}
 use Rattle.std.specs.List.{list_any, IsDistinct, AllByRecursion}
 use Rattle.std.proofs.lemmas.Bool.{cases_lt, or_parts}
 use Rattle.std.proofs.lemmas.Bool.Decides.{Decides-eqb}
@@ -13,7 +16,8 @@ use Rattle.trie_core.proofs.TreeLemmas.{leaf_from_constant, same_from_lookups, T
 use Rattle.least_nodes.specs.NodeList.{Member, at, says, side, records_at, go, reached}
 use Rattle.least_nodes.specs.Layout.{preorder, below, IsNode, inner}
 use Rattle.least_nodes.specs.Laws.{HasLookups, Finds, StandApart, Apart, Least, LeastFor}
-use Rattle.least_nodes.proofs.Elements.{In, In-from_any, none-from_not_In, In-each_once, IsDistinct-from_none}
+use Rattle.least_nodes.proofs.Elements.{In, In-from_any, none-from_not_In, In-each_once}
+use Rattle.least_nodes.proofs.Elements.{IsDistinct-from_none}
 use Rattle.least_nodes.proofs.TreeParts.{IsEquality-tree_eq, IsNode-from_preorder, bits_to}
 
 module _ {A : Type 0} where
@@ -25,14 +29,16 @@ module _ {A : Type 0} where
   look-ends (node l r) (true ∷ w) enough = look-ends r w (omega arith)
 
   -- an answer stays along more bits
-  pub look-longer : (t : Tree A) (u v : List Bool) (a : A) → look t u ≡ Some a → look t (u ++ v) ≡ Some a
+  pub look-longer : (t : Tree A) (u v : List Bool) (a : A) → look t u ≡ Some a
+      → look t (u ++ v) ≡ Some a
   look-longer (leaf b) u v a is = is
   look-longer (node l r) [] v a is = absurd (cc)
   look-longer (node l r) (false ∷ u) v a is = look-longer l u v a is
   look-longer (node l r) (true ∷ u) v a is = look-longer r u v a is
 
   module _ (nodes : List (Member A × Member A)) where
-    pub go-longer : (m : Member A) (u v : List Bool) (a : A) → go nodes m u ≡ Some a → go nodes m (u ++ v) ≡ Some a
+    pub go-longer : (m : Member A) (u v : List Bool) (a : A) → go nodes m u ≡ Some a
+        → go nodes m (u ++ v) ≡ Some a
     go-longer (says b) u v a is = is
     go-longer (at i) [] v a is = absurd (cc)
     go-longer (at i) (b ∷ u) v a is = go-longer (side b (records_at nodes i)) u v a is
@@ -41,9 +47,11 @@ module _ {A : Type 0} where
     pub go-past : (i : ℕ) (w : List Bool) → length nodes ≤ i → go nodes (at i) w ≡ None
     go-past i [] past = refl
     go-past i (false ∷ w) past =
-        ap (λ (p : Member A × Member A). go nodes p.0 w) (get_or_past nodes i (at i, at i) past) ∙ go-past i w past
+        ap (λ (p : Member A × Member A). go nodes p.0 w) (get_or_past nodes i (at i, at i) past)
+        ∙ go-past i w past
     go-past i (true ∷ w) past =
-        ap (λ (p : Member A × Member A). go nodes p.1 w) (get_or_past nodes i (at i, at i) past) ∙ go-past i w past
+        ap (λ (p : Member A × Member A). go nodes p.1 w) (get_or_past nodes i (at i, at i) past)
+        ∙ go-past i w past
 
     -- from this record on, the list answers as a reduced tree does, along each list of n bits
     pub record Means (m : Member A) (t : Tree A) (n : ℕ) : Type 0 where
@@ -58,9 +66,11 @@ module _ {A : Type 0} where
       pub left : Means (records_at nodes i).0 l n
       pub right : Means (records_at nodes i).1 r n
 
-    pub Stands-from_Means : (m : Member A) (l r : Tree A) (n : ℕ) → Means m (node l r) (suc n) → Stands m l r n
+    pub Stands-from_Means : (m : Member A) (l r : Tree A) (n : ℕ)
+        → Means m (node l r) (suc n) → Stands m l r n
     Stands-from_Means (says a) l r n means =
-        let constant : node l r ≡ leaf a = leaf_from_constant (suc n) (node l r) a means.reduced.0 means.reduced.1 (λ w long. sym (means.same w long)) in
+        let constant : node l r ≡ leaf a = leaf_from_constant (suc n)
+        (node l r) a means.reduced.0 means.reduced.1 (λ w long. sym (means.same w long)) in
         absurd (cc)
     Stands-from_Means (at i) l r n means = record {
       i = i;
@@ -85,31 +95,39 @@ module _ {A : Type 0} where
     }
 
     -- a record that means a node is a position of the list
-    pub position_of : (m : Member A) (t : Tree A) (n : ℕ) → Means m t n → IsNode t → (i : ℕ) × (m ≡ at i) × (i < length nodes)
+    pub position_of : (m : Member A) (t : Tree A) (n : ℕ) → Means m t n → IsNode t
+        → (i : ℕ) × (m ≡ at i) × (i < length nodes)
     position_of m (leaf a) n means is = absurd is
     position_of m (node l r) zero means is = absurd (omega (arith, means.reduced.0))
     position_of m (node l r) (suc n) means is =
         let here = Stands-from_Means m l r n means in (here.i, here.is, here.within)
 
     -- the bits that lead to a node of the tree lead to a record that means it
-    pub Means-below : (p : List Bool) (m : Member A) (t : Tree A) (n : ℕ) → Means m t n → IsNode (below t p) → (k : ℕ) × Means (reached nodes m p) (below t p) k
+    pub Means-below : (p : List Bool) (m : Member A) (t : Tree A) (n : ℕ) → Means m t n
+        → IsNode (below t p) → (k : ℕ) × Means (reached nodes m p) (below t p) k
     Means-below [] (says a) t n means is = (n, means)
     Means-below [] (at i) t n means is = (n, means)
     Means-below (b ∷ p) m (leaf a) n means is = absurd is
     Means-below (b ∷ p) m (node l r) zero means is = absurd (omega (arith, means.reduced.0))
     Means-below (false ∷ p) m (node l r) (suc n) means is =
         let here = Stands-from_Means m l r n means in
-        let rest = Means-below p (records_at nodes here.i).0 l n here.left is in
-        (rest.0, subst (λ v. Means (reached nodes v (false ∷ p)) (below l p) rest.0) (sym here.is) rest.1)
+        let rest = Means-below p (records_at nodes here.i).0 l n here.left is in (
+          rest.0,
+          subst (λ v. Means (reached nodes v (false ∷ p)) (below l p) rest.0) (sym here.is) rest.1,
+        )
     Means-below (true ∷ p) m (node l r) (suc n) means is =
         let here = Stands-from_Means m l r n means in
-        let rest = Means-below p (records_at nodes here.i).1 r n here.right is in
-        (rest.0, subst (λ v. Means (reached nodes v (true ∷ p)) (below r p) rest.0) (sym here.is) rest.1)
+        let rest = Means-below p (records_at nodes here.i).1 r n here.right is in (
+          rest.0,
+          subst (λ v. Means (reached nodes v (true ∷ p)) (below r p) rest.0) (sym here.is) rest.1,
+        )
 
     -- a record means one reduced tree alone, however many bits are left
-    pub same_from_Means : (m : Member A) (s t : Tree A) (k n : ℕ) → k ≤ n → Means m s k → Means m t n → s ≡ t
+    pub same_from_Means : (m : Member A) (s t : Tree A) (k n : ℕ) → k ≤ n → Means m s k
+        → Means m t n → s ≡ t
     same_from_Means m s t k n le fewer more =
-        same_from_lookups n s t (omega (arith, fewer.reduced.0), fewer.reduced.1) more.reduced (λ w long. agree w long)
+        same_from_lookups n s t (omega (arith, fewer.reduced.0), fewer.reduced.1) more.reduced
+        (λ w long. agree w long)
       where
         agree : (w : List Bool) → length w ≡ n → look s w ≡ look t w
         agree w long =
@@ -118,13 +136,15 @@ module _ {A : Type 0} where
             let whole : u ++ v ≡ w = take-append-drop k w in
             let u-long : length u ≡ k = length-take-le k w (omega arith) in
             let ended = look-ends s u (omega (arith, fewer.reduced.0)) in
-            let walked : go nodes m (u ++ v) ≡ Some ended.0 = go-longer m u v ended.0 (fewer.same u u-long ∙ ended.1) in
+            let walked : go nodes m (u ++ v) ≡ Some ended.0 =
+            go-longer m u v ended.0 (fewer.same u u-long ∙ ended.1) in
             let looked : look s (u ++ v) ≡ Some ended.0 = look-longer s u v ended.0 ended.1 in
             let both : look s (u ++ v) ≡ go nodes m (u ++ v) = looked ∙ sym walked in
             subst (λ x. look s x ≡ go nodes m x) whole both ∙ more.same w long
 
     -- two records that are one mean one tree
-    pub same_from_reached : (m m' : Member A) (s t : Tree A) (k n : ℕ) → m ≡ m' → Means m s k → Means m' t n → s ≡ t
+    pub same_from_reached : (m m' : Member A) (s t : Tree A) (k n : ℕ) → m ≡ m' → Means m s k
+        → Means m' t n → s ≡ t
     same_from_reached m m' s t k n one first second =
         let second' : Means m t n = subst (λ v. Means v t n) (sym one) second in
         elim (cases_lt k n) [
@@ -132,21 +152,26 @@ module _ {A : Type 0} where
           | inr more ↦ sym (same_from_Means m t s n k more second' first)
         ]
 
-    pub StandApart-from_lookups : (n : ℕ) (t : Tree A) → IsReducedWithin n t → HasLookups n nodes t → StandApart nodes t
+    pub StandApart-from_lookups : (n : ℕ) (t : Tree A) → IsReducedWithin n t → HasLookups n nodes t
+        → StandApart nodes t
     StandApart-from_lookups n t reduced lookups = record { stands = stands; apart = apart }
       where
         whole : Means (at 0) t n
         whole = record { reduced = reduced; same = lookups }
 
-        stands : (p : List Bool) → IsNode (below t p) → (i : ℕ) × (reached nodes (at 0) p ≡ at i) × (i < length nodes)
+        stands : (p : List Bool)
+            → IsNode (below t p) → (i : ℕ) × (reached nodes (at 0) p ≡ at i) × (i < length nodes)
         stands p is =
-            let here = Means-below p (at 0) t n whole is in position_of (reached nodes (at 0) p) (below t p) here.0 here.1 is
+            let here = Means-below p (at 0) t n whole is in
+            position_of (reached nodes (at 0) p) (below t p) here.0 here.1 is
 
-        apart : (p q : List Bool) → IsNode (below t p) → IsNode (below t q) → reached nodes (at 0) p ≡ reached nodes (at 0) q → below t p ≡ below t q
+        apart : (p q : List Bool) → IsNode (below t p) → IsNode (below t q)
+            → reached nodes (at 0) p ≡ reached nodes (at 0) q → below t p ≡ below t q
         apart p q p-is q-is one =
             let first = Means-below p (at 0) t n whole p-is in
             let second = Means-below q (at 0) t n whole q-is in
-            same_from_reached (reached nodes (at 0) p) (reached nodes (at 0) q) (below t p) (below t q) first.0 second.0 one first.1 second.1
+            same_from_reached (reached nodes (at 0) p) (reached nodes (at 0) q) (below t p)
+            (below t q) first.0 second.0 one first.1 second.1
 
   -- distinct subtrees need distinct nodes
   pub Apart-holds : Apart A
@@ -154,7 +179,8 @@ module _ {A : Type 0} where
 
 -- ---- as many positions as there are things that stand apart
 
-module _ {X : Type 0} (eq : X → X → Bool) (equality : IsEquality eq) (n : ℕ) (StandsAt : X → ℕ → Type 0) (alone : (x y : X) (i : ℕ) → StandsAt x i → StandsAt y i → x ≡ y) where
+module _ {X : Type 0} (eq : X → X → Bool) (equality : IsEquality eq) (n : ℕ) (StandsAt : X → ℕ
+    → Type 0) (alone : (x y : X) (i : ℕ) → StandsAt x i → StandsAt y i → x ≡ y) where
   -- a position below n for each element, no two the same
   record Placed (xs : List X) : Type 0 where
     places : List ℕ
@@ -165,7 +191,8 @@ module _ {X : Type 0} (eq : X → X → Bool) (equality : IsEquality eq) (n : �
   all_other : (i : ℕ) (js : List ℕ) → (In i js → ⊥) → AllByRecursion (λ j. eqb i j ≡ false) js
   all_other i [] out = tt
   all_other i (j ∷ js) out =
-      let parts = or_parts (eqb i j) (list_any (eqb i) js) (none-from_not_In eqb Decides-eqb i (j ∷ js) out) in
+      let parts =
+      or_parts (eqb i j) (list_any (eqb i) js) (none-from_not_In eqb Decides-eqb i (j ∷ js) out) in
       (parts.0, all_other i js (λ has. out (inr has)))
 
   none_equal : (x : X) (xs : List X) → AllByRecursion (λ y. eq x y ≡ false) xs → In x xs → ⊥
@@ -173,35 +200,45 @@ module _ {X : Type 0} (eq : X → X → Bool) (equality : IsEquality eq) (n : �
   none_equal x (y ∷ ys) other (inl same) = true≢false (sym ((equality x y).1 same) ∙ other.0)
   none_equal x (y ∷ ys) other (inr rest) = none_equal x ys other.1 rest
 
-  placed : (xs : List X) → IsDistinct eq xs → ((x : X) → In x xs → (i : ℕ) × StandsAt x i × (i < n)) → Placed xs
+  placed : (xs : List X) → IsDistinct eq xs
+      → ((x : X) → In x xs → (i : ℕ) × StandsAt x i × (i < n)) → Placed xs
   unfolding IsDistinct
-  placed [] distinct where_is = record { places = []; long = refl; distinct = tt; each = λ q is. absurd is }
+  placed [] distinct where_is =
+      record { places = []; long = refl; distinct = tt; each = λ q is. absurd is }
   placed (x ∷ xs) distinct where_is =
       let here = where_is x (inl refl) in
       let rest = placed xs distinct.1 (λ y is. where_is y (inr is)) in
       record {
         places = here.0 ∷ rest.places;
         long = ap suc rest.long;
-        distinct =
-            (all_other here.0 rest.places (λ has. let other = rest.each here.0 has in none_equal x xs distinct.0 (subst (λ v. In v xs) (alone other.0 x here.0 other.2 here.1) other.1)), rest.distinct);
+        distinct = (
+          all_other here.0 rest.places (λ has. let other = rest.each here.0 has in none_equal x xs
+              distinct.0 (subst (λ v. In v xs) (alone other.0 x here.0 other.2 here.1) other.1)),
+          rest.distinct,
+        );
         each = λ q is. elim is [
-          | inl same ↦ (x, inl refl, subst (StandsAt x) (sym same) here.1, omega (arith, here.2, same))
+          | inl same ↦
+              (x, inl refl, subst (StandsAt x) (sym same) here.1, omega (arith, here.2, same))
           | inr later ↦ let other = rest.each q later in (other.0, inr other.1, other.2, other.3)
         ];
       }
 
   -- distinct things that stand apart below n are at most n
-  pub length-le_from_apart : (xs : List X) → IsDistinct eq xs → ((x : X) → In x xs → (i : ℕ) × StandsAt x i × (i < n)) → length xs ≤ n
+  pub length-le_from_apart : (xs : List X) → IsDistinct eq xs
+      → ((x : X) → In x xs → (i : ℕ) × StandsAt x i × (i < n)) → length xs ≤ n
   length-le_from_apart xs distinct where_is =
       let all = placed xs distinct where_is in
-      let few = length-le_from_distinct_below all.places n all.distinct (λ q found. (all.each q (In-from_any eqb Decides-eqb q all.places found)).3) in
+      let few = length-le_from_distinct_below all.places n all.distinct
+      (λ q found. (all.each q (In-from_any eqb Decides-eqb q all.places found)).3) in
       omega (arith, few, all.long)
 
 module _ {A : Type 0} where
   -- no list of nodes with a reduced tree's lookups is shorter than that of its different nodes
   pub Least-holds : Least A
   Least-holds eq equality n t reduced nodes lookups =
-      length-le_from_apart (tree_eq eq) (IsEquality-tree_eq eq equality) (length nodes) StandsAt alone (inner eq t) (IsDistinct-from_none (tree_eq eq) (IsEquality-tree_eq eq equality) (preorder t)) where_is
+      length-le_from_apart (tree_eq eq)
+      (IsEquality-tree_eq eq equality) (length nodes) StandsAt alone (inner eq t)
+      (IsDistinct-from_none (tree_eq eq) (IsEquality-tree_eq eq equality) (preorder t)) where_is
     where
       law : StandApart nodes t
       law = Apart-holds n t nodes reduced lookups
@@ -211,26 +248,35 @@ module _ {A : Type 0} where
 
       alone : (s u : Tree A) (i : ℕ) → StandsAt s i → StandsAt u i → s ≡ u
       alone s u i first second =
-          sym first.1 ∙ law.apart first.0 second.0 (subst IsNode (sym first.1) first.2) (subst IsNode (sym second.1) second.2) (first.3 ∙ sym second.3) ∙ second.1
+          sym first.1 ∙ law.apart first.0 second.0 (subst IsNode (sym first.1) first.2)
+          (subst IsNode (sym second.1) second.2) (first.3 ∙ sym second.3) ∙ second.1
 
       where_is : (s : Tree A) → In s (inner eq t) → (i : ℕ) × StandsAt s i × (i < length nodes)
       where_is s is =
-          let inside : In s (preorder t) = elim (In-each_once (tree_eq eq) (IsEquality-tree_eq eq equality) s [] (preorder t) is) [ inl none ↦ absurd none | inr some ↦ some ] in
+          let inside : In s (preorder t) =
+          elim (In-each_once (tree_eq eq) (IsEquality-tree_eq eq equality) s [] (preorder t) is) [
+            | inl none ↦ absurd none
+            | inr some ↦ some
+          ] in
           let found = bits_to s t inside in
           let node_is : IsNode s = IsNode-from_preorder s t inside in
           let here = law.stands found.0 (subst IsNode (sym found.1) node_is) in
           (here.0, (found.0, found.1, node_is, here.1), here.2)
 
   -- a list that answers a function at each address has its tree's lookups
-  pub HasLookups-from_answers : (eq : A → A → Bool) → IsEquality eq → (f : ℕ → A) (n : ℕ) (nodes : List (Member A × Member A)) → Finds n nodes f → HasLookups n nodes (tree eq f n 0)
+  pub HasLookups-from_answers : (eq : A → A → Bool) → IsEquality eq
+      → (f : ℕ → A) (n : ℕ) (nodes : List (Member A × Member A)) → Finds n nodes f
+      → HasLookups n nodes (tree eq f n 0)
   HasLookups-from_answers eq equality f n nodes finds w long =
       let one = OneListOfBits-each n in
       let law = TreeOfFunction-holds eq equality f n in
       let below : number_of w < 2 ^ n = one.below w long in
-      let same : go nodes (at 0) (bits_of n (number_of w)) ≡ look (tree eq f n 0) (bits_of n (number_of w)) =
+      let same : go nodes (at 0) (bits_of n (number_of w))
+      ≡ look (tree eq f n 0) (bits_of n (number_of w)) =
       finds (number_of w) below ∙ sym (law.1 (number_of w) below) in
       subst (λ v. go nodes (at 0) v ≡ look (tree eq f n 0) v) (one.again w long) same
 
   pub LeastFor-holds : LeastFor A
   LeastFor-holds eq equality f n nodes finds =
-      Least-holds eq equality n (tree eq f n 0) (TreeOfFunction-holds eq equality f n).0 nodes (HasLookups-from_answers eq equality f n nodes finds)
+      Least-holds eq equality n (tree eq f n 0) (TreeOfFunction-holds eq equality f n).0 nodes
+      (HasLookups-from_answers eq equality f n nodes finds)

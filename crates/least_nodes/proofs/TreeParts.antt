@@ -1,5 +1,7 @@
--- Lemmas on the parts of a tree: the test of two trees, the nodes and leaves inside a node, and the bits that lead to each.
-use Rattle.std.proofs.Common.{◌≡◌, inl, inr, Bool, true, false, ◌&&◌, List, [], ◌∷◌, refl, sym, ap, ap₂, subst}
+-- Lemmas on the parts of a tree: the test of two trees, the nodes and leaves inside a node,
+-- and the bits that lead to each.
+use Rattle.std.proofs.Common.{◌≡◌, inl, inr, Bool, true, false, ◌&&◌, List, [], ◌∷◌, refl, sym, ap}
+use Rattle.std.proofs.Common.{ap₂, subst}
 use Rattle.std.proofs.lemmas.Bool.{and_parts}
 use Rattle.trie_core.specs.Tree.{Tree, leaf, node, tree_eq, IsPartOf}
 use Rattle.trie_core.specs.Laws.{IsEquality}
@@ -9,13 +11,15 @@ use Rattle.least_nodes.proofs.Elements.{In, In-left, In-right, In-append}
 module _ {A : Type 0} where
   -- the test of two trees tells equal trees from others where that of two leaves does
   pub IsEquality-tree_eq : (eq : A → A → Bool) → IsEquality eq → IsEquality (tree_eq eq)
-  IsEquality-tree_eq eq equality (leaf a) (leaf b) = (λ is. ap leaf ((equality a b).0 is), λ same. (equality a b).1 (cc))
+  IsEquality-tree_eq eq equality (leaf a) (leaf b) =
+      (λ is. ap leaf ((equality a b).0 is), λ same. (equality a b).1 (cc))
   IsEquality-tree_eq eq equality (leaf a) (node l r) = (λ is. absurd (cc), λ same. absurd (cc))
   IsEquality-tree_eq eq equality (node l r) (leaf b) = (λ is. absurd (cc), λ same. absurd (cc))
   IsEquality-tree_eq eq equality (node l r) (node l' r') =
       let left = IsEquality-tree_eq eq equality l l' in
       let right = IsEquality-tree_eq eq equality r r' in (
-        λ is. let parts = and_parts (tree_eq eq l l') (tree_eq eq r r') is in ap₂ node (left.0 parts.0) (right.0 parts.1),
+        λ is. let parts = and_parts (tree_eq eq l l') (tree_eq eq r r') is in
+            ap₂ node (left.0 parts.0) (right.0 parts.1),
         λ same. ap₂ (λ a b. a && b) (left.1 (cc)) (right.1 (cc)),
       )
 
@@ -38,8 +42,10 @@ module _ {A : Type 0} where
   pub In-from_part : (s t : Tree A) → IsNode s → IsPartOf s t → In s (preorder t)
   In-from_part s (leaf a) is-node same = absurd (subst IsNode same is-node)
   In-from_part s (node l r) is-node (inl same) = inl same
-  In-from_part s (node l r) is-node (inr (inl left)) = inr (In-left s (preorder l) (preorder r) (In-from_part s l is-node left))
-  In-from_part s (node l r) is-node (inr (inr right)) = inr (In-right s (preorder l) (preorder r) (In-from_part s r is-node right))
+  In-from_part s (node l r) is-node (inr (inl left)) =
+      inr (In-left s (preorder l) (preorder r) (In-from_part s l is-node left))
+  In-from_part s (node l r) is-node (inr (inr right)) =
+      inr (In-right s (preorder l) (preorder r) (In-from_part s r is-node right))
 
   -- and what is among the nodes is part of the tree
   pub part-from_In : (s t : Tree A) → In s (preorder t) → IsPartOf s t

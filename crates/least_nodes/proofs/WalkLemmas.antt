@@ -1,5 +1,7 @@
 -- Lemmas on a walk through a store that passes over what it has seen.
-use Rattle.std.proofs.Common.{◌≡◌, ℕ, ◌<◌, ◌≤◌, inl, inr, Bool, true, false, nat_eq, List, [], ◌∷◌, ◌++◌, filter, length, Contains, refl, sym, ◌∙◌, ap, subst, arith, rules}
+use Rattle.std.proofs.Common.{◌≡◌, ℕ, ◌<◌, ◌≤◌, inl, inr, Bool, true, false, nat_eq, List, [], ◌∷◌}
+use Rattle.std.proofs.Common.{◌++◌, filter, length, Contains, refl, sym, ◌∙◌, ap, subst, arith}
+use Rattle.std.proofs.Common.{rules}
 use Rattle.std.proofs.lemmas.List.{length-map, map-append}
 use Rattle.std.proofs.lemmas.List.Elements.{All-contains, All-push, filter-append}
 use Rattle.trie_core.specs.declared.node.NodeId.{NodeId}
@@ -14,8 +16,13 @@ use Rattle.trie_core.proofs.StoreLemmas.{IsReduced-meaning, same_from_meaning}
 use Rattle.trie_core.proofs.TreeLemmas.{nat_equality}
 use Rattle.least_nodes.specs.Layout.{each_once, preorder, leaves, inner, is_place, place_order}
 use Rattle.least_nodes.specs.Laws.{IsFewest}
-use Rattle.least_nodes.specs.Order.{trees_of, AreOf, nodes_after, places_after, IsDoneBelow, IsNoted, same_node}
-use Rattle.least_nodes.proofs.Elements.{In, In-left, In-append, In-map, In-from_map, In-from_Contains, Contains-from_In, each_once-new, each_once-known, each_once-append, In-each_once, In-each_once-seen, In-each_once-new, In-filter, In-from_filter, filter-each_once, IsDistinct-from_none}
+use Rattle.least_nodes.specs.Order.{trees_of, AreOf, nodes_after, places_after, IsDoneBelow}
+use Rattle.least_nodes.specs.Order.{IsNoted, same_node}
+use Rattle.least_nodes.proofs.Elements.{In, In-left, In-append, In-map, In-from_map}
+use Rattle.least_nodes.proofs.Elements.{In-from_Contains, Contains-from_In, each_once-new}
+use Rattle.least_nodes.proofs.Elements.{each_once-known, each_once-append, In-each_once}
+use Rattle.least_nodes.proofs.Elements.{In-each_once-seen, In-each_once-new, In-filter}
+use Rattle.least_nodes.proofs.Elements.{In-from_filter, filter-each_once, IsDistinct-from_none}
 use Rattle.least_nodes.proofs.Positions.{length-le_from_apart, Least-holds}
 use Rattle.least_nodes.proofs.TreeParts.{IsEquality-tree_eq, preorder-inside, leaves-inside}
 
@@ -25,7 +32,8 @@ id_equality a b = (
   λ is. let h : nat_eq a.0 b.0 ≡ true = is in
       let number : a.0 ≡ b.0 = search rules in
       λ i. record { 0 = number i },
-  λ same. let h : nat_eq a.0 b.0 ≡ true = (nat_equality a.0 b.0).1 (ap (λ (x : NodeId). x.0) same) in h,
+  λ same. let h : nat_eq a.0 b.0 ≡ true =
+      (nat_equality a.0 b.0).1 (ap (λ (x : NodeId). x.0) same) in h,
 )
 
 pub same_node_equality : IsEquality same_node
@@ -35,54 +43,82 @@ pub tree_equality : IsEquality (tree_eq nat_eq)
 tree_equality = IsEquality-tree_eq nat_eq nat_equality
 
 -- what the answer of an insert says
-pub IsNoted-new : (old new : List NodeId) (id : NodeId) (is_new : Bool) → is_new ≡ true → IsNoted old new id is_new → (Contains old id → ⊥) × (new ≡ old ++ id ∷ [])
+pub IsNoted-new : (old new : List NodeId) (id : NodeId) (is_new : Bool) → is_new ≡ true
+    → IsNoted old new id is_new → (Contains old id → ⊥) × (new ≡ old ++ id ∷ [])
 IsNoted-new old new id true is noted = noted
 IsNoted-new old new id false is noted = absurd (cc)
 
-pub IsNoted-old : (old new : List NodeId) (id : NodeId) (is_new : Bool) → is_new ≡ false → IsNoted old new id is_new → Contains old id × (new ≡ old)
+pub IsNoted-old : (old new : List NodeId) (id : NodeId) (is_new : Bool) → is_new ≡ false
+    → IsNoted old new id is_new → Contains old id × (new ≡ old)
 IsNoted-old old new id true is noted = absurd (cc)
 IsNoted-old old new id false is noted = noted
 
 -- ---- trees and places that a walk has come to
 
 -- a walk through a node that was not seen goes on with the children
-nodes_after-new : (seen : List (Tree ℕ)) (l r : Tree ℕ) → (In (node l r) seen → ⊥) → nodes_after seen (node l r) ≡ nodes_after (nodes_after (seen ++ node l r ∷ []) l) r
+nodes_after-new : (seen : List (Tree ℕ)) (l r : Tree ℕ) → (In (node l r) seen → ⊥)
+    → nodes_after seen (node l r) ≡ nodes_after (nodes_after (seen ++ node l r ∷ []) l) r
 nodes_after-new seen l r new =
-    each_once-new (tree_eq nat_eq) tree_equality seen (node l r) (preorder l ++ preorder r) new ∙ each_once-append (tree_eq nat_eq) tree_equality (seen ++ node l r ∷ []) (preorder l) (preorder r)
+    each_once-new (tree_eq nat_eq) tree_equality seen (node l r) (preorder l ++ preorder r) new
+    ∙ each_once-append (tree_eq nat_eq) tree_equality (seen ++ node l r ∷ []) (preorder l)
+    (preorder r)
 
-places_after-node : (seen : List ℕ) (l r : Tree ℕ) → places_after seen (node l r) ≡ places_after (places_after seen l) r
+places_after-node : (seen : List ℕ) (l r : Tree ℕ)
+    → places_after seen (node l r) ≡ places_after (places_after seen l) r
 places_after-node seen l r =
-    ap (each_once nat_eq seen) (filter-append is_place (leaves l) (leaves r)) ∙ each_once-append nat_eq nat_equality seen (filter is_place (leaves l)) (filter is_place (leaves r))
+    ap (each_once nat_eq seen) (filter-append is_place (leaves l) (leaves r)) ∙ each_once-append
+    nat_eq nat_equality seen (filter is_place (leaves l)) (filter is_place (leaves r))
 
 -- where a walk through a tree adds nothing, its nodes and places were all seen
-nodes_seen : (seen : List (Tree ℕ)) (t s : Tree ℕ) → nodes_after seen t ≡ seen → In s (preorder t) → In s seen
-nodes_seen seen t s same inside = subst (In s) same (In-each_once-new (tree_eq nat_eq) tree_equality s seen (preorder t) inside)
+nodes_seen : (seen : List (Tree ℕ)) (t s : Tree ℕ) → nodes_after seen t ≡ seen
+    → In s (preorder t) → In s seen
+nodes_seen seen t s same inside =
+    subst (In s) same (In-each_once-new (tree_eq nat_eq) tree_equality s seen (preorder t) inside)
 
-places_seen : (seen : List ℕ) (t : Tree ℕ) (k : ℕ) → places_after seen t ≡ seen → In k (filter is_place (leaves t)) → In k seen
-places_seen seen t k same inside = subst (In k) same (In-each_once-new nat_eq nat_equality k seen (filter is_place (leaves t)) inside)
+places_seen : (seen : List ℕ) (t : Tree ℕ) (k : ℕ) → places_after seen t ≡ seen
+    → In k (filter is_place (leaves t)) → In k seen
+places_seen seen t k same inside =
+    subst (In k) same
+    (In-each_once-new nat_eq nat_equality k seen (filter is_place (leaves t)) inside)
 
 -- what a walk through a tree has seen it need not walk again
-pub IsDoneBelow-after : (n : ℕ) (nodes : List (Tree ℕ)) (places : List ℕ) (t : Tree ℕ) → IsDoneBelow n nodes places → IsDoneBelow n (nodes_after nodes t) (places_after places t)
+pub IsDoneBelow-after : (n : ℕ) (nodes : List (Tree ℕ)) (places : List ℕ) (t : Tree ℕ)
+    → IsDoneBelow n nodes places → IsDoneBelow n (nodes_after nodes t) (places_after places t)
 IsDoneBelow-after n nodes places t done u has low =
-    elim (In-each_once (tree_eq nat_eq) tree_equality u nodes (preorder t) (In-from_Contains (tree_eq nat_eq) tree_equality u (nodes_after nodes t) has)) [
+    elim (In-each_once (tree_eq nat_eq) tree_equality u nodes (preorder t)
+    (In-from_Contains (tree_eq nat_eq) tree_equality u (nodes_after nodes t) has)) [
       | inl before ↦
           let was = done u (Contains-from_In (tree_eq nat_eq) tree_equality u nodes before) low in (
-            each_once-known (tree_eq nat_eq) tree_equality (nodes_after nodes t) (preorder u) (λ s inside. In-each_once-seen (tree_eq nat_eq) tree_equality s nodes (preorder t) (nodes_seen nodes u s was.0 inside)),
-            each_once-known nat_eq nat_equality (places_after places t) (filter is_place (leaves u)) (λ k inside. In-each_once-seen nat_eq nat_equality k places (filter is_place (leaves t)) (places_seen places u k was.1 inside)),
+            each_once-known (tree_eq nat_eq) tree_equality (nodes_after nodes t) (preorder u)
+                (λ s inside. In-each_once-seen (tree_eq nat_eq) tree_equality s nodes (preorder t)
+                (nodes_seen nodes u s was.0 inside)),
+            each_once-known nat_eq nat_equality (places_after places t) (filter is_place (leaves u))
+                (λ k inside. In-each_once-seen nat_eq nat_equality k places
+                (filter is_place (leaves t)) (places_seen places u k was.1 inside)),
           )
       | inr now ↦ (
-        each_once-known (tree_eq nat_eq) tree_equality (nodes_after nodes t) (preorder u) (λ s inside. In-each_once-new (tree_eq nat_eq) tree_equality s nodes (preorder t) (preorder-inside s u t now inside)),
-        each_once-known nat_eq nat_equality (places_after places t) (filter is_place (leaves u)) (λ k inside. let leaf-of = In-from_filter nat_eq nat_equality is_place k (leaves u) inside in In-each_once-new nat_eq nat_equality k places (filter is_place (leaves t)) (In-filter nat_eq nat_equality is_place k (leaves t) (leaves-inside k u t now leaf-of.0) leaf-of.1)),
+        each_once-known (tree_eq nat_eq) tree_equality (nodes_after nodes t) (preorder u)
+            (λ s inside. In-each_once-new (tree_eq nat_eq) tree_equality s nodes (preorder t)
+            (preorder-inside s u t now inside)),
+        each_once-known nat_eq nat_equality (places_after places t) (filter is_place
+            (leaves u)) (λ k inside. let leaf-of =
+            In-from_filter nat_eq nat_equality is_place k (leaves u) inside in In-each_once-new
+            nat_eq nat_equality k places (filter is_place (leaves t)) (In-filter nat_eq nat_equality
+            is_place k (leaves t) (leaves-inside k u t now leaf-of.0) leaf-of.1)),
       )
     ]
 
 -- a node that is higher may be noted before its children are walked
-pub IsDoneBelow-push : (n m : ℕ) (nodes : List (Tree ℕ)) (places : List ℕ) (t : Tree ℕ) → m ≤ n → m < height t → IsDoneBelow n nodes places → IsDoneBelow m (nodes ++ t ∷ []) places
+pub IsDoneBelow-push : (n m : ℕ) (nodes : List (Tree ℕ)) (places : List ℕ) (t : Tree ℕ) → m ≤ n
+    → m < height t → IsDoneBelow n nodes places → IsDoneBelow m (nodes ++ t ∷ []) places
 IsDoneBelow-push n m nodes places t le high done u has low =
-    elim (In-append u nodes (t ∷ []) (In-from_Contains (tree_eq nat_eq) tree_equality u (nodes ++ t ∷ []) has)) [
+    elim (In-append u nodes (t ∷ [])
+    (In-from_Contains (tree_eq nat_eq) tree_equality u (nodes ++ t ∷ []) has)) [
       | inl before ↦
-          let was = done u (Contains-from_In (tree_eq nat_eq) tree_equality u nodes before) (omega arith) in (
-            each_once-known (tree_eq nat_eq) tree_equality (nodes ++ t ∷ []) (preorder u) (λ s inside. In-left s nodes (t ∷ []) (nodes_seen nodes u s was.0 inside)),
+          let was =
+          done u (Contains-from_In (tree_eq nat_eq) tree_equality u nodes before) (omega arith) in (
+            each_once-known (tree_eq nat_eq) tree_equality (nodes ++ t ∷ []) (preorder u)
+                (λ s inside. In-left s nodes (t ∷ []) (nodes_seen nodes u s was.0 inside)),
             was.1,
           )
       | inr last ↦ elim last [
@@ -98,21 +134,31 @@ IsDoneBelow-nil n t has low = absurd (In-from_Contains (tree_eq nat_eq) tree_equ
 -- ---- the nodes of a store
 
 module _ (pairs : List Pair) where
-  trees_of-push : (ids : List NodeId) (id : NodeId) → trees_of pairs (ids ++ id ∷ []) ≡ trees_of pairs ids ++ meaning pairs (Node id) ∷ []
+  trees_of-push : (ids : List NodeId) (id : NodeId)
+      → trees_of pairs (ids ++ id ∷ []) ≡ trees_of pairs ids ++ meaning pairs (Node id) ∷ []
   trees_of-push ids id = map-append (λ (x : NodeId). meaning pairs (Node x)) ids (id ∷ [])
 
   -- a noted node's tree was seen
-  pub tree_seen : (ids : List NodeId) (id : NodeId) → Contains ids id → Contains (trees_of pairs ids) (meaning pairs (Node id))
+  pub tree_seen : (ids : List NodeId) (id : NodeId) → Contains ids id
+      → Contains (trees_of pairs ids) (meaning pairs (Node id))
   tree_seen ids id has =
-      Contains-from_In (tree_eq nat_eq) tree_equality (meaning pairs (Node id)) (trees_of pairs ids) (In-map (λ (x : NodeId). meaning pairs (Node x)) id ids (In-from_Contains id_impl.eq-value.it id_equality id ids has))
+      Contains-from_In (tree_eq nat_eq) tree_equality (meaning pairs (Node id))
+      (trees_of pairs ids) (In-map (λ (x : NodeId). meaning pairs (Node x)) id ids
+      (In-from_Contains id_impl.eq-value.it id_equality id ids has))
 
   -- and that of any other was not, since no two nodes mean one tree
-  tree_new : IsSound pairs → (ids : List NodeId) (id : NodeId) → AreOf pairs ids → IsOf pairs (Node id) → (Contains ids id → ⊥) → In (meaning pairs (Node id)) (trees_of pairs ids) → ⊥
+  tree_new : IsSound pairs → (ids : List NodeId) (id : NodeId) → AreOf pairs ids
+      → IsOf pairs (Node id) → (Contains ids id → ⊥)
+      → In (meaning pairs (Node id)) (trees_of pairs ids) → ⊥
   tree_new sound ids id known of new seen =
-      let other = In-from_map (λ (x : NodeId). meaning pairs (Node x)) (meaning pairs (Node id)) ids seen in
-      let is : Contains ids other.0 = Contains-from_In id_impl.eq-value.it id_equality other.0 ids other.1 in
-      let other-of : IsOf pairs (Node other.0) = All-contains (λ (x : NodeId). IsOf pairs (Node x)) ids other.0 known is in
-      let one : Node id ≡ Node other.0 = same_from_meaning pairs sound (length pairs) (Node id) (Node other.0) (omega arith) of other-of other.2 in
+      let other =
+      In-from_map (λ (x : NodeId). meaning pairs (Node x)) (meaning pairs (Node id)) ids seen in
+      let is : Contains ids other.0 =
+      Contains-from_In id_impl.eq-value.it id_equality other.0 ids other.1 in
+      let other-of : IsOf pairs (Node other.0) =
+      All-contains (λ (x : NodeId). IsOf pairs (Node x)) ids other.0 known is in
+      let one : Node id ≡ Node other.0 = same_from_meaning pairs sound (length pairs) (Node id)
+      (Node other.0) (omega arith) of other-of other.2 in
       let same : id ≡ other.0 = cc in
       new (subst (Contains ids) (sym same) is)
 
@@ -122,11 +168,17 @@ module _ (pairs : List Pair) where
     pub right_lower : height r < height t
     pub known : AreOf pairs grown
     pub left_done : IsDoneBelow (height l) (trees_of pairs grown) places
-    pub right_done : IsDoneBelow (height r) (nodes_after (trees_of pairs grown) l) (places_after places l)
-    pub nodes_are : nodes_after (trees_of pairs ids) t ≡ nodes_after (nodes_after (trees_of pairs grown) l) r
+    pub right_done : IsDoneBelow (height r) (nodes_after (trees_of pairs grown) l)
+        (places_after places l)
+    pub nodes_are : nodes_after (trees_of pairs ids) t
+        ≡ nodes_after (nodes_after (trees_of pairs grown) l) r
     pub places_are : places_after places t ≡ places_after (places_after places l) r
 
-  pub WalksOn-from_noted : (ids grown : List NodeId) (places : List ℕ) (rec : Rec) (id : NodeId) (l r : Tree ℕ) (is_new : Bool) → IsSound pairs → AreOf pairs ids → IsOf pairs rec → IsDoneBelow (height (meaning pairs rec)) (trees_of pairs ids) places → rec ≡ Node id → is_new ≡ true → IsNoted ids grown id is_new → meaning pairs (Node id) ≡ node l r → WalksOn ids grown places (meaning pairs rec) l r
+  pub WalksOn-from_noted : (ids grown : List NodeId) (places : List ℕ) (rec : Rec) (id : NodeId)
+      (l r : Tree ℕ) (is_new : Bool) → IsSound pairs → AreOf pairs ids → IsOf pairs rec
+      → IsDoneBelow (height (meaning pairs rec)) (trees_of pairs ids) places → rec ≡ Node id
+      → is_new ≡ true → IsNoted ids grown id is_new → meaning pairs (Node id) ≡ node l r
+      → WalksOn ids grown places (meaning pairs rec) l r
   WalksOn-from_noted ids grown places rec id l r is_new sound known of done is new noted means =
       let t : Tree ℕ = meaning pairs rec in
       let seen : List (Tree ℕ) = trees_of pairs ids in
@@ -134,20 +186,28 @@ module _ (pairs : List Pair) where
       let tree : t ≡ node l r = ap (meaning pairs) is ∙ means in
       let trees : trees_of pairs grown ≡ seen ++ node l r ∷ [] =
       ap (trees_of pairs) new-node.1 ∙ trees_of-push ids id ∙ ap (λ v. seen ++ v ∷ []) means in
-      let done' : IsDoneBelow (height (node l r)) seen places = subst (λ v. IsDoneBelow (height v) seen places) tree done in
+      let done' : IsDoneBelow (height (node l r)) seen places =
+      subst (λ v. IsDoneBelow (height v) seen places) tree done in
       let left : IsDoneBelow (height l) (trees_of pairs grown) places =
-      subst (λ ts. IsDoneBelow (height l) ts places) (sym trees) (IsDoneBelow-push (height (node l r)) (height l) seen places (node l r) (omega arith) (omega arith) done') in
+      subst (λ ts. IsDoneBelow (height l) ts places) (sym trees) (IsDoneBelow-push
+      (height (node l r)) (height l) seen places (node l r) (omega arith) (omega arith) done') in
       let right : IsDoneBelow (height r) (trees_of pairs grown) places =
-      subst (λ ts. IsDoneBelow (height r) ts places) (sym trees) (IsDoneBelow-push (height (node l r)) (height r) seen places (node l r) (omega arith) (omega arith) done') in
+      subst (λ ts. IsDoneBelow (height r) ts places) (sym trees) (IsDoneBelow-push
+      (height (node l r)) (height r) seen places (node l r) (omega arith) (omega arith) done') in
       let node-of : IsOf pairs (Node id) = subst (IsOf pairs) is of in
-      let fresh : In (node l r) seen → ⊥ = λ inside. tree_new sound ids id known node-of new-node.0 (subst (λ v. In v seen) (sym means) inside) in
+      let fresh : In (node l r) seen → ⊥ = λ inside.
+      tree_new sound ids id known node-of new-node.0 (subst (λ v. In v seen) (sym means) inside) in
       record {
         left_lower = omega (arith, ap height tree);
         right_lower = omega (arith, ap height tree);
-        known = subst (AreOf pairs) (sym new-node.1) (All-push (λ (x : NodeId). IsOf pairs (Node x)) ids id known node-of);
+        known =
+            subst (AreOf pairs) (sym new-node.1)
+            (All-push (λ (x : NodeId). IsOf pairs (Node x)) ids id known node-of);
         left_done = left;
         right_done = IsDoneBelow-after (height r) (trees_of pairs grown) places l right;
-        nodes_are = ap (nodes_after seen) tree ∙ nodes_after-new seen l r fresh ∙ ap (λ ts. nodes_after (nodes_after ts l) r) (sym trees);
+        nodes_are =
+            ap (nodes_after seen) tree ∙ nodes_after-new seen l r fresh
+            ∙ ap (λ ts. nodes_after (nodes_after ts l) r) (sym trees);
         places_are = ap (places_after places) tree ∙ places_after-node places l r;
       }
 
@@ -158,17 +218,27 @@ pub place_order-from_walk : (t : Tree ℕ) → places_after [] t ≡ place_order
 place_order-from_walk t = sym (filter-each_once nat_eq nat_equality is_place [] (leaves t))
 
 -- the tree of a record has no list of nodes that is shorter
-pub IsFewest-from_inner : (pairs : List Pair) (rec : Rec) (ids : List NodeId) → IsSound pairs → IsOf pairs rec → trees_of pairs ids ≡ inner nat_eq (meaning pairs rec) → IsFewest 128 (meaning pairs rec) (length ids)
+pub IsFewest-from_inner : (pairs : List Pair) (rec : Rec) (ids : List NodeId)
+    → IsSound pairs → IsOf pairs rec → trees_of pairs ids ≡ inner nat_eq (meaning pairs rec)
+    → IsFewest 128 (meaning pairs rec) (length ids)
 IsFewest-from_inner pairs rec ids sound of nodes_are nodes lookups =
-    let reduced : IsReduced (meaning pairs rec) = IsReduced-meaning pairs sound (length pairs) rec (omega arith) of in
-    let least = Least-holds nat_eq nat_equality 128 (meaning pairs rec) (sound.low rec of, reduced) nodes lookups in
-    omega (arith, least, ap length nodes_are, length-map ids (λ (id : NodeId). meaning pairs (Node id)))
+    let reduced : IsReduced (meaning pairs rec) =
+    IsReduced-meaning pairs sound (length pairs) rec (omega arith) of in
+    let least = Least-holds nat_eq nat_equality 128 (meaning pairs rec) (
+      sound.low rec of,
+      reduced,
+    ) nodes lookups in
+    omega
+    (arith, least, ap length nodes_are, length-map ids (λ (id : NodeId). meaning pairs (Node id)))
 
 -- and no more nodes than the store
-pub few_from_inner : (pairs : List Pair) (t : Tree ℕ) (ids : List NodeId) → AreOf pairs ids → trees_of pairs ids ≡ inner nat_eq t → length ids ≤ length pairs
+pub few_from_inner : (pairs : List Pair) (t : Tree ℕ) (ids : List NodeId) → AreOf pairs ids
+    → trees_of pairs ids ≡ inner nat_eq t → length ids ≤ length pairs
 few_from_inner pairs t ids known nodes_are =
-    let few = length-le_from_apart (tree_eq nat_eq) tree_equality (length pairs) StandsAt alone (inner nat_eq t) (IsDistinct-from_none (tree_eq nat_eq) tree_equality (preorder t)) where_is in
-    omega (arith, few, ap length nodes_are, length-map ids (λ (id : NodeId). meaning pairs (Node id)))
+    let few = length-le_from_apart (tree_eq nat_eq) tree_equality (length pairs) StandsAt alone
+    (inner nat_eq t) (IsDistinct-from_none (tree_eq nat_eq) tree_equality (preorder t)) where_is in
+    omega
+    (arith, few, ap length nodes_are, length-map ids (λ (id : NodeId). meaning pairs (Node id)))
   where
     StandsAt : Tree ℕ → ℕ → Type 0
     StandsAt s i = (id : NodeId) × (s ≡ meaning pairs (Node id)) × (id.0 ≡ i)
@@ -181,23 +251,34 @@ few_from_inner pairs t ids known nodes_are =
 
     where_is : (s : Tree ℕ) → In s (inner nat_eq t) → (i : ℕ) × StandsAt s i × (i < length pairs)
     where_is s is =
-        let found = In-from_map (λ (id : NodeId). meaning pairs (Node id)) s ids (subst (In s) (sym nodes_are) is) in
-        let has : Contains ids found.0 = Contains-from_In id_impl.eq-value.it id_equality found.0 ids found.1 in
-        let within : found.0.0 < length pairs = All-contains (λ (x : NodeId). IsOf pairs (Node x)) ids found.0 known has in
+        let found = In-from_map (λ (id : NodeId). meaning pairs (Node id)) s ids
+        (subst (In s) (sym nodes_are) is) in
+        let has : Contains ids found.0 =
+        Contains-from_In id_impl.eq-value.it id_equality found.0 ids found.1 in
+        let within : found.0.0 < length pairs =
+        All-contains (λ (x : NodeId). IsOf pairs (Node x)) ids found.0 known has in
         (found.0.0, (found.0, found.2, refl), within)
 
 -- what the answer of a walk from a record says, at the tree t that the record means
-pub record IsLayoutOf (pairs : List Pair) (t : Tree ℕ) (ids : List NodeId) (places : List ℕ) : Type 0 where
+pub record IsLayoutOf (pairs : List Pair) (t : Tree ℕ) (ids : List NodeId)
+    (places : List ℕ) : Type 0 where
   pub nodes : trees_of pairs ids ≡ inner nat_eq t
   pub of : AreOf pairs ids
   pub leaves : places ≡ place_order t
   pub least : IsFewest 128 t (length ids)
   pub few : length ids ≤ length pairs
 
-pub IsLayoutOf-from_walk : (pairs : List Pair) (rec root : Rec) (before ids : List NodeId) (places-before places : List ℕ) → IsSound pairs → IsOf pairs rec → rec ≡ root → before ≡ [] → places-before ≡ [] → AreOf pairs ids → trees_of pairs ids ≡ nodes_after (trees_of pairs before) (meaning pairs rec) → places ≡ places_after places-before (meaning pairs rec) → IsLayoutOf pairs (meaning pairs root) ids places
-IsLayoutOf-from_walk pairs rec root before ids places-before places sound of is none no-places known walked places-walked =
+pub IsLayoutOf-from_walk : (pairs : List Pair)
+    (rec root : Rec) (before ids : List NodeId) (places-before places : List ℕ)
+    → IsSound pairs → IsOf pairs rec → rec ≡ root → before ≡ [] → places-before ≡ []
+    → AreOf pairs ids → trees_of pairs ids ≡ nodes_after (trees_of pairs before) (meaning pairs rec)
+    → places ≡ places_after places-before (meaning pairs rec)
+    → IsLayoutOf pairs (meaning pairs root) ids places
+IsLayoutOf-from_walk pairs rec root before ids places-before places sound of is none no-places known
+    walked places-walked =
     let t : Tree ℕ = meaning pairs rec in
-    let nodes_are : trees_of pairs ids ≡ inner nat_eq t = walked ∙ ap (λ old. nodes_after (trees_of pairs old) t) none in
+    let nodes_are : trees_of pairs ids ≡ inner nat_eq t =
+    walked ∙ ap (λ old. nodes_after (trees_of pairs old) t) none in
     let whole : IsLayoutOf pairs t ids places = record {
       nodes = nodes_are;
       of = known;

@@ -1,6 +1,7 @@
--- The order in which the nodes and the leaves of a tree are written: the first visits of a walk that takes a node before its
--- children and the left child before the right one.
-use Rattle.std.specs.Prelude.{ℕ, ◌==◌, Bool, true, false, not, if◌then◌else◌, List, [], ◌∷◌, ◌++◌, map, filter, nat_eq}
+-- The order in which the nodes and the leaves of a tree are written: the first visits of a walk
+-- that takes a node before its children and the left child before the right one.
+use Rattle.std.specs.Prelude.{ℕ, ◌==◌, Bool, true, false, not, if◌then◌else◌, List, [], ◌∷◌, ◌++◌}
+use Rattle.std.specs.Prelude.{map, filter, nat_eq}
 use Rattle.std.specs.List.{list_any, position_or_len}
 use Rattle.trie_core.specs.Tree.{Tree, leaf, node, tree_eq}
 use Rattle.least_nodes.specs.NodeList.{Member, at, says}
@@ -8,7 +9,8 @@ use Rattle.least_nodes.specs.NodeList.{Member, at, says}
 -- the first of equal elements each, in order, behind those that were seen before
 abbrev pub each_once : {K : Type 0} → (K → K → Bool) → List K → List K → List K
 each_once eq seen [] = seen
-each_once eq seen (x ∷ xs) = if list_any (eq x) seen then each_once eq seen xs else each_once eq (seen ++ x ∷ []) xs
+each_once eq seen (x ∷ xs) =
+    if list_any (eq x) seen then each_once eq seen xs else each_once eq (seen ++ x ∷ []) xs
 
 module _ {A : Type 0} where
   -- the nodes of a tree as the walk comes to them, each with all that is below it

@@ -1,6 +1,9 @@
--- The nodes of a written search tree as a list, and the walk through them (MaxMind DB 2.0, "Binary Search Tree Section").
--- Nodes may be shared, lead back to themselves, or name positions past the end: the walk ends with its bits.
-use Rattle.std.specs.Prelude.{ℕ, Bool, true, false, List, [], ◌∷◌, Option, Some, None, slice_index_or}
+-- The nodes of a written search tree as a list, and the walk through them (MaxMind DB 2.0,
+-- "Binary Search Tree Section").
+-- Nodes may be shared, lead back to themselves, or name positions past the end:
+-- the walk ends with its bits.
+use Rattle.std.specs.Prelude.{ℕ, Bool, true, false, List, [], ◌∷◌, Option, Some, None}
+use Rattle.std.specs.Prelude.{slice_index_or}
 
 -- a record of a node: the position of another node, or an answer
 pub data Member (A : Type 0) : Type 0 where

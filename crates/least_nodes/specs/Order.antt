@@ -1,5 +1,6 @@
 -- What a walk through a store has come to, as trees and places.
-use Rattle.std.specs.Prelude.{◌≡◌, ◌≢◌, ℕ, ◌≤◌, Bool, List, [], ◌∷◌, ◌++◌, map, filter, nat_eq, Contains, All, MatchBool}
+use Rattle.std.specs.Prelude.{◌≡◌, ◌≢◌, ℕ, ◌≤◌, Bool, List, [], ◌∷◌, ◌++◌, map, filter, nat_eq}
+use Rattle.std.specs.Prelude.{Contains, All, MatchBool}
 use Rattle.std.specs.List.{position_or_len}
 use Rattle.trie_core.specs.declared.node.NodeId.{NodeId}
 use Rattle.trie_core.specs.declared.node.Rec.{Rec}
@@ -28,11 +29,15 @@ places_after seen t = each_once nat_eq seen (filter is_place (leaves t))
 
 -- a walk through a seen node of at most this height would add nothing
 abbrev pub IsDoneBelow : ℕ → List (Tree ℕ) → List ℕ → Type 0
-IsDoneBelow n nodes places = (t : Tree ℕ) → Contains nodes t → height t ≤ n → (nodes_after nodes t ≡ nodes) × (places_after places t ≡ places)
+IsDoneBelow n nodes places =
+    (t : Tree ℕ) → Contains nodes t → height t ≤ n
+    → (nodes_after nodes t ≡ nodes) × (places_after places t ≡ places)
 
 -- a node went behind those that were seen, unless it was among them
 abbrev pub IsNoted : List NodeId → List NodeId → NodeId → Bool → Type 0
-IsNoted old new id is_new = MatchBool is_new ((Contains old id → ⊥) × (new ≡ old ++ id ∷ [])) (Contains old id × (new ≡ old))
+IsNoted old new id is_new =
+    MatchBool is_new ((Contains old id → ⊥) × (new ≡ old ++ id ∷ []))
+    (Contains old id × (new ≡ old))
 
 -- two numbers of one node
 abbrev pub same_node : NodeId → NodeId → Bool

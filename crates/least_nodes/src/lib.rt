@@ -1,4 +1,5 @@
-//! The order in which the nodes of a tree are written, and the law that no list of nodes is shorter.
+//! The order in which the nodes of a tree are written, and the law
+//! that no list of nodes is shorter.
 #![tactic(auto)]
 
 pub mod laws;

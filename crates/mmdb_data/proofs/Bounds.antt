@@ -82,7 +82,8 @@ scalars_are_one kind =
     (either_one (eqb kind 10) _ _ (λ content. one refl refl refl)
     (either_one (eqb kind 15) _ _ (λ content. one refl refl refl) tt))))))
 
-value_is_one : (section : List ℕ) (is_key : Bool) (at : ℕ) (scalar : Option Scalar) (size offset : ℕ)
+value_is_one : (section : List ℕ) (is_key : Bool) (at : ℕ) (scalar : Option Scalar)
+    (size offset : ℕ)
     (value : Tree) → AreOne scalar
     → scalar_value_from section is_key at scalar size offset ≡ Ok value → IsOne value
 value_is_one section is_key at None size offset value h e = absurd cc

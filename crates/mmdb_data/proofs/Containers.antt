@@ -86,7 +86,8 @@ pub map_stands : (section : List ℕ) (members : Members) (at after : ℕ) (y : 
 map_stands section members at after y fits here inner =
     let offset = at + length (head 7 (members_len members)) in
     full_from_head section (map members) at 7 (members_len members) after y (omega arith) fits here
-    (λ levels is_key n m b c may deep few light. map_in section members at offset after levels is_key
+    (λ levels is_key n m b c may deep few light.
+    map_in section members at offset after levels is_key
     inner n m b c may (omega (arith, deep)) (omega (arith, few)) light)
 
 pub list_stands : (section : List ℕ) (items : Items) (at after : ℕ) (y : List ℕ)

@@ -43,7 +43,8 @@ no_content section at least greatest size offset found e =
     bytes_from section offset size (at, Truncated) >>= λ content. Err (at, Key) in
     let p : rest ≡ Ok found =
     passed (nat_lt size least || nat_lt greatest size) (at, Size) rest found e in
-    let b = bind_ok (bytes_from section offset size (at, Truncated)) (λ content. Err (at, Key)) found
+    let b =
+    bind_ok (bytes_from section offset size (at, Truncated)) (λ content. Err (at, Key)) found
     p in
     absurd (let never = b.2 in cc)
 

@@ -110,7 +110,8 @@ pub value_ends : (read : Read) (fault : DataFault) (front : Members) (count i of
     → read true offset left ≡ Ok key → key_of offset key.0 ≡ Ok name
     → Fails fault (read false key.1 key.2)
     → after_members front (members_from read (count - i) offset left) ≡ total → Fails fault total
-value_ends read faults.Memory front count i offset left key name total lt first named second so_far =
+value_ends read faults.Memory front count i offset left key name total lt first named
+    second so_far =
     tt
 value_ends read (faults.Bad at cause) front count i offset left key name total lt first named second
     so_far =
@@ -175,6 +176,7 @@ pub items_are_done : (read : Read) (front : Items) (count i offset : ℕ) (left 
     → total ≡ Ok (front, offset, left)
 items_are_done read front count i offset left total le so_far =
     let k : count - i ≡ 0 = omega arith in
-    let one : after_items front (items_from read (count - i) offset left) ≡ Ok (front, offset, left) =
+    let one : after_items front (items_from read (count - i) offset left)
+    ≡ Ok (front, offset, left) =
     rw k (ap (λ (m : Items). Ok (m, offset, left)) (chained-none front)) in
     sym so_far ∙ one

@@ -9,7 +9,8 @@ use Rattle.byteorder.specs.Endian.{big_number}
 use Rattle.byteorder.specs.Numbers.{big_number-reads_back, length-bytes_high_first}
 use Rattle.mmdb_data.specs.Reading.{Fault, byte_from, bytes_from, number_from}
 
-pub moved : (section : List ℕ) (offset : ℕ) (x y : List ℕ) (after : ℕ) → drop offset section ≡ x ++ y
+pub moved : (section : List ℕ) (offset : ℕ) (x y : List ℕ) (after : ℕ)
+    → drop offset section ≡ x ++ y
     → after ≡ offset + length x → drop after section ≡ y
 moved section offset x y after here is_after =
     ap (λ (n : ℕ). drop n section) is_after ∙ sym (drop-drop (length x) offset section)

@@ -280,7 +280,8 @@ inside_if : (section : List ℕ) (at control : ℕ) (fault : Fault)
     → byte_from section at fault ≡ Ok control → at < length section
 unfolding byte_from
 inside_if section at control fault e =
-    elim (chosen (ltb at (length section)) (Ok (slice_index section at)) (Err fault) (Ok control) e) [
+    elim (chosen (ltb at (length section)) (Ok (slice_index section at)) (Err fault)
+    (Ok control) e) [
       | inl a ↦ ltb-true at (length section) a.0
       | inr a ↦ absurd cc
     ]

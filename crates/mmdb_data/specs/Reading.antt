@@ -38,7 +38,8 @@ abbrev pub ◌>>=◌ : {A B : Type 0} → Result A Fault → (A → Result B Fau
 (Err e) >>= f = Err e
 
 unfoldable pub byte_from : List ℕ → ℕ → Fault → Result ℕ Fault
-byte_from section offset fault = if nat_lt offset (length section) then Ok (slice_index section offset)
+byte_from section offset fault =
+    if nat_lt offset (length section) then Ok (slice_index section offset)
     else Err fault
 
 unfoldable pub bytes_from : List ℕ → ℕ → ℕ → Fault → Result (List ℕ) Fault
@@ -211,7 +212,8 @@ leaf_from section is_key at kind size offset left =
     else if kind == 4 then (byte_string_from section is_key at size offset left >>= λ found. Ok
     (bytes found.0, offset + size, found.1))
     else if kind == 14 then (bool_from is_key at size >>= λ b. Ok (bool b, offset, left))
-    else (scalar_from section is_key at kind size offset >>= λ value. Ok (value, offset + size, left))
+    else (scalar_from section is_key at kind size offset
+    >>= λ value. Ok (value, offset + size, left))
 
 -- the value at an offset by its type, its size and the offset of its content: 7 is a map, and 11 a
 -- list

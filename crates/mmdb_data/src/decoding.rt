@@ -2,7 +2,8 @@
 
 ghost use Rattle.std.specs.Prelude.{◌≡◌, ◌≤◌, ◌<◌, ◌-◌, ◌^◌, length, IfOk, true, false};
 ghost use Rattle.mmdb_data.specs.Tree.{depth, count, bytes_in, most as most_size};
-ghost use Rattle.mmdb_data.specs.Reading.{Gives, key_of, members_from, items_from, content_from, plain_from, target_from, value_from, reads};
+ghost use Rattle.mmdb_data.specs.Reading.{Gives, key_of, members_from, items_from, content_from};
+ghost use Rattle.mmdb_data.specs.Reading.{plain_from, target_from, value_from, reads};
 ghost use Rattle.mmdb_data.specs.View.{tree, budget, items_view, members_view};
 
 use crate::budget::{BYTES, Left, VALUES};
@@ -20,8 +21,8 @@ type Found<T> = Result<(T, usize, Left), DataFault>;
 /// The value that stands at the offset `at` of a data section, pointers followed
 /// (MaxMind DB 2.0, "Output Data Section").
 ///
-/// A fault names the offset of the control byte of the value at fault. Memory is taken only for values
-/// that are really there, and not by the sizes that the section claims.
+/// A fault names the offset of the control byte of the value at fault. Memory is taken only for
+/// values that are really there, and not by the sizes that the section claims.
 #[tactic(auto, unfolding(crate::specs::Reading::reads))]
 pub fn decode(alloc: Global, section: &[u8], at: u64) -> Result<Value, DataFault>
     ensures gives { Gives tree result (reads section.now at) }
@@ -54,7 +55,8 @@ fn value_at(
     left: Left,
 ) -> Found<Value>
     requires { at ≤ length section.now }
-    ensures gives { Gives (λ x. (tree x.0, x.1, budget x.2)) result (value_from section.now levels is_key at (budget left)) }
+    ensures gives { Gives (λ x. (tree x.0, x.1, budget x.2)) result
+        (value_from section.now levels is_key at (budget left)) }
     ensures room { IfOk result (λ x. x.1 ≤ length section.now) }
 {
     if levels == 0 {
@@ -87,7 +89,8 @@ fn target_at(
     left: Left,
 ) -> Found<Value>
     requires { at < length section.now }
-    ensures gives { Gives (λ x. (tree x.0, x.1, budget x.2)) result (target_from (value_from section.now levels) section.now is_key at control (budget left)) }
+    ensures gives { Gives (λ x. (tree x.0, x.1, budget x.2)) result
+        (target_from (value_from section.now levels) section.now is_key at control (budget left)) }
     ensures room { IfOk result (λ x. x.1 ≤ length section.now) }
 {
     let (target, after) = pointer_at(section, at, control)?;
@@ -109,7 +112,8 @@ fn plain_at(
     at: usize,
     left: Left,
 ) -> Found<Value>
-    ensures gives { Gives (λ x. (tree x.0, x.1, budget x.2)) result (plain_from (value_from section.now levels) section.now is_key at (budget left)) }
+    ensures gives { Gives (λ x. (tree x.0, x.1, budget x.2)) result
+        (plain_from (value_from section.now levels) section.now is_key at (budget left)) }
     ensures room { IfOk result (λ x. x.1 ≤ length section.now) }
 {
     let head = head_at(section, at)?;
@@ -129,7 +133,9 @@ fn content_at(
 ) -> Found<Value>
     requires here { head.offset ≤ length section.now }
     requires narrow { head.size ≤ most_size }
-    ensures gives { Gives (λ x. (tree x.0, x.1, budget x.2)) result (content_from (value_from section.now levels) section.now is_key at head.kind head.size head.offset (budget left)) }
+    ensures gives { Gives (λ x. (tree x.0, x.1, budget x.2)) result
+        (content_from (value_from section.now levels) section.now is_key at head.kind head.size
+        head.offset (budget left)) }
     ensures room { IfOk result (λ x. x.1 ≤ length section.now) }
 {
     match head.kind {
@@ -170,7 +176,8 @@ fn members_at(
     left: Left,
 ) -> Found<Vec<(Text, Value)>>
     requires { offset ≤ length section.now }
-    ensures gives { Gives (λ x. (members_view x.0.items, x.1, budget x.2)) result (members_from (value_from section.now levels) count offset (budget left)) }
+    ensures gives { Gives (λ x. (members_view x.0.items, x.1, budget x.2)) result
+        (members_from (value_from section.now levels) count offset (budget left)) }
     ensures room { IfOk result (λ x. x.1 ≤ length section.now) }
 {
     let mut pairs = Vec::new(alloc);
@@ -197,7 +204,8 @@ fn items_at(
     left: Left,
 ) -> Found<Vec<Value>>
     requires { offset ≤ length section.now }
-    ensures gives { Gives (λ x. (items_view x.0.items, x.1, budget x.2)) result (items_from (value_from section.now levels) count offset (budget left)) }
+    ensures gives { Gives (λ x. (items_view x.0.items, x.1, budget x.2)) result
+        (items_from (value_from section.now levels) count offset (budget left)) }
     ensures room { IfOk result (λ x. x.1 ≤ length section.now) }
 {
     let mut values = Vec::new(alloc);

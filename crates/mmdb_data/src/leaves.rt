@@ -2,7 +2,9 @@
 
 ghost use Rattle.std.specs.Prelude.{◌≡◌, ◌≤◌, ◌<◌, ◌+◌, length, OnOk, IfOk};
 ghost use Rattle.mmdb_data.specs.Tree.{Tree, most as most_size};
-ghost use Rattle.mmdb_data.specs.Reading.{Gives, content_bytes_from, byte_string_from, scalar_bytes_from, scalar_from, text_from, bool_from, leaf_from};
+ghost use Rattle.mmdb_data.specs.Reading.{Gives, content_bytes_from, byte_string_from};
+ghost use Rattle.mmdb_data.specs.Reading.{scalar_bytes_from, scalar_from, text_from, bool_from};
+ghost use Rattle.mmdb_data.specs.Reading.{leaf_from};
 ghost use Rattle.mmdb_data.specs.View.{tree, budget};
 
 use crate::budget::Left;
@@ -24,7 +26,8 @@ pub(crate) fn leaf_at(
 ) -> Result<(Value, usize, Left), DataFault>
     requires here { head.offset ≤ length section.now }
     requires narrow { head.size ≤ most_size }
-    ensures gives { Gives (λ x. (tree x.0, x.1, budget x.2)) result (leaf_from section.now is_key at head.kind head.size head.offset (budget left)) }
+    ensures gives { Gives (λ x. (tree x.0, x.1, budget x.2)) result
+        (leaf_from section.now is_key at head.kind head.size head.offset (budget left)) }
     ensures room { IfOk result (λ x. x.1 ≤ length section.now) }
 {
     match head.kind {
@@ -56,7 +59,8 @@ fn text_at(
     left: Left,
 ) -> Result<(Text, Left), DataFault>
     requires { head.offset ≤ length section.now }
-    ensures gives { Gives (λ x. (x.0, budget x.1)) result (text_from section.now at head.size head.offset (budget left)) }
+    ensures gives { Gives (λ x. (x.0, budget x.1)) result
+        (text_from section.now at head.size head.offset (budget left)) }
     ensures room { OnOk result (head.offset + head.size ≤ length section.now) }
 {
     let (content, left) = content_at(section, at, head, left)?;
@@ -76,7 +80,8 @@ fn byte_string_at(
     left: Left,
 ) -> Result<(Bytes, Left), DataFault>
     requires { head.offset ≤ length section.now }
-    ensures gives { Gives (λ x. (x.0, budget x.1)) result (byte_string_from section.now is_key at head.size head.offset (budget left)) }
+    ensures gives { Gives (λ x. (x.0, budget x.1)) result
+        (byte_string_from section.now is_key at head.size head.offset (budget left)) }
     ensures room { OnOk result (head.offset + head.size ≤ length section.now) }
 {
     let (content, left) = content_at(section, at, head, left)?;
@@ -90,7 +95,8 @@ fn byte_string_at(
 #[tactic(auto, unfolding(crate::specs::Reading::content_bytes_from))]
 fn content_at(section: &[u8], at: usize, head: Head, left: Left) -> Result<(&[u8], Left), DataFault>
     requires { head.offset ≤ length section.now }
-    ensures gives { Gives (λ x. (x.0.now, budget x.1)) result (content_bytes_from section.now at head.size head.offset (budget left)) }
+    ensures gives { Gives (λ x. (x.0.now, budget x.1)) result
+        (content_bytes_from section.now at head.size head.offset (budget left)) }
     ensures room { OnOk result (head.offset + head.size ≤ length section.now) }
 {
     let content = bytes_at(section, head.offset, head.size, at)?;
@@ -121,7 +127,8 @@ fn bool_at(is_key: bool, at: usize, size: usize) -> Result<bool, DataFault>
 fn scalar_at(section: &[u8], is_key: bool, at: usize, head: Head) -> Result<Value, DataFault>
     requires here { head.offset ≤ length section.now }
     requires narrow { head.size ≤ most_size }
-    ensures gives { Gives tree result (scalar_from section.now is_key at head.kind head.size head.offset) }
+    ensures gives { Gives tree result
+        (scalar_from section.now is_key at head.kind head.size head.offset) }
     ensures room { OnOk result (head.offset + head.size ≤ length section.now) }
 {
     match head.kind {
@@ -170,8 +177,10 @@ fn scalar_bytes(
     greatest: usize,
 ) -> Result<&[u8], DataFault>
     requires { head.offset ≤ length section.now }
-    ensures gives { Gives (λ content. content.now) result (scalar_bytes_from section.now is_key at least greatest head.size head.offset) }
-    ensures len { IfOk result (λ content. (length content.now ≡ head.size) × (least ≤ head.size) × (head.size ≤ greatest)) }
+    ensures gives { Gives (λ content. content.now) result
+        (scalar_bytes_from section.now is_key at least greatest head.size head.offset) }
+    ensures len { IfOk result (λ content. (length content.now ≡ head.size) × (least ≤ head.size)
+        × (head.size ≤ greatest)) }
     ensures room { OnOk result (head.offset + head.size ≤ length section.now) }
 {
     if head.size < least || greatest < head.size {

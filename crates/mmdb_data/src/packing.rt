@@ -4,7 +4,8 @@ ghost use Rattle.std.specs.Prelude.{◌≡◌, OnOk, is_some};
 ghost use Rattle.mmdb_data.specs.Tree.{IsNarrow, MembersAreNarrow, ItemsAreNarrow, IsTyped};
 ghost use Rattle.mmdb_data.specs.Spelling.{spelling};
 ghost use Rattle.mmdb_data.specs.View.{tree, items_view, members_view};
-ghost use Rattle.mmdb_data.specs.Packing.{offset_of, part_by, content_in, members_in, items_in, in_full, IsKept};
+ghost use Rattle.mmdb_data.specs.Packing.{offset_of, part_by, content_in, members_in, items_in};
+ghost use Rattle.mmdb_data.specs.Packing.{in_full, IsKept};
 ghost use Rattle.mmdb_data.specs.Section.{packed_of};
 
 use crate::section::{Section, shorter};
@@ -14,7 +15,8 @@ use geo_addr::{Memory, Text};
 /// The value in full, whether it stands already or not.
 pub(crate) fn append_top(section: &mut Section, value: &Value) -> Result<(), Memory>
     requires { IsNarrow (tree value.now) }
-    ensures appended { OnOk result (packed_of section.new ≡ in_full (tree value.now) (packed_of section.old)) }
+    ensures appended { OnOk result
+        (packed_of section.new ≡ in_full (tree value.now) (packed_of section.old)) }
     ensures kept { IsKept (packed_of section.old) (packed_of section.new) }
     ensures typed { OnOk result (IsTyped (tree value.now)) }
 {
@@ -27,7 +29,8 @@ pub(crate) fn append_top(section: &mut Section, value: &Value) -> Result<(), Mem
 fn append_part(section: &mut Section, value: &Value) -> Result<(), Memory>
     requires { IsNarrow (tree value.now) }
     ensures appended { OnOk result (packed_of section.new
-        ≡ part_by (spelling (tree value.now)) (content_in (tree value.now)) (packed_of section.old)) }
+        ≡ part_by (spelling (tree value.now)) (content_in (tree value.now))
+        (packed_of section.old)) }
     ensures kept { IsKept (packed_of section.old) (packed_of section.new) }
 {
     section.spell(value)?;
@@ -42,8 +45,10 @@ fn append_part(section: &mut Section, value: &Value) -> Result<(), Memory>
 fn append_full(section: &mut Section, value: &Value, is_known: bool) -> Result<(), Memory>
     requires narrow { IsNarrow (tree value.now) }
     requires spelled { section.old.piece.items ≡ spelling (tree value.now) }
-    requires known { is_known ≡ is_some (offset_of (spelling (tree value.now)) (packed_of section.old)) }
-    ensures appended { OnOk result (packed_of section.new ≡ in_full (tree value.now) (packed_of section.old)) }
+    requires known { is_known
+        ≡ is_some (offset_of (spelling (tree value.now)) (packed_of section.old)) }
+    ensures appended { OnOk result
+        (packed_of section.new ≡ in_full (tree value.now) (packed_of section.old)) }
     ensures kept { IsKept (packed_of section.old) (packed_of section.new) }
 {
     if is_known {
@@ -59,7 +64,8 @@ fn append_full(section: &mut Section, value: &Value, is_known: bool) -> Result<(
 fn append_content(section: &mut Section, value: &Value) -> Result<(), Memory>
     requires narrow { IsNarrow (tree value.now) }
     requires spelled { section.old.piece.items ≡ spelling (tree value.now) }
-    ensures appended { OnOk result (packed_of section.new ≡ content_in (tree value.now) (packed_of section.old)) }
+    ensures appended { OnOk result
+        (packed_of section.new ≡ content_in (tree value.now) (packed_of section.old)) }
     ensures kept { IsKept (packed_of section.old) (packed_of section.new) }
 {
     match value {
@@ -80,7 +86,8 @@ fn append_content(section: &mut Section, value: &Value) -> Result<(), Memory>
 #[cycle(packing)]
 fn append_members(section: &mut Section, pairs: &[(Text, Value)]) -> Result<(), Memory>
     requires { MembersAreNarrow (members_view pairs.now) }
-    ensures appended { OnOk result (packed_of section.new ≡ members_in (members_view pairs.now) (packed_of section.old)) }
+    ensures appended { OnOk result
+        (packed_of section.new ≡ members_in (members_view pairs.now) (packed_of section.old)) }
     ensures kept { IsKept (packed_of section.old) (packed_of section.new) }
 {
     for (key, value) in pairs {
@@ -93,7 +100,8 @@ fn append_members(section: &mut Section, pairs: &[(Text, Value)]) -> Result<(), 
 #[cycle(packing)]
 fn append_items(section: &mut Section, values: &[Value]) -> Result<(), Memory>
     requires { ItemsAreNarrow (items_view values.now) }
-    ensures appended { OnOk result (packed_of section.new ≡ items_in (items_view values.now) (packed_of section.old)) }
+    ensures appended { OnOk result
+        (packed_of section.new ≡ items_in (items_view values.now) (packed_of section.old)) }
     ensures kept { IsKept (packed_of section.old) (packed_of section.new) }
 {
     for value in values {

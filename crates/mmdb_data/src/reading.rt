@@ -1,9 +1,12 @@
 //! Reading the value at an offset of a data section.
 
-ghost use Rattle.std.specs.Prelude.{◌≡◌, ◌≤◌, ◌<◌, ◌+◌, ◌^◌, ℕ, List, length, OnOk, IfOk, Ok, false};
+ghost use Rattle.std.specs.Prelude.{◌≡◌, ◌≤◌, ◌<◌, ◌+◌, ◌^◌, ℕ, List, length, OnOk, IfOk, Ok};
+ghost use Rattle.std.specs.Prelude.{false};
 ghost use Rattle.byteorder.specs.Endian.{big_number};
 ghost use Rattle.mmdb_data.specs.Tree.{most as most_size};
-ghost use Rattle.mmdb_data.specs.Reading.{Budget, Gives, byte_from, bytes_from, number_from, kind_from, size_from, head_from, pointer_from, scalar_bytes_from};
+ghost use Rattle.mmdb_data.specs.Reading.{Budget, Gives, byte_from, bytes_from, number_from};
+ghost use Rattle.mmdb_data.specs.Reading.{kind_from, size_from, head_from, pointer_from};
+ghost use Rattle.mmdb_data.specs.Reading.{scalar_bytes_from};
 ghost use Rattle.mmdb_data.specs.declared.fault.DataCause.TheVariants.{Truncated};
 ghost use Rattle.mmdb_data.specs.declared.fault.DataFault.TheVariants as faults;
 ghost use Rattle.mmdb_data.specs.View.{tree, items_view, members_view};
@@ -53,7 +56,8 @@ pub(crate) fn bytes_at(
     at: usize,
 ) -> Result<&[u8], DataFault>
     requires { offset ≤ length section.now }
-    ensures gives { Gives (λ bytes. bytes.now) result (bytes_from section.now offset size (at, Truncated)) }
+    ensures gives { Gives (λ bytes. bytes.now) result
+        (bytes_from section.now offset size (at, Truncated)) }
     ensures len { IfOk result (λ bytes. length bytes.now ≡ size) }
     ensures room { OnOk result (offset + size ≤ length section.now) }
 {
@@ -126,7 +130,8 @@ fn size_at(section: &[u8], at: usize, code: u8, offset: usize) -> Result<(usize,
 
 #[tactic(auto, unfolding(crate::specs::Reading::head_from))]
 pub(crate) fn head_at(section: &[u8], at: usize) -> Result<Head, DataFault>
-    ensures gives { Gives (λ head. (head.kind, head.size, head.offset)) result (head_from section.now at) }
+    ensures gives { Gives (λ head. (head.kind, head.size, head.offset)) result
+        (head_from section.now at) }
     ensures narrow { IfOk result (λ head. head.size ≤ most_size) }
     ensures room { IfOk result (λ head. head.offset ≤ length section.now) }
 {

@@ -1,11 +1,13 @@
 //! The bytes of a packed data section, and where values stand in full.
 
-ghost use Rattle.std.specs.Prelude.{◌≡◌, ◌≤◌, ◌<◌, ◌^◌, ◌++◌, ◌∷◌, None, OnOk, OnErr, length, option_map, is_some};
+ghost use Rattle.std.specs.Prelude.{◌≡◌, ◌≤◌, ◌<◌, ◌^◌, ◌++◌, ◌∷◌, None, OnOk, OnErr, length};
+ghost use Rattle.std.specs.Prelude.{option_map, is_some};
 ghost use Rattle.std.specs.Int.{bytes_high_first};
 ghost use Rattle.mmdb_data.specs.Tree.{most, IsNarrow, IsTyped};
 ghost use Rattle.mmdb_data.specs.Spelling.{head, sized, spelling};
 ghost use Rattle.mmdb_data.specs.View.{tree};
-ghost use Rattle.mmdb_data.specs.Packing.{pointer, nothing_packed, offset_of, with_bytes, noted, full_by, shorter_pointer, part_by, key_part, IsKept};
+ghost use Rattle.mmdb_data.specs.Packing.{pointer, nothing_packed, offset_of, with_bytes, noted};
+ghost use Rattle.mmdb_data.specs.Packing.{full_by, shorter_pointer, part_by, key_part, IsKept};
 ghost use Rattle.mmdb_data.specs.Section.{packed_of};
 
 use crate::value::Value;
@@ -63,7 +65,8 @@ impl Section {
     }
 
     pub(crate) fn append(&mut self) -> Result<(), Memory>
-        ensures appended { OnOk result (packed_of self.new ≡ with_bytes self.old.piece.items (packed_of self.old)) }
+        ensures appended { OnOk result
+            (packed_of self.new ≡ with_bytes self.old.piece.items (packed_of self.old)) }
         ensures refused { OnErr result (packed_of self.new ≡ packed_of self.old) }
     {
         self.bytes.extend_from_slice(&self.piece)?;
@@ -73,7 +76,8 @@ impl Section {
     pub(crate) fn append_head(&mut self, kind: u8, size: usize) -> Result<(), Memory>
         requires known { kind < 16 }
         requires narrow { size ≤ most }
-        ensures appended { OnOk result (packed_of self.new ≡ with_bytes (head kind size) (packed_of self.old)) }
+        ensures appended { OnOk result
+            (packed_of self.new ≡ with_bytes (head kind size) (packed_of self.old)) }
         ensures refused { OnErr result (packed_of self.new ≡ packed_of self.old) }
     {
         self.piece.clear();
@@ -82,7 +86,8 @@ impl Section {
     }
 
     pub(crate) fn append_pointer(&mut self, to: u32) -> Result<(), Memory>
-        ensures appended { OnOk result (packed_of self.new ≡ with_bytes (pointer to) (packed_of self.old)) }
+        ensures appended { OnOk result
+            (packed_of self.new ≡ with_bytes (pointer to) (packed_of self.old)) }
         ensures refused { OnErr result (packed_of self.new ≡ packed_of self.old) }
     {
         self.piece.clear();
@@ -93,7 +98,8 @@ impl Section {
     /// The value is one that stands nowhere in full yet.
     pub(crate) fn note(&mut self, spelled: Vec<u8>, at: u64) -> Result<(), Memory>
         requires { offset_of spelled.items (packed_of self.old) ≡ None }
-        ensures noted { OnOk result (packed_of self.new ≡ noted spelled.items at (packed_of self.old)) }
+        ensures noted { OnOk result
+            (packed_of self.new ≡ noted spelled.items at (packed_of self.old)) }
         ensures refused { OnErr result (packed_of self.new ≡ packed_of self.old) }
     {
         self.full.insert(spelled, at)?;
@@ -118,7 +124,8 @@ impl Section {
 
     pub(crate) fn append_key(&mut self, key: &str) -> Result<(), Memory>
         requires { length key.now ≤ most }
-        ensures appended { OnOk result (packed_of self.new ≡ key_part key.now (packed_of self.old)) }
+        ensures appended { OnOk result
+            (packed_of self.new ≡ key_part key.now (packed_of self.old)) }
         ensures kept { IsKept (packed_of self.old) (packed_of self.new) }
     {
         self.spell_key(key)?;

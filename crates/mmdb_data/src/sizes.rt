@@ -1,7 +1,8 @@
 //! Whether a value can be written.
 
 ghost use Rattle.std.specs.Prelude.{◌≡◌, ◌↔◌, IsTrue};
-ghost use Rattle.mmdb_data.specs.Tree.{CanBeSpelled, fits_in, members_fit as are_members_fit, items_fit as are_items_fit};
+ghost use Rattle.mmdb_data.specs.Tree.{CanBeSpelled, fits_in, members_fit as are_members_fit};
+ghost use Rattle.mmdb_data.specs.Tree.{items_fit as are_items_fit};
 ghost use Rattle.mmdb_data.specs.View.{tree, items_view, members_view};
 
 use crate::value::Value;

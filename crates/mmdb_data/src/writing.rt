@@ -2,8 +2,12 @@
 
 ghost use Rattle.std.specs.Prelude.{◌≡◌, ◌≤◌, ◌<◌, ◌^◌, ◌++◌, ℕ, List, length, OnOk, OnErr, Ok};
 ghost use Rattle.std.specs.Int.{bytes_high_first};
-ghost use Rattle.mmdb_data.specs.Tree.{most, CanBeSpelled, IsWithinLimits, IsNarrow, MembersAreNarrow, ItemsAreNarrow, IsTyped, MembersAreTyped, ItemsAreTyped};
-ghost use Rattle.mmdb_data.specs.Spelling.{size_code, size_bytes, kind_bytes, head, sized, without_zeros as bytes_without_zeros, spelling, members_spelling, items_spelling};
+ghost use Rattle.mmdb_data.specs.Tree.{most, CanBeSpelled, IsWithinLimits, IsNarrow};
+ghost use Rattle.mmdb_data.specs.Tree.{MembersAreNarrow, ItemsAreNarrow, IsTyped, MembersAreTyped};
+ghost use Rattle.mmdb_data.specs.Tree.{ItemsAreTyped};
+ghost use Rattle.mmdb_data.specs.Spelling.{size_code, size_bytes, kind_bytes, head, sized};
+ghost use Rattle.mmdb_data.specs.Spelling.{without_zeros as bytes_without_zeros, spelling};
+ghost use Rattle.mmdb_data.specs.Spelling.{members_spelling, items_spelling};
 ghost use Rattle.mmdb_data.specs.Reading.{reads};
 ghost use Rattle.mmdb_data.specs.View.{tree, items_view, members_view};
 
@@ -63,7 +67,8 @@ pub(crate) fn put_value(out: &mut Vec<u8>, value: &Value) -> Result<(), Memory>
 #[cycle(writing)]
 fn put_members(out: &mut Vec<u8>, pairs: &[(Text, Value)]) -> Result<(), Memory>
     requires { MembersAreNarrow (members_view pairs.now) }
-    ensures spelled { OnOk result (out.new.items ≡ out.old.items ++ members_spelling (members_view pairs.now)) }
+    ensures spelled { OnOk result
+        (out.new.items ≡ out.old.items ++ members_spelling (members_view pairs.now)) }
     ensures typed { OnOk result (MembersAreTyped (members_view pairs.now)) }
 {
     for (key, value) in pairs {
@@ -76,7 +81,8 @@ fn put_members(out: &mut Vec<u8>, pairs: &[(Text, Value)]) -> Result<(), Memory>
 #[cycle(writing)]
 fn put_items(out: &mut Vec<u8>, values: &[Value]) -> Result<(), Memory>
     requires { ItemsAreNarrow (items_view values.now) }
-    ensures spelled { OnOk result (out.new.items ≡ out.old.items ++ items_spelling (items_view values.now)) }
+    ensures spelled { OnOk result
+        (out.new.items ≡ out.old.items ++ items_spelling (items_view values.now)) }
     ensures typed { OnOk result (ItemsAreTyped (items_view values.now)) }
 {
     for value in values {
@@ -86,7 +92,8 @@ fn put_items(out: &mut Vec<u8>, values: &[Value]) -> Result<(), Memory>
 }
 
 fn put_u16(out: &mut Vec<u8>, n: u16) -> Result<(), Memory>
-    ensures { OnOk result (out.new.items ≡ out.old.items ++ sized 5 (bytes_without_zeros (bytes_high_first 2 n))) }
+    ensures { OnOk result
+        (out.new.items ≡ out.old.items ++ sized 5 (bytes_without_zeros (bytes_high_first 2 n))) }
 {
     let mut bytes = [0; 2];
     BigEndian::write_u16(&mut bytes, n);
@@ -95,7 +102,8 @@ fn put_u16(out: &mut Vec<u8>, n: u16) -> Result<(), Memory>
 
 fn put_u32(out: &mut Vec<u8>, kind: u8, n: u32) -> Result<(), Memory>
     requires { kind < 16 }
-    ensures { OnOk result (out.new.items ≡ out.old.items ++ sized kind (bytes_without_zeros (bytes_high_first 4 n))) }
+    ensures { OnOk result
+        (out.new.items ≡ out.old.items ++ sized kind (bytes_without_zeros (bytes_high_first 4 n))) }
 {
     let mut bytes = [0; 4];
     BigEndian::write_u32(&mut bytes, n);
@@ -103,7 +111,8 @@ fn put_u32(out: &mut Vec<u8>, kind: u8, n: u32) -> Result<(), Memory>
 }
 
 fn put_u64(out: &mut Vec<u8>, n: u64) -> Result<(), Memory>
-    ensures { OnOk result (out.new.items ≡ out.old.items ++ sized 9 (bytes_without_zeros (bytes_high_first 8 n))) }
+    ensures { OnOk result
+        (out.new.items ≡ out.old.items ++ sized 9 (bytes_without_zeros (bytes_high_first 8 n))) }
 {
     let mut bytes = [0; 8];
     BigEndian::write_u64(&mut bytes, n);
@@ -111,7 +120,8 @@ fn put_u64(out: &mut Vec<u8>, n: u64) -> Result<(), Memory>
 }
 
 fn put_u128(out: &mut Vec<u8>, n: u128) -> Result<(), Memory>
-    ensures { OnOk result (out.new.items ≡ out.old.items ++ sized 10 (bytes_without_zeros (bytes_high_first 16 n))) }
+    ensures { OnOk result
+        (out.new.items ≡ out.old.items ++ sized 10 (bytes_without_zeros (bytes_high_first 16 n))) }
 {
     let mut bytes = [0; 16];
     BigEndian::write_u128(&mut bytes, n);

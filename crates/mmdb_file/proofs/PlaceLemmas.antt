@@ -1,18 +1,25 @@
 -- The value of a place can be written and is read again.
-use Rattle.std.proofs.Common.{◌≡◌, ℕ, suc, ◌+◌, ◌*◌, ◌<◌, ◌≤◌, ◌==◌, ◌&&◌, not, List, [], ◌∷◌, ◌++◌, length, drop, get_or, refl, sym, ap, subst, ◌∙◌, arith, length-append, length-drop, inl, inr}
+use Rattle.std.proofs.Common.{◌≡◌, ℕ, suc, ◌+◌, ◌*◌, ◌<◌, ◌≤◌, ◌==◌, ◌&&◌, not, List, [], ◌∷◌, ◌++◌}
+use Rattle.std.proofs.Common.{length, drop, get_or, refl, sym, ap, subst, ◌∙◌, arith, length-append}
+use Rattle.std.proofs.Common.{length-drop, inl, inr}
 use Rattle.std.specs.Prelude.{codes, nat_le, nat_eq, IsTrue}
 use Rattle.std.specs.Char.{is_ascii_alphabetic, is_ascii_alphanumeric}
 use Rattle.std.specs.List.{position_or_len, list_all}
 use Rattle.std.specs.Str.{IsUtf8, is_utf8, chars}
-use Rattle.std.proofs.lemmas.Str.{IsUtf8-from_is_utf8, IsUtf8-drop, IsCharBoundary-after_ascii, IsUtf8-nil}
+use Rattle.std.proofs.lemmas.Str.{IsUtf8-from_is_utf8, IsUtf8-drop, IsCharBoundary-after_ascii}
+use Rattle.std.proofs.lemmas.Str.{IsUtf8-nil}
 use lib.Utf8.{encode}
 use Rattle.std.proofs.lemmas.Bool.{cases_lt, and_parts, leb-true, false≢true}
 use Rattle.std.proofs.lemmas.Bool.Decides.{eqb_tells}
 use Rattle.std.proofs.Math.ListN.{drop_of_length-le}
-use Rattle.mmdb_data.specs.Tree.{Tree, map, text, IsNarrow, MembersAreNarrow, IsTyped, MembersAreTyped, members_len, members_depth, members_count, members_bytes, depth, count, bytes_in, most, CanBeReadBack}
+use Rattle.mmdb_data.specs.Tree.{Tree, map, text, IsNarrow, MembersAreNarrow, IsTyped}
+use Rattle.mmdb_data.specs.Tree.{MembersAreTyped, members_len, members_depth, members_count}
+use Rattle.mmdb_data.specs.Tree.{members_bytes, depth, count, bytes_in, most, CanBeReadBack}
 use Rattle.mmdb_data.specs.View.{members_of}
-use Rattle.geo_terms.specs.PlaceForm.{PlaceParts, IsPlace, country_fits, region_fits, lengths_fit, is_empty, is_subdivision, longest}
-use Rattle.mmdb_file.specs.PlaceValue.{one, unless_empty, subdivision, city_member, country_member, postal_member, region_member, subdivision_list, place_value}
+use Rattle.geo_terms.specs.PlaceForm.{PlaceParts, IsPlace, country_fits, region_fits, lengths_fit}
+use Rattle.geo_terms.specs.PlaceForm.{is_empty, is_subdivision, longest}
+use Rattle.mmdb_file.specs.PlaceValue.{one, unless_empty, subdivision, city_member, country_member}
+use Rattle.mmdb_file.specs.PlaceValue.{postal_member, region_member, subdivision_list, place_value}
 
 -- a member that can be read, and whose value is small
 record IsFine (pair : List ℕ × Tree) : Type 0 where
@@ -32,7 +39,8 @@ AreFine-append : (xs ys : List (List ℕ × Tree)) → AreFine xs → AreFine ys
 AreFine-append [] ys a b = b
 AreFine-append (x ∷ xs) ys a b = (a.0, AreFine-append xs ys a.1 b)
 
-AreFine-unless : (content key : List ℕ) (value : Tree) → IsFine (key, value) → AreFine (unless_empty content key value)
+AreFine-unless : (content key : List ℕ) (value : Tree)
+    → IsFine (key, value) → AreFine (unless_empty content key value)
 AreFine-unless [] key value fine = tt
 AreFine-unless (b ∷ content) key value fine = (fine, tt)
 
@@ -40,7 +48,8 @@ length-unless : (content key : List ℕ) (value : Tree) → length (unless_empty
 length-unless [] key value = omega arith
 length-unless (b ∷ content) key value = omega arith
 
-narrow_members : (pairs : List (List ℕ × Tree)) → AreFine pairs → MembersAreNarrow (members_of pairs)
+narrow_members : (pairs : List (List ℕ × Tree)) → AreFine pairs
+    → MembersAreNarrow (members_of pairs)
 narrow_members [] fine = tt
 narrow_members (pair ∷ pairs) fine = (fine.0.key_short, fine.0.narrow, narrow_members pairs fine.1)
 
@@ -52,11 +61,13 @@ low_members : (pairs : List (List ℕ × Tree)) → AreFine pairs → members_de
 low_members [] fine = omega arith
 low_members (pair ∷ pairs) fine = omega (arith, fine.0.low, low_members pairs fine.1)
 
-few_members : (pairs : List (List ℕ × Tree)) → AreFine pairs → members_count (members_of pairs) ≤ 10 * length pairs
+few_members : (pairs : List (List ℕ × Tree)) → AreFine pairs
+    → members_count (members_of pairs) ≤ 10 * length pairs
 few_members [] fine = omega arith
 few_members (pair ∷ pairs) fine = omega (arith, fine.0.few, few_members pairs fine.1)
 
-light_members : (pairs : List (List ℕ × Tree)) → AreFine pairs → members_bytes (members_of pairs) ≤ 2000 * length pairs
+light_members : (pairs : List (List ℕ × Tree)) → AreFine pairs
+    → members_bytes (members_of pairs) ≤ 2000 * length pairs
 light_members [] fine = omega arith
 light_members (pair ∷ pairs) fine = omega (arith, fine.0.light, light_members pairs fine.1)
 
@@ -64,9 +75,18 @@ len_members : (pairs : List (List ℕ × Tree)) → members_len (members_of pair
 len_members [] = refl
 len_members (pair ∷ pairs) = ap suc (len_members pairs)
 
-map_fine : (pairs : List (List ℕ × Tree)) → length pairs ≤ 4 → AreFine pairs → CanBeReadBack (map (members_of pairs))
-map_fine pairs short fine =
-    ((((omega (arith, len_members pairs), narrow_members pairs fine), omega (arith, low_members pairs fine)), typed_members pairs fine), (omega (arith, few_members pairs fine), omega (arith, light_members pairs fine)))
+map_fine : (pairs : List (List ℕ × Tree)) → length pairs ≤ 4 → AreFine pairs
+    → CanBeReadBack (map (members_of pairs))
+map_fine pairs short fine = (
+  (
+    (
+      (omega (arith, len_members pairs), narrow_members pairs fine),
+      omega (arith, low_members pairs fine),
+    ),
+    typed_members pairs fine,
+  ),
+  (omega (arith, few_members pairs fine), omega (arith, light_members pairs fine)),
+)
 
 -- keys are texts
 text_city : IsUtf8 (codes "city")
@@ -101,13 +121,16 @@ text_subdivisions : IsUtf8 (codes "subdivisions")
 unfolding is_utf8 chars encode
 text_subdivisions = IsUtf8-from_is_utf8 _ refl
 
-holds_at : (bytes : List ℕ) → position_or_len (λ b. b == 45) bytes < length bytes → get_or bytes (position_or_len (λ b. b == 45) bytes) 0 ≡ 45
+holds_at : (bytes : List ℕ) → position_or_len (λ b. b == 45) bytes < length bytes
+    → get_or bytes (position_or_len (λ b. b == 45) bytes) 0 ≡ 45
 holds_at [] inside = absurd (omega arith)
 holds_at (b ∷ bytes) inside =
     elim (eqb_tells b 45) [
-      | inl same ↦ let first : position_or_len (λ b. b == 45) (b ∷ bytes) ≡ 0 = rw same.0 refl in ap (λ i. get_or (b ∷ bytes) i 0) first ∙ same.1
+      | inl same ↦ let first : position_or_len (λ b. b == 45) (b ∷ bytes) ≡ 0 = rw same.0 refl in
+          ap (λ i. get_or (b ∷ bytes) i 0) first ∙ same.1
       | inr told ↦
-          let later : position_or_len (λ b. b == 45) (b ∷ bytes) ≡ suc (position_or_len (λ b. b == 45) bytes) = rw told.0 (omega arith) in
+          let later : position_or_len (λ b. b == 45) (b ∷ bytes)
+          ≡ suc (position_or_len (λ b. b == 45) bytes) = rw told.0 (omega arith) in
           ap (λ i. get_or (b ∷ bytes) i 0) later ∙ holds_at bytes (omega (arith, inside, later))
     ]
 
@@ -121,18 +144,22 @@ subdivision_text region utf8 =
           let dash : get_or region i 0 ≡ 45 = holds_at region inside in
           let low : get_or region i 0 < 128 = omega arith in
           IsUtf8-drop region (i + 1) utf8 (IsCharBoundary-after_ascii region i utf8 inside low)
-      | inr past ↦ let none : drop (i + 1) region ≡ [] = drop_of_length-le region (omega arith) in subst IsUtf8 (sym none) IsUtf8-nil
+      | inr past ↦ let none : drop (i + 1) region ≡ [] = drop_of_length-le region (omega arith) in
+          subst IsUtf8 (sym none) IsUtf8-nil
     ]
 
 subdivision_short : (region : List ℕ) → length (subdivision region) ≤ length region
 unfolding subdivision
-subdivision_short region = omega (arith, length-drop (position_or_len (λ b. b == 45) region + 1) region)
+subdivision_short region =
+    omega (arith, length-drop (position_or_len (λ b. b == 45) region + 1) region)
 
 city_fine : (city : List ℕ) → IsUtf8 city → length city ≤ longest → AreFine (city_member city)
 city_fine city utf8 short =
-    AreFine-unless city (codes "city") (one (codes "names") (one (codes "en") (text city))) (record {
+    AreFine-unless city (codes "city")
+    (one (codes "names") (one (codes "en") (text city))) (record {
       key_short = omega arith;
-      narrow = (omega arith, (omega arith, (omega arith, (omega arith, omega (arith, short), tt)), tt));
+      narrow =
+          (omega arith, (omega arith, (omega arith, (omega arith, omega (arith, short), tt)), tt));
       low = omega arith;
       key_text = text_city;
       typed = (text_names, (text_en, utf8, tt), tt);
@@ -140,7 +167,9 @@ city_fine city utf8 short =
       light = omega (arith, short);
     })
 
-code_fine : (key name content : List ℕ) → IsUtf8 key → IsUtf8 name → IsUtf8 content → length key ≤ 50 → length name ≤ 50 → length content ≤ longest → IsFine (key, one name (text content))
+code_fine : (key name content : List ℕ) → IsUtf8 key
+    → IsUtf8 name → IsUtf8 content → length key ≤ 50 → length name ≤ 50 → length content ≤ longest
+    → IsFine (key, one name (text content))
 code_fine key name content a b c d e f = record {
   key_short = omega (arith, d);
   narrow = (omega arith, (omega (arith, e), omega (arith, f), tt));
@@ -151,11 +180,15 @@ code_fine key name content a b c d e f = record {
   light = omega (arith, d, e, f);
 }
 
-region_fine : (region : List ℕ) → IsUtf8 region → length region ≤ longest → AreFine (region_member region)
+region_fine : (region : List ℕ) → IsUtf8 region → length region ≤ longest
+    → AreFine (region_member region)
 region_fine region utf8 short =
     AreFine-unless region (codes "subdivisions") (subdivision_list region) (record {
       key_short = omega arith;
-      narrow = (omega arith, ((omega arith, (omega arith, omega (arith, short, subdivision_short region), tt)), tt));
+      narrow = (
+        omega arith,
+        ((omega arith, (omega arith, omega (arith, short, subdivision_short region), tt)), tt),
+      );
       low = omega arith;
       key_text = text_subdivisions;
       typed = ((text_iso_code, subdivision_text region utf8, tt), tt);
@@ -183,16 +216,21 @@ readable place texts =
       length-append a (b ++ (c ++ d)),
       length-append b (c ++ d),
       length-append c d,
-      length-unless place.city (codes "city") (one (codes "names") (one (codes "en") (text place.city))),
+      length-unless place.city (codes "city")
+          (one (codes "names") (one (codes "en") (text place.city))),
       length-unless place.country (codes "country") (one (codes "iso_code") (text place.country)),
       length-unless place.postal (codes "postal") (one (codes "code") (text place.postal)),
       length-unless place.region (codes "subdivisions") (subdivision_list place.region),
     ))
     (AreFine-append a (b ++ (c ++ d)) (city_fine place.city texts.city.0 texts.city.1)
     (AreFine-append b (c ++ d)
-    (AreFine-unless place.country (codes "country") (one (codes "iso_code") (text place.country)) (code_fine (codes "country") (codes "iso_code") place.country text_country text_iso_code texts.country.0 (omega arith) (omega arith) texts.country.1))
+    (AreFine-unless place.country (codes "country") (one (codes "iso_code") (text place.country))
+    (code_fine (codes "country") (codes "iso_code") place.country text_country text_iso_code
+    texts.country.0 (omega arith) (omega arith) texts.country.1))
     (AreFine-append c d
-    (AreFine-unless place.postal (codes "postal") (one (codes "code") (text place.postal)) (code_fine (codes "postal") (codes "code") place.postal text_postal text_code texts.postal.0 (omega arith) (omega arith) texts.postal.1))
+    (AreFine-unless place.postal (codes "postal") (one (codes "code") (text place.postal))
+    (code_fine (codes "postal") (codes "code") place.postal text_postal text_code texts.postal.0
+    (omega arith) (omega arith) texts.postal.1))
     (region_fine place.region texts.region.0 texts.region.1))))
 
 -- the texts of a place are short
@@ -209,8 +247,10 @@ region_of_six [] fits = omega arith
 region_of_six (a ∷ []) fits = omega arith
 region_of_six (a ∷ b ∷ []) fits = omega arith
 region_of_six (a ∷ b ∷ dash ∷ rest) fits =
-    let sub = and_parts (is_ascii_alphabetic a && is_ascii_alphabetic b && nat_eq dash 45) (is_subdivision rest) fits in
-    let few = and_parts (not (is_empty rest) && nat_le (length rest) 3) (list_all is_ascii_alphanumeric rest) sub.1 in
+    let sub = and_parts (is_ascii_alphabetic a && is_ascii_alphabetic b && nat_eq dash 45)
+    (is_subdivision rest) fits in
+    let few = and_parts (not (is_empty rest) && nat_le (length rest) 3)
+    (list_all is_ascii_alphanumeric rest) sub.1 in
     let short = and_parts (not (is_empty rest)) (nat_le (length rest) 3) few.0 in
     omega (arith, leb-true (length rest) 3 short.1)
 
@@ -223,11 +263,13 @@ short_region place is = omega (arith, region_of_six place.region is.region)
 pub short_city : (place : PlaceParts) → IsPlace place → length place.city ≤ longest
 unfolding lengths_fit
 short_city place is =
-    let fits = and_parts (nat_le (length place.city) longest) (nat_le (length place.postal) longest) is.lengths in
+    let fits = and_parts (nat_le (length place.city) longest)
+    (nat_le (length place.postal) longest) is.lengths in
     omega (arith, leb-true (length place.city) longest fits.0)
 
 pub short_postal : (place : PlaceParts) → IsPlace place → length place.postal ≤ longest
 unfolding lengths_fit
 short_postal place is =
-    let fits = and_parts (nat_le (length place.city) longest) (nat_le (length place.postal) longest) is.lengths in
+    let fits = and_parts (nat_le (length place.city) longest)
+    (nat_le (length place.postal) longest) is.lengths in
     omega (arith, leb-true (length place.postal) longest fits.1)

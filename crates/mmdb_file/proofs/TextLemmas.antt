@@ -1,5 +1,6 @@
 -- In UTF-8 the bytes 205 and 239 are never neighbours: each begins a character.
-use Rattle.std.proofs.Common.{◌≡◌, ℕ, ◌+◌, ◌/◌, ◌≢◌, ◌==◌, true, false, List, [], ◌∷◌, ◌++◌, refl, subst, inl, inr, arith, sym}
+use Rattle.std.proofs.Common.{◌≡◌, ℕ, ◌+◌, ◌/◌, ◌≢◌, ◌==◌, true, false, List, [], ◌∷◌, ◌++◌, refl}
+use Rattle.std.proofs.Common.{subst, inl, inr, arith, sym}
 use Rattle.std.specs.Str.{IsUtf8}
 use Rattle.std.proofs.lemmas.Bool.Decides.{eqb_tells}
 use Rattle.std.proofs.lemmas.Bool.{cases_lt, lt-ltb, le-ltb}
@@ -17,7 +18,8 @@ front b (c ∷ x) apart h = let e = unlike 205 b (λ same. apart (sym same)) in 
 -- a byte before one that is not 239
 lead : (b c : ℕ) (x : List ℕ) → c ≢ 239 → parted (c ∷ x) ≡ true → parted (b ∷ c ∷ x) ≡ true
 lead b c x apart h =
-    let e = not_both (205 == b) (239 == c) (unlike 239 c (λ same. apart (sym same))) in rw (e, h) refl
+    let e = not_both (205 == b) (239 == c) (unlike 239 c (λ same. apart (sym same))) in
+    rw (e, h) refl
 
 -- a byte that goes on with a character
 inner : (b : ℕ) (x : List ℕ) → parted x ≡ true → parted (next b ∷ x) ≡ true
@@ -36,9 +38,12 @@ character c x h =
             | inl b ↦ rw (lt-ltb c 2048 b) (led (192 + c / 64) c x (inner c x h))
             | inr b ↦ rw (le-ltb c 2048 b)
                 (elim (cases_lt c 65536) [
-                  | inl d ↦ rw (lt-ltb c 65536 d) (led (224 + c / 4096) (c / 64) (next c ∷ x) (inner (c / 64) (next c ∷ x) (inner c x h)))
+                  | inl d ↦ rw (lt-ltb c 65536 d) (led (224 + c / 4096) (c / 64) (next c ∷ x)
+                      (inner (c / 64) (next c ∷ x) (inner c x h)))
                   | inr d ↦ rw (le-ltb c 65536 d)
-                      (led (240 + c / 262144) (c / 4096) (next (c / 64) ∷ next c ∷ x) (inner (c / 4096) (next (c / 64) ∷ next c ∷ x) (inner (c / 64) (next c ∷ x) (inner c x h))))
+                      (led (240 + c / 262144) (c / 4096)
+                      (next (c / 64) ∷ next c ∷ x) (inner (c / 4096) (next (c / 64) ∷ next c ∷ x)
+                      (inner (c / 64) (next c ∷ x) (inner c x h))))
                 ])
           ])
     ]

@@ -1,5 +1,8 @@
 -- The steps of the writer.
-use Rattle.std.proofs.Common.{◌≡◌, ℕ, zero, suc, ◌+◌, ◌*◌, ◌<◌, ◌≤◌, not, Bool, true, false, List, [], ◌∷◌, ◌++◌, length, take, drop, get_or, Some, None, refl, sym, ap, ◌∙◌, arith, append_assoc, append-nil, length-append, length-take, inl, inr, subst, All, add-one}
+use Rattle.std.proofs.Common.{◌≡◌, ℕ, zero, suc, ◌+◌, ◌*◌, ◌<◌, ◌≤◌, not, Bool, true, false, List}
+use Rattle.std.proofs.Common.{[], ◌∷◌, ◌++◌, length, take, drop, get_or, Some, None, refl, sym, ap}
+use Rattle.std.proofs.Common.{◌∙◌, arith, append_assoc, append-nil, length-append, length-take, inl}
+use Rattle.std.proofs.Common.{inr, subst, All, add-one}
 use Rattle.std.proofs.Common.{map as map_list}
 use Rattle.mmdb_data.specs.Tree.{Tree, map, most, CanBeSpelled}
 use Rattle.mmdb_data.specs.Packing.{Packed, in_full, all_in_full, offsets_in}
@@ -26,95 +29,156 @@ use Rattle.mmdb_tree.specs.declared.bits.Bits.{Bits}
 use Rattle.mmdb_tree.specs.Nodes.{node_bytes, tree_bytes, width, limit}
 use Rattle.mmdb_tree.proofs.NodeLemmas.{length-node_bytes}
 
-pub none_is_len : {X : Type 0} (p : X → Bool) (xs : List X) → position p xs ≡ None → position_or_len p xs ≡ length xs
+pub none_is_len : {X : Type 0} (p : X → Bool) (xs : List X) → position p xs ≡ None
+    → position_or_len p xs ≡ length xs
 none_is_len p xs none =
     elim (cases_lt (position_or_len p xs) (length xs)) [
-      | inl a ↦ absurd (let found : position p xs ≡ Some (position_or_len p xs) = rw (lt-ltb (position_or_len p xs) (length xs) a) refl in cc)
+      | inl a ↦ absurd (let found : position p xs ≡ Some (position_or_len p xs) =
+          rw (lt-ltb (position_or_len p xs) (length xs) a) refl in cc)
       | inr a ↦ omega (arith, prefix_len-le-length (λ x. not (p x)) xs)
     ]
 
-pub tree_bytes-append : (bits : Bits) (xs ys : List (ℕ × ℕ)) → tree_bytes bits (xs ++ ys) ≡ tree_bytes bits xs ++ tree_bytes bits ys
+pub tree_bytes-append : (bits : Bits) (xs ys : List (ℕ × ℕ))
+    → tree_bytes bits (xs ++ ys) ≡ tree_bytes bits xs ++ tree_bytes bits ys
 tree_bytes-append bits [] ys = refl
-tree_bytes-append bits (x ∷ xs) ys = ap (λ t. node_bytes bits x.0 x.1 ++ t) (tree_bytes-append bits xs ys) ∙ sym (append_assoc (node_bytes bits x.0 x.1) (tree_bytes bits xs) (tree_bytes bits ys))
+tree_bytes-append bits (x ∷ xs) ys =
+    ap (λ t. node_bytes bits x.0 x.1 ++ t) (tree_bytes-append bits xs ys)
+    ∙ sym (append_assoc (node_bytes bits x.0 x.1) (tree_bytes bits xs) (tree_bytes bits ys))
 
-pub length-tree_bytes : (bits : Bits) (nodes : List (ℕ × ℕ)) → length (tree_bytes bits nodes) ≡ length nodes * width bits
+pub length-tree_bytes : (bits : Bits) (nodes : List (ℕ × ℕ))
+    → length (tree_bytes bits nodes) ≡ length nodes * width bits
 length-tree_bytes bits [] = omega arith
-length-tree_bytes bits (x ∷ xs) = omega (arith, length-append (node_bytes bits x.0 x.1) (tree_bytes bits xs), length-node_bytes bits x.0 x.1, length-tree_bytes bits xs, add-mul (length xs) 1 (width bits))
+length-tree_bytes bits (x ∷ xs) = omega (
+  arith,
+  length-append (node_bytes bits x.0 x.1) (tree_bytes bits xs),
+  length-node_bytes bits x.0 x.1,
+  length-tree_bytes bits xs,
+  add-mul (length xs) 1 (width bits),
+)
 
-pub put_more : (bits : Bits) (nodes : List (ℕ × ℕ)) (tree new : List ℕ) (n : ℕ) → n < length nodes → length nodes * width bits ≡ length tree → take (n * width bits) tree ≡ tree_bytes bits (take n nodes)
-    → new ≡ take (n * width bits) tree ++ (node_bytes bits (get_or nodes n (0, 0)).0 (get_or nodes n (0, 0)).1 ++ drop (n * width bits + width bits) tree)
+pub put_more : (bits : Bits) (nodes : List (ℕ × ℕ)) (tree new : List ℕ) (n : ℕ)
+    → n < length nodes → length nodes * width bits ≡ length tree
+    → take (n * width bits) tree ≡ tree_bytes bits (take n nodes)
+    → new ≡ take (n * width bits) tree ++ (node_bytes bits (get_or nodes n (0, 0)).0
+    (get_or nodes n (0, 0)).1 ++ drop (n * width bits + width bits) tree)
     → take ((n + 1) * width bits) new ≡ tree_bytes bits (take (n + 1) nodes)
 put_more bits nodes tree new n inside room done is =
     let node : ℕ × ℕ = get_or nodes n (0, 0) in
     let bytes : List ℕ = node_bytes bits node.0 node.1 in
     let front : List ℕ = take (n * width bits) tree in
     let more : take (n + 1) nodes ≡ take n nodes ++ node ∷ [] = take_more nodes n (0, 0) inside in
-    let below : (n + 1) * width bits ≤ length nodes * width bits = mul-le-mul_right (width bits) (omega arith) in
+    let below : (n + 1) * width bits ≤ length nodes * width bits =
+    mul-le-mul_right (width bits) (omega arith) in
     let step : (n + 1) * width bits ≡ n * width bits + 1 * width bits = add-mul n 1 (width bits) in
-    let long : length (front ++ bytes) ≡ (n + 1) * width bits = omega (arith, length-append front bytes, length-take (n * width bits) tree, length-node_bytes bits node.0 node.1) in
-    let whole : new ≡ (front ++ bytes) ++ drop (n * width bits + width bits) tree = is ∙ sym (append_assoc front bytes (drop (n * width bits + width bits) tree)) in
-    let taken : take ((n + 1) * width bits) ((front ++ bytes) ++ drop (n * width bits + width bits) tree) ≡ front ++ bytes = take_at (front ++ bytes) (drop (n * width bits + width bits) tree) ((n + 1) * width bits) long in
+    let long : length (front ++ bytes) ≡ (n + 1) * width bits = omega (
+      arith,
+      length-append front bytes,
+      length-take (n * width bits) tree,
+      length-node_bytes bits node.0 node.1,
+    ) in
+    let whole : new ≡ (front ++ bytes) ++ drop (n * width bits + width bits) tree =
+    is ∙ sym (append_assoc front bytes (drop (n * width bits + width bits) tree)) in
+    let taken : take ((n + 1) * width bits)
+    ((front ++ bytes) ++ drop (n * width bits + width bits) tree) ≡ front ++ bytes =
+    take_at (front ++ bytes) (drop (n * width bits + width bits) tree)
+    ((n + 1) * width bits) long in
     let last : tree_bytes bits (node ∷ []) ≡ bytes = append-nil bytes in
-    ap (take ((n + 1) * width bits)) whole ∙ taken ∙ ap (λ f. f ++ bytes) done ∙ sym (ap (tree_bytes bits) more ∙ tree_bytes-append bits (take n nodes) (node ∷ []) ∙ ap (λ b. tree_bytes bits (take n nodes) ++ b) last)
+    ap (take ((n + 1) * width bits)) whole ∙ taken ∙ ap (λ f. f ++ bytes) done
+    ∙ sym (ap (tree_bytes bits) more ∙ tree_bytes-append bits (take n nodes) (node ∷ [])
+    ∙ ap (λ b. tree_bytes bits (take n nodes) ++ b) last)
 
 -- one more value in the data section
 module _ (value : ℕ → Tree) (numbers : List ℕ) (i : ℕ) (inside : i < length numbers) where
-  rest_is : map_list value (drop i numbers) ≡ value (get_or numbers i 0) ∷ map_list value (drop (i + 1) numbers)
-  rest_is = ap (map_list value) (drop-cons numbers i 0 inside ∙ ap (λ n. get_or numbers i 0 ∷ drop n numbers) (sym (add-one i)))
+  rest_is : map_list value (drop i numbers)
+      ≡ value (get_or numbers i 0) ∷ map_list value (drop (i + 1) numbers)
+  rest_is =
+      ap (map_list value) (drop-cons numbers i 0 inside
+      ∙ ap (λ n. get_or numbers i 0 ∷ drop n numbers) (sym (add-one i)))
 
-  pub data_packed : (made new total : Packed) → all_in_full (map_list value (drop i numbers)) made ≡ total → new ≡ in_full (value (get_or numbers i 0)) made → all_in_full (map_list value (drop (i + 1) numbers)) new ≡ total
+  pub data_packed : (made new total : Packed)
+      → all_in_full (map_list value (drop i numbers)) made ≡ total
+      → new ≡ in_full (value (get_or numbers i 0)) made
+      → all_in_full (map_list value (drop (i + 1) numbers)) new ≡ total
   data_packed made new total before is =
-      ap (all_in_full (map_list value (drop (i + 1) numbers))) is ∙ sym (ap (λ v. all_in_full v made) rest_is) ∙ before
+      ap (all_in_full (map_list value (drop (i + 1) numbers))) is
+      ∙ sym (ap (λ v. all_in_full v made) rest_is) ∙ before
 
-  pub data_starts : (made new : Packed) (starts later total : List ℕ) → starts ++ offsets_in (map_list value (drop i numbers)) made ≡ total
-      → later ≡ starts ++ length made.bytes ∷ [] → new ≡ in_full (value (get_or numbers i 0)) made → later ++ offsets_in (map_list value (drop (i + 1) numbers)) new ≡ total
+  pub data_starts : (made new : Packed) (starts later total : List ℕ)
+      → starts ++ offsets_in (map_list value (drop i numbers)) made ≡ total
+      → later ≡ starts ++ length made.bytes ∷ [] → new ≡ in_full (value (get_or numbers i 0)) made
+      → later ++ offsets_in (map_list value (drop (i + 1) numbers)) new ≡ total
   data_starts made new starts later total before is_later is_new =
-      let rest : List ℕ = offsets_in (map_list value (drop (i + 1) numbers)) (in_full (value (get_or numbers i 0)) made) in
+      let rest : List ℕ = offsets_in (map_list value (drop (i + 1) numbers))
+      (in_full (value (get_or numbers i 0)) made) in
       ap (λ (s : Packed). later ++ offsets_in (map_list value (drop (i + 1) numbers)) s) is_new
       ∙ ap (λ s. s ++ rest) is_later
       ∙ append_assoc starts (length made.bytes ∷ []) rest
       ∙ sym (ap (λ v. starts ++ offsets_in v made) rest_is) ∙ before
 
-pub All_more : {X : Type 0} (P : X → Type 0) (xs : List X) (i : ℕ) (d : X) → i < length xs → All P (take i xs) → P (get_or xs i d) → All P (take (i + 1) xs)
-All_more P xs i d inside before here = subst (All P) (sym (take_more xs i d inside)) (All-push P (take i xs) (get_or xs i d) before here)
+pub All_more : {X : Type 0} (P : X → Type 0) (xs : List X) (i : ℕ) (d : X) → i < length xs
+    → All P (take i xs) → P (get_or xs i d) → All P (take (i + 1) xs)
+All_more P xs i d inside before here =
+    subst (All P) (sym (take_more xs i d inside))
+    (All-push P (take i xs) (get_or xs i d) before here)
 
-pub All_whole : {X : Type 0} (P : X → Type 0) (xs : List X) (i : ℕ) → length xs ≤ i → All P (take i xs) → All P xs
+pub All_whole : {X : Type 0} (P : X → Type 0) (xs : List X) (i : ℕ) → length xs ≤ i
+    → All P (take i xs) → All P xs
 All_whole P xs i past all = subst (All P) (take_all i xs past) all
 
 -- one more element of a list that a loop maps
-pub map_step : {X Y : Type 0} (f : X → Y) (xs : List X) (i : ℕ) (d : X) (made new total : List Y) (y : Y) → i < length xs → made ++ map_list f (drop i xs) ≡ total → new ≡ made ++ y ∷ [] → y ≡ f (get_or xs i d) → new ++ map_list f (drop (i + 1) xs) ≡ total
+pub map_step : {X Y : Type 0} (f : X → Y) (xs : List X) (i : ℕ) (d : X) (made new total : List Y)
+    (y : Y) → i < length xs → made ++ map_list f (drop i xs) ≡ total → new ≡ made ++ y ∷ []
+    → y ≡ f (get_or xs i d) → new ++ map_list f (drop (i + 1) xs) ≡ total
 map_step f xs i d made new total y inside before is here =
-    let rest : map_list f (drop i xs) ≡ f (get_or xs i d) ∷ map_list f (drop (i + 1) xs) = ap (map_list f) (drop-cons xs i d inside ∙ ap (λ n. get_or xs i d ∷ drop n xs) (sym (add-one i))) in
+    let rest : map_list f (drop i xs) ≡ f (get_or xs i d) ∷ map_list f (drop (i + 1) xs) =
+    ap (map_list f)
+    (drop-cons xs i d inside ∙ ap (λ n. get_or xs i d ∷ drop n xs) (sym (add-one i))) in
     ap (λ z. z ++ map_list f (drop (i + 1) xs)) is
     ∙ append_assoc made (y ∷ []) (map_list f (drop (i + 1) xs))
     ∙ ap (λ v. made ++ v ∷ map_list f (drop (i + 1) xs)) here
     ∙ sym (ap (λ v. made ++ v) rest) ∙ before
 
 -- the numbers of a node, by its children
-pub node_by_children : (pairs : List Pair) (number : Rec → ℕ) (id : NodeId) (left right : Rec) → slice_get pairs id.0 ≡ Some (record { left = left; right = right }) → (number left, number right) ≡ node_numbers pairs number id
+pub node_by_children : (pairs : List Pair) (number : Rec → ℕ) (id : NodeId) (left right : Rec)
+    → slice_get pairs id.0 ≡ Some (record { left = left; right = right })
+    → (number left, number right) ≡ node_numbers pairs number id
 node_by_children pairs number id left right is =
-    let found : get_or pairs id.0 (record { left = Leaf 0; right = Leaf 0 }) ≡ record { left = left; right = right } = get_or_from_slice_get pairs id.0 (record { left = left; right = right }) (record { left = Leaf 0; right = Leaf 0 }) is in
+    let found : get_or pairs id.0 (record { left = Leaf 0; right = Leaf 0 }) ≡ record {
+      left = left;
+      right = right;
+    } = get_or_from_slice_get pairs id.0 (record {
+      left = left;
+      right = right;
+    }) (record { left = Leaf 0; right = Leaf 0 }) is in
     sym (ap (λ (p : Pair). (number p.left, number p.right)) found)
 
 -- members that were added one after another
 abbrev Pairs : Type 0
 Pairs = List (List ℕ × Tree)
 
-pub with_value : (new old : Pairs) (key : List ℕ) (v w : Tree) → new ≡ old ++ (key, v) ∷ [] → v ≡ w → new ≡ old ++ (key, w) ∷ []
+pub with_value : (new old : Pairs) (key : List ℕ) (v w : Tree) → new ≡ old ++ (key, v) ∷ [] → v ≡ w
+    → new ≡ old ++ (key, w) ∷ []
 with_value new old key v w is same = is ∙ ap (λ t. old ++ (key, t) ∷ []) same
 
-next : (old new later : Pairs) (xs : Pairs) (b : List ℕ × Tree) → new ≡ old ++ xs → later ≡ new ++ b ∷ [] → later ≡ old ++ (xs ++ b ∷ [])
+next : (old new later : Pairs) (xs : Pairs) (b : List ℕ × Tree) → new ≡ old ++ xs
+    → later ≡ new ++ b ∷ [] → later ≡ old ++ (xs ++ b ∷ [])
 next old new later xs b is more = more ∙ ap (λ n. n ++ b ∷ []) is ∙ append_assoc old xs (b ∷ [])
 
-pub four : (old x1 x2 x3 x4 : Pairs) (a b c d : List ℕ × Tree) → x1 ≡ old ++ a ∷ [] → x2 ≡ x1 ++ b ∷ [] → x3 ≡ x2 ++ c ∷ [] → x4 ≡ x3 ++ d ∷ [] → x4 ≡ old ++ a ∷ b ∷ c ∷ d ∷ []
+pub four : (old x1 x2 x3 x4 : Pairs) (a b c d : List ℕ × Tree) → x1 ≡ old ++ a ∷ []
+    → x2 ≡ x1 ++ b ∷ [] → x3 ≡ x2 ++ c ∷ [] → x4 ≡ x3 ++ d ∷ [] → x4 ≡ old ++ a ∷ b ∷ c ∷ d ∷ []
 four old x1 x2 x3 x4 a b c d e1 e2 e3 e4 =
-    next old x3 x4 (a ∷ b ∷ c ∷ []) d (next old x2 x3 (a ∷ b ∷ []) c (next old x1 x2 (a ∷ []) b e1 e2) e3) e4
+    next old x3 x4 (a ∷ b ∷ c ∷ []) d
+    (next old x2 x3 (a ∷ b ∷ []) c (next old x1 x2 (a ∷ []) b e1 e2) e3) e4
 
-pub five : (old x1 x2 x3 x4 x5 : Pairs) (a b c d e : List ℕ × Tree) → x1 ≡ old ++ a ∷ [] → x2 ≡ x1 ++ b ∷ [] → x3 ≡ x2 ++ c ∷ [] → x4 ≡ x3 ++ d ∷ [] → x5 ≡ x4 ++ e ∷ [] → x5 ≡ old ++ a ∷ b ∷ c ∷ d ∷ e ∷ []
-five old x1 x2 x3 x4 x5 a b c d e e1 e2 e3 e4 e5 = next old x4 x5 (a ∷ b ∷ c ∷ d ∷ []) e (four old x1 x2 x3 x4 a b c d e1 e2 e3 e4) e5
+pub five : (old x1 x2 x3 x4 x5 : Pairs) (a b c d e : List ℕ × Tree) → x1 ≡ old ++ a ∷ []
+    → x2 ≡ x1 ++ b ∷ [] → x3 ≡ x2 ++ c ∷ [] → x4 ≡ x3 ++ d ∷ [] → x5 ≡ x4 ++ e ∷ []
+    → x5 ≡ old ++ a ∷ b ∷ c ∷ d ∷ e ∷ []
+five old x1 x2 x3 x4 x5 a b c d e e1 e2 e3 e4 e5 =
+    next old x4 x5 (a ∷ b ∷ c ∷ d ∷ []) e (four old x1 x2 x3 x4 a b c d e1 e2 e3 e4) e5
 
 -- the metadata can be written
-pub told_spelled : (epoch : ℕ) (name : List ℕ) (nodes size : ℕ) → length name ≤ 64 → CanBeSpelled (map (told_members epoch name nodes size))
+pub told_spelled : (epoch : ℕ) (name : List ℕ) (nodes size : ℕ) → length name ≤ 64
+    → CanBeSpelled (map (told_members epoch name nodes size))
 unfolding told_members english
 told_spelled epoch name nodes size few =
     let short : length name ≤ most = omega arith in (
@@ -135,7 +199,15 @@ told_spelled epoch name nodes size few =
                 (
                   omega arith,
                   (omega arith, (omega arith, short, tt)),
-                  (omega arith, tt, (omega arith, (omega arith, (omega arith, tt)), (omega arith, tt, (omega arith, tt, tt)))),
+                  (
+                    omega arith,
+                    tt,
+                    (
+                      omega arith,
+                      (omega arith, (omega arith, tt)),
+                      (omega arith, tt, (omega arith, tt, tt)),
+                    ),
+                  ),
                 ),
               ),
             ),
@@ -146,39 +218,52 @@ told_spelled epoch name nodes size few =
     )
 
 -- a set is no longer than the list that it was made of
-pub length-each_once : {X : Type 0} (eq : X → X → Bool) (seen xs : List X) → length (each_once eq seen xs) ≤ length seen + length xs
+pub length-each_once : {X : Type 0} (eq : X → X → Bool) (seen xs : List X)
+    → length (each_once eq seen xs) ≤ length seen + length xs
 length-each_once eq seen [] = omega arith
 length-each_once eq seen (x ∷ xs) =
-    elim (list_any (eq x) seen) as (λ (b : Bool). length (if b then each_once eq seen xs else each_once eq (seen ++ x ∷ []) xs) ≤ length seen + length (x ∷ xs)) [
+    elim (list_any (eq x) seen)
+    as (λ (b : Bool). length (if b then each_once eq seen xs else each_once eq (seen ++ x ∷ []) xs)
+    ≤ length seen + length (x ∷ xs)) [
       | true ↦ omega (arith, length-each_once eq seen xs)
       | false ↦ omega (arith, length-each_once eq (seen ++ x ∷ []) xs, length-append seen (x ∷ []))
     ]
 
 -- the numbers of all records fit where the greatest do
-pub record_number-lt : (count end : ℕ) (ids : List NodeId) (places starts : List ℕ) (rec : Rec) → length ids < end → count < end → ((k : ℕ) → count + 16 + slice_index starts k < end) → record_number count ids places starts rec < end
+pub record_number-lt : (count end : ℕ) (ids : List NodeId) (places starts : List ℕ) (rec : Rec)
+    → length ids < end → count < end → ((k : ℕ) → count + 16 + slice_index starts k < end)
+    → record_number count ids places starts rec < end
 record_number-lt count end ids places starts (Leaf k) few some low =
-    elim (list_any (nat_eq k) places) as (λ (b : Bool). (if b then count + 16 + slice_index starts (position_or_len (nat_eq k) places) else count) < end) [
+    elim (list_any (nat_eq k) places) as (λ (b : Bool). (if b
+    then count + 16 + slice_index starts (position_or_len (nat_eq k) places) else count) < end) [
       | true ↦ low (position_or_len (nat_eq k) places)
       | false ↦ some
     ]
-record_number-lt count end ids places starts (Node id) few some low = omega (arith, few, prefix_len-le-length (λ x. not (same_id id x)) ids)
+record_number-lt count end ids places starts (Node id) few some low =
+    omega (arith, few, prefix_len-le-length (λ x. not (same_id id x)) ids)
 
 pub length-mapped : {X Y : Type 0} (f : X → Y) (xs : List X) → length (map_list f xs) ≡ length xs
 length-mapped f [] = refl
 length-mapped f (x ∷ xs) = ap suc (length-mapped f xs)
 
 -- the nodes fit where each number does
-pub nodes_fit : (bits : Bits) (pairs : List Pair) (number : Rec → ℕ) (root : Rec) (ids : List NodeId) → ((rec : Rec) → number rec < limit bits) → (k : ℕ) → k < length (nodes_from pairs number root ids) → NodeFits bits (get_or (nodes_from pairs number root ids) k (0, 0))
+pub nodes_fit : (bits : Bits) (pairs : List Pair)
+    (number : Rec → ℕ) (root : Rec) (ids : List NodeId) → ((rec : Rec) → number rec < limit bits)
+    → (k : ℕ) → k < length (nodes_from pairs number root ids)
+    → NodeFits bits (get_or (nodes_from pairs number root ids) k (0, 0))
 nodes_fit bits pairs number root [] fits zero inside = (fits root, fits root)
 nodes_fit bits pairs number root [] fits (suc k) inside = absurd (omega arith)
 nodes_fit bits pairs number root (id ∷ ids) fits k inside =
     let f : NodeId → ℕ × ℕ = node_numbers pairs number in
-    let at : get_or (map_list f (id ∷ ids)) k (0, 0) ≡ f (get_or (id ∷ ids) k id) = get_or-map f (id ∷ ids) k id (0, 0) (omega (arith, inside, length-mapped f (id ∷ ids))) in
+    let at : get_or (map_list f (id ∷ ids)) k (0, 0) ≡ f (get_or (id ∷ ids) k id) =
+    get_or-map f (id ∷ ids) k id (0, 0) (omega (arith, inside, length-mapped f (id ∷ ids))) in
     subst (NodeFits bits) (sym at) (fits _, fits _)
 
-pub length-nodes_from : (pairs : List Pair) (number : Rec → ℕ) (root : Rec) (ids : List NodeId) → length (nodes_from pairs number root ids) ≡ max 1 (length ids)
+pub length-nodes_from : (pairs : List Pair) (number : Rec → ℕ) (root : Rec) (ids : List NodeId)
+    → length (nodes_from pairs number root ids) ≡ max 1 (length ids)
 length-nodes_from pairs number root [] = refl
-length-nodes_from pairs number root (id ∷ ids) = omega (arith, length-mapped (node_numbers pairs number) (id ∷ ids))
+length-nodes_from pairs number root (id ∷ ids) =
+    omega (arith, length-mapped (node_numbers pairs number) (id ∷ ids))
 
 pub limit-le : (bits : Bits) → limit bits ≤ 2 ^ 32
 limit-le B24 = omega arith

@@ -7,7 +7,8 @@ use Rattle.mmdb_file.specs.Walk.{Told}
 
 -- what was read of the metadata
 abbrev pub told_view : Metadata → Told
-told_view read = record { nodes = read.nodes; bits = read.bits; major = read.major; ip = read.ip_version }
+told_view read =
+    record { nodes = read.nodes; bits = read.bits; major = read.major; ip = read.ip_version }
 
 -- the defined answer, or want of memory
 abbrev pub Gives : {B : Type 0} → Result B OpenFault → Result B OpenFault → Type 0

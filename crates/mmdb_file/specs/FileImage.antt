@@ -1,5 +1,6 @@
 -- The file that is written for a tree of places, and the fresh build of the sources' record.
-use Rattle.std.specs.Prelude.{ℕ, ◌+◌, Bool, true, false, List, ◌++◌, length, map, filter, replicate, slice_index, Option, Some, None, option_map, is_some, if◌then◌else◌}
+use Rattle.std.specs.Prelude.{ℕ, ◌+◌, Bool, true, false, List, ◌++◌, length, map, filter, replicate}
+use Rattle.std.specs.Prelude.{slice_index, Option, Some, None, option_map, is_some, if◌then◌else◌}
 use Rattle.std.specs.List.{position_or_len}
 use Rattle.geo_terms.specs.PlaceForm.{PlaceParts}
 use Rattle.geo_terms.specs.Numbers.{same_place}
@@ -21,10 +22,13 @@ abbrev pub answer_value : Option PlaceParts → Value
 answer_value None = map_value no_members
 answer_value (Some place) = place_value place
 
--- a file of these nodes and this section: the nodes, 16 zero bytes, the data section, the marker and the metadata
-unfoldable pub file_of : Bits → List (ℕ × ℕ) → (section : List ℕ) (epoch : ℕ) (name : List ℕ) → List ℕ
+-- a file of these nodes and this section: the nodes, 16 zero bytes, the data section,
+-- the marker and the metadata
+unfoldable pub file_of : Bits
+    → List (ℕ × ℕ) → (section : List ℕ) (epoch : ℕ) (name : List ℕ) → List ℕ
 file_of bits nodes section epoch name =
-    (tree_bytes bits nodes ++ (replicate 16 0 ++ section)) ++ (marker ++ metadata epoch name (length nodes) (record_size bits))
+    (tree_bytes bits nodes ++ (replicate 16 0 ++ section))
+    ++ (marker ++ metadata epoch name (length nodes) (record_size bits))
 
 -- the file of a tree, whatever its leaves are, where each leaf is a place or none
 module _ {A : Type 0} (eq : A → A → Bool) (place_of : A → Option PlaceParts) where
@@ -39,14 +43,17 @@ module _ {A : Type 0} (eq : A → A → Bool) (place_of : A → Option PlacePart
   unfoldable pub section : Tree A → Section
   section t = section_of (values (spots t))
 
-  -- a record for another node is its position, one for no place is the node count, and one for a place is the node count, 16 and where the place's value begins
+  -- a record for another node is its position, one for no place is the node count,
+  -- and one for a place is the node count, 16 and where the place's value begins
   abbrev pub record_for : (nodes : ℕ) → List A → List ℕ → Member A → ℕ
   record_for nodes leaves starts (at i) = i
   record_for nodes leaves starts (says a) =
-      if is_some (place_of a) then nodes + 16 + slice_index starts (position_or_len (eq a) leaves) else nodes
+      if is_some (place_of a)
+      then nodes + 16 + slice_index starts (position_or_len (eq a) leaves) else nodes
 
   abbrev pub node_for : (nodes : ℕ) → List A → List ℕ → Member A × Member A → ℕ × ℕ
-  node_for nodes leaves starts pair = (record_for nodes leaves starts pair.0, record_for nodes leaves starts pair.1)
+  node_for nodes leaves starts pair =
+      (record_for nodes leaves starts pair.0, record_for nodes leaves starts pair.1)
 
   -- the nodes of the file, by their records
   unfoldable pub node_records : Tree A → List (ℕ × ℕ)
@@ -58,7 +65,9 @@ module _ {A : Type 0} (eq : A → A → Bool) (place_of : A → Option PlacePart
 
   -- the file, where records of 32 bits or fewer hold its numbers
   unfoldable pub file_with : Tree A → (epoch : ℕ) (name : List ℕ) → Option (List ℕ)
-  file_with t epoch name = option_map (λ bits. file_of bits (node_records t) (section t).bytes epoch name) (smallest (records_end t))
+  file_with t epoch name =
+      option_map (λ bits. file_of bits (node_records t) (section t).bytes epoch name)
+      (smallest (records_end t))
 
 -- two answers are the same place, or both none
 abbrev pub same_answer : Option PlaceParts → Option PlaceParts → Bool

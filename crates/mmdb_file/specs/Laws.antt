@@ -1,5 +1,6 @@
 -- The laws of a written file.
-use Rattle.std.specs.Prelude.{◌≡◌, ◌≤◌, ◌<◌, ◌^◌, ℕ, Bool, List, ◌∷◌, ◌++◌, length, map, slice_index_or, nat_eq, Some, Ok, option_map, All}
+use Rattle.std.specs.Prelude.{◌≡◌, ◌≤◌, ◌<◌, ◌^◌, ℕ, Bool, List, ◌∷◌, ◌++◌, length, map}
+use Rattle.std.specs.Prelude.{slice_index_or, nat_eq, Some, Ok, option_map, All}
 use Rattle.std.specs.Str.{IsUtf8}
 use Rattle.mmdb_tree.specs.declared.bits.Bits.{Bits}
 use Rattle.geo_terms.specs.PlaceForm.{PlaceParts}
@@ -20,22 +21,35 @@ use Rattle.mmdb_file.specs.Metadata.{metadata}
 -- the last marker is the writer's own
 abbrev pub LastMarkerIsTheWriters : Type 0
 LastMarkerIsTheWriters =
-    (front : List ℕ) (epoch : ℕ) (name : List ℕ) (nodes : ℕ) (bits : Bits) → IsUtf8 name → length name ≤ 64
-    → last_marker (front ++ (marker ++ metadata epoch name nodes (record_size bits))) ≡ Some (length front)
+    (front : List ℕ) (epoch : ℕ) (name : List ℕ) (nodes : ℕ) (bits : Bits) → IsUtf8 name
+    → length name ≤ 64
+    → last_marker (front ++ (marker ++ metadata epoch name nodes (record_size bits)))
+    ≡ Some (length front)
 
--- where the leaves of a tree are numbers of a table of distinct places, the file by these numbers is the file of the places
+-- where the leaves of a tree are numbers of a table of distinct places,
+-- the file by these numbers is the file of the places
 abbrev pub NumbersStandForPlaces : Type 0
 NumbersStandForPlaces =
-    (places : List PlaceParts) → IsDistinct same_place places → (t : Tree ℕ) → AllLeaves (λ k. k ≤ length places) t
-    → (epoch : ℕ) (name : List ℕ) → file_with nat_eq (place_at places) t epoch name ≡ file (map_tree (place_at places) t) epoch name
+    (places : List PlaceParts) → IsDistinct same_place places
+    → (t : Tree ℕ) → AllLeaves (λ k. k ≤ length places) t
+    → (epoch : ℕ) (name : List ℕ) → file_with nat_eq (place_at places) t epoch name
+    ≡ file (map_tree (place_at places) t) epoch name
 
--- the walk of a file of these nodes and the values of these places answers as the tree whose layout they are: every record fits, each value can be read, and the numbers of the nodes are those of the layout
+-- the walk of a file of these nodes and the values of these places answers as the tree whose layout
+-- they are: every record fits, each value can be read, and the numbers of
+-- the nodes are those of the layout
 abbrev pub WrittenFileIsWalked : Type 0
 WrittenFileIsWalked =
-    (places : List PlaceParts) (t : Tree ℕ) → AllLeaves (λ k. k ≤ length places) t → (bits : Bits) (epoch : ℕ) (name : List ℕ) → epoch < 2 ^ 64 → IsUtf8 name → length name ≤ 64
+    (places : List PlaceParts) (t : Tree ℕ) → AllLeaves (λ k. k ≤ length places) t
+    → (bits : Bits) (epoch : ℕ) (name : List ℕ) → epoch < 2 ^ 64 → IsUtf8 name → length name ≤ 64
     → All (λ k. CanBeReadBack (answer_value (place_at places k))) (place_order t)
-    → (nodes : List (ℕ × ℕ)) → ((k : ℕ) → k < length nodes → NodeFits bits (slice_index_or nodes k (0, 0))) → length nodes < 2 ^ 32
-    → nodes ≡ map (node_for nat_eq (place_at places) (length nodes) (place_order t) (packed_offsets (map (λ k. answer_value (place_at places k)) (place_order t)))) (laid nat_eq t)
+    → (nodes : List (ℕ × ℕ))
+    → ((k : ℕ) → k < length nodes → NodeFits bits (slice_index_or nodes k (0, 0)))
+    → length nodes < 2 ^ 32
+    → nodes ≡ map (node_for nat_eq (place_at places) (length nodes) (place_order t)
+    (packed_offsets (map (λ k. answer_value (place_at places k)) (place_order t)))) (laid nat_eq t)
     → length nodes ≡ length (laid nat_eq t) → 0 < length nodes
     → (b : Bool) (w : List Bool) (k : ℕ) → look t (b ∷ w) ≡ Some k
-    → walk (file_of bits nodes (packed (map (λ k'. answer_value (place_at places k')) (place_order t))) epoch name) (b ∷ w) ≡ Ok (option_map place_value (place_at places k))
+    → walk (file_of bits nodes
+    (packed (map (λ k'. answer_value (place_at places k')) (place_order t))) epoch name) (b ∷ w)
+    ≡ Ok (option_map place_value (place_at places k))

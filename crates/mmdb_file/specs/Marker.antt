@@ -1,5 +1,6 @@
 -- The marker before the metadata (MaxMind DB 2.0, "Database Metadata").
-use Rattle.std.specs.Prelude.{ℕ, suc, ◌==◌, ◌&&◌, Bool, true, false, List, [], ◌∷◌, Option, Some, None}
+use Rattle.std.specs.Prelude.{ℕ, suc, ◌==◌, ◌&&◌, Bool, true, false, List, [], ◌∷◌, Option, Some}
+use Rattle.std.specs.Prelude.{None}
 
 -- the bytes AB CD EF and then `MaxMind.com`
 unfoldable pub marker : List ℕ

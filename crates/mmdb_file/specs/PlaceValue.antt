@@ -19,10 +19,12 @@ unfoldable pub subdivision : List ℕ → List ℕ
 subdivision region = after_first (λ b. b == 45) region
 
 abbrev pub city_member : List ℕ → List (List ℕ × Tree)
-city_member city = unless_empty city (codes "city") (one (codes "names") (one (codes "en") (text city)))
+city_member city =
+    unless_empty city (codes "city") (one (codes "names") (one (codes "en") (text city)))
 
 abbrev pub country_member : List ℕ → List (List ℕ × Tree)
-country_member country = unless_empty country (codes "country") (one (codes "iso_code") (text country))
+country_member country =
+    unless_empty country (codes "country") (one (codes "iso_code") (text country))
 
 abbrev pub postal_member : List ℕ → List (List ℕ × Tree)
 postal_member postal = unless_empty postal (codes "postal") (one (codes "code") (text postal))
@@ -36,4 +38,5 @@ region_member region = unless_empty region (codes "subdivisions") (subdivision_l
 -- keys ascend by their bytes
 unfoldable pub place_value : PlaceParts → Tree
 place_value place =
-    map (members_of (city_member place.city ++ (country_member place.country ++ (postal_member place.postal ++ region_member place.region))))
+    map (members_of (city_member place.city ++ (country_member place.country
+    ++ (postal_member place.postal ++ region_member place.region))))

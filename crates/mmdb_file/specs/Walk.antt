@@ -1,5 +1,8 @@
--- The walk of a file, from the public standard alone (MaxMind DB 2.0). It shares nothing with the writer.
-use Rattle.std.specs.Prelude.{ℕ, ◌+◌, ◌-◌, ◌*◌, ◌^◌, ◌==◌, ◌&&◌, ◌||◌, nat_lt, nat_le, nat_eq, if◌then◌else◌, Bool, List, [], ◌∷◌, length, take, drop, codes, Option, Some, None, Result, Ok, Err}
+-- The walk of a file, from the public standard alone (MaxMind DB 2.0).
+-- It shares nothing with the writer.
+use Rattle.std.specs.Prelude.{ℕ, ◌+◌, ◌-◌, ◌*◌, ◌^◌, ◌==◌, ◌&&◌, ◌||◌, nat_lt, nat_le, nat_eq}
+use Rattle.std.specs.Prelude.{if◌then◌else◌, Bool, List, [], ◌∷◌, length, take, drop, codes, Option}
+use Rattle.std.specs.Prelude.{Some, None, Result, Ok, Err}
 use Rattle.std.specs.Cmp.Lexicographic.{pointwise}
 use Rattle.mmdb_data.specs.Tree.{Tree, Members, map, u16, u32, u64, u128, no_members, member}
 use Rattle.mmdb_data.specs.Reading.{Fault, reads}
@@ -7,7 +10,8 @@ use Rattle.mmdb_tree.specs.declared.bits.Bits.{Bits}
 use Rattle.mmdb_tree.specs.declared.bits.Bits.TheVariants.{B24, B28, B32}
 use Rattle.mmdb_tree.specs.Nodes.{width, record_at}
 use Rattle.mmdb_file.specs.declared.fault.OpenFault.{OpenFault}
-use Rattle.mmdb_file.specs.declared.fault.OpenFault.TheVariants.{NoMarker, Metadata, Version, TreeCut}
+use Rattle.mmdb_file.specs.declared.fault.OpenFault.TheVariants.{NoMarker, Metadata, Version}
+use Rattle.mmdb_file.specs.declared.fault.OpenFault.TheVariants.{TreeCut}
 use Rattle.mmdb_file.specs.declared.fault.WalkFault.{WalkFault}
 use Rattle.mmdb_file.specs.declared.fault.WalkFault.TheVariants.{NotEnded, OutOfSection}
 use Rattle.mmdb_file.specs.Marker.{marker, last_marker}
@@ -15,7 +19,8 @@ use Rattle.mmdb_file.specs.Marker.{marker, last_marker}
 -- the value of a key: of equal keys the last counts
 abbrev pub field : List ℕ → Members → Option Tree → Option Tree
 field key no_members found = found
-field key (member name value members) found = field key members (if pointwise nat_eq name key then Some value else found)
+field key (member name value members) found =
+    field key members (if pointwise nat_eq name key then Some value else found)
 
 -- an unsigned number of any kind
 abbrev pub unsigned_of : Option Tree → Option ℕ
@@ -41,7 +46,8 @@ count_of n = if nat_lt 0 n && nat_lt n (2 ^ 32) then Some n else None
 
 -- records have 24, 28 or 32 bits
 unfoldable pub bits_of_size : ℕ → Option Bits
-bits_of_size n = if n == 24 then Some B24 else if n == 28 then Some B28 else if n == 32 then Some B32 else None
+bits_of_size n =
+    if n == 24 then Some B24 else if n == 28 then Some B28 else if n == 32 then Some B32 else None
 
 infixl 10 ◌>>=◌
 abbrev pub ◌>>=◌ : {A B : Type 0} → Option A → (A → Option B) → Option B
@@ -92,7 +98,8 @@ opened_with front (Some told) = if is_known told then cut front told else Err Ve
 -- the file is cut at this marker
 abbrev pub opened_at : List ℕ → Option ℕ → Result Opened OpenFault
 opened_at bytes None = Err NoMarker
-opened_at bytes (Some place) = opened_with (take place bytes) (told_of_value (reads (drop (place + length marker) bytes) 0))
+opened_at bytes (Some place) =
+    opened_with (take place bytes) (told_of_value (reads (drop (place + length marker) bytes) 0))
 
 -- the last marker counts
 unfoldable pub opened : List ℕ → Result Opened OpenFault
@@ -109,14 +116,17 @@ nodes_told bytes = nodes_of (opened bytes)
 -- the record at which the way along these bits from a node ends, if it ends by then
 abbrev pub seek : (ℕ → Bool → ℕ) → ℕ → ℕ → List Bool → Option ℕ
 seek read nodes place [] = if nat_lt place nodes then None else Some place
-seek read nodes place (b ∷ bits) = if nat_lt place nodes then seek read nodes (read place b) bits else Some place
+seek read nodes place (b ∷ bits) =
+    if nat_lt place nodes then seek read nodes (read place b) bits else Some place
 
--- the node count stands for no data, and above it a record leads to the data section; 16 bytes stand before that
+-- the node count stands for no data, and above it a record leads to the data section;
+-- 16 bytes stand before that
 abbrev pub place_of_record : Opened → Option ℕ → Result (Option ℕ) WalkFault
 place_of_record file None = Err NotEnded
 place_of_record file (Some r) =
     if r == file.nodes then Ok None
-    else if nat_lt r (file.nodes + 16) || nat_le (length file.section) (r - (file.nodes + 16)) then Err OutOfSection
+    else if nat_lt r (file.nodes + 16) || nat_le (length file.section) (r - (file.nodes + 16))
+    then Err OutOfSection
     else Ok (Some (r - (file.nodes + 16)))
 
 -- where the value of a way through the tree stands in the data section

@@ -1,5 +1,6 @@
 -- What the writer's steps give.
-use Rattle.std.specs.Prelude.{◌≡◌, ◌<◌, ◌^◌, ℕ, ◌+◌, ◌==◌, Bool, List, [], ◌∷◌, map, length, max, slice_index, slice_index_or, nat_eq, Option, Some, if◌then◌else◌}
+use Rattle.std.specs.Prelude.{◌≡◌, ◌<◌, ◌^◌, ℕ, ◌+◌, ◌==◌, Bool, List, [], ◌∷◌, map, length, max}
+use Rattle.std.specs.Prelude.{slice_index, slice_index_or, nat_eq, Option, Some, if◌then◌else◌}
 use Rattle.std.specs.List.{position_or_len, list_any}
 use Rattle.trie_core.specs.declared.node.NodeId.{NodeId}
 use Rattle.trie_core.specs.declared.node.Rec.{Rec}
@@ -21,20 +22,25 @@ use Rattle.mmdb_data.specs.Packing.{packed}
 abbrev pub same_id : NodeId → NodeId → Bool
 same_id a b = a.0 == b.0
 
--- the number that stands for a record of the store, by the nodes and the places in order and where each place's value begins
+-- the number that stands for a record of the store, by the nodes and the places in order and where
+-- each place's value begins
 abbrev pub record_number : (count : ℕ) → List NodeId → (places starts : List ℕ) → Rec → ℕ
 record_number count ids places starts (Leaf k) =
-    if list_any (nat_eq k) places then count + 16 + slice_index starts (position_or_len (nat_eq k) places) else count
+    if list_any (nat_eq k) places
+    then count + 16 + slice_index starts (position_or_len (nat_eq k) places) else count
 record_number count ids places starts (Node id) = position_or_len (same_id id) ids
 
 -- the number for a record, by what a writer holds
 abbrev pub number_of : Numbers → Rec → ℕ
-number_of numbers = record_number numbers.count numbers.nodes numbers.places.keys numbers.starts.items
+number_of numbers =
+    record_number numbers.count numbers.nodes numbers.places.keys numbers.starts.items
 
 -- the two numbers of a node, from those of its children
 abbrev pub node_numbers : List Pair → (Rec → ℕ) → NodeId → ℕ × ℕ
-node_numbers pairs number id =
-    (number (slice_index_or pairs id.0 (record { left = Leaf 0; right = Leaf 0 })).left, number (slice_index_or pairs id.0 (record { left = Leaf 0; right = Leaf 0 })).right)
+node_numbers pairs number id = (
+  number (slice_index_or pairs id.0 (record { left = Leaf 0; right = Leaf 0 })).left,
+  number (slice_index_or pairs id.0 (record { left = Leaf 0; right = Leaf 0 })).right,
+)
 
 -- the numbers of the nodes with these ids, or of one node that leads to the root on both sides
 abbrev pub nodes_from : List Pair → (Rec → ℕ) → (root : Rec) → List NodeId → List (ℕ × ℕ)
@@ -47,12 +53,16 @@ place_tree places pairs root = map_tree (place_at places) (tree_of pairs root)
 
 -- a function answers at each address the place of the root's leaf
 abbrev pub AnswersPlaces : List PlaceParts → List Pair → Root → (ℕ → Option PlaceParts) → Type 0
-AnswersPlaces places pairs root answer = (address k : ℕ) → address < 2 ^ 128 → leaf_at pairs root address ≡ Some k → place_at places k ≡ answer address
+AnswersPlaces places pairs root answer =
+    (address k : ℕ) → address < 2 ^ 128 → leaf_at pairs root address ≡ Some k
+    → place_at places k ≡ answer address
 
 -- the walk from the first node comes at each address to the place of the root's leaf
-abbrev pub FindsPlaces : List PlaceParts → List Pair → Root → List (Member (Option PlaceParts) × Member (Option PlaceParts)) → Type 0
+abbrev pub FindsPlaces : List PlaceParts → List Pair → Root
+    → List (Member (Option PlaceParts) × Member (Option PlaceParts)) → Type 0
 FindsPlaces places pairs root nodes =
-    (address k : ℕ) → address < 2 ^ 128 → leaf_at pairs root address ≡ Some k → go nodes (at 0) (bits_of 128 address) ≡ Some (place_at places k)
+    (address k : ℕ) → address < 2 ^ 128 → leaf_at pairs root address ≡ Some k
+    → go nodes (at 0) (bits_of 128 address) ≡ Some (place_at places k)
 
 -- how many nodes are written for a tree: its different nodes, and one where it is a leaf
 abbrev pub count_for : Tree ℕ → ℕ

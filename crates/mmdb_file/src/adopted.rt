@@ -6,7 +6,10 @@ ghost use Rattle.mmdb_data.specs.Reading.{reads};
 ghost use Rattle.mmdb_data.specs.View.{tree as value_tree, members_view};
 ghost use Rattle.mmdb_tree.specs.Nodes.{record_at};
 ghost use Rattle.mmdb_file.specs.Adopting.{Gives, Tells, told_view};
-ghost use Rattle.mmdb_file.specs.Walk.{told_of, told_of_value, opened, opened_with, place_at, seek, number_field as number_of_field, field as field_of, count_of as count_from, bits_of_size as bits_from, cut as cut_from};
+ghost use Rattle.mmdb_file.specs.Walk.{told_of, told_of_value, opened, opened_with, place_at, seek};
+ghost use Rattle.mmdb_file.specs.Walk.{number_field as number_of_field, field as field_of};
+ghost use Rattle.mmdb_file.specs.Walk.{count_of as count_from, bits_of_size as bits_from};
+ghost use Rattle.mmdb_file.specs.Walk.{cut as cut_from};
 
 use crate::fault::{OpenFault, WalkFault};
 use crate::marker::{MARKER_LEN, last_marker};
@@ -35,7 +38,12 @@ impl<'a> Model for Mmdb<'a> {
 
     ghost Value = { Opened };
 
-    ghost view = { λ m. record { bits = m.bits; nodes = m.nodes; tree = m.tree.now; section = m.section.now } };
+    ghost view = { λ m. record {
+      bits = m.bits;
+      nodes = m.nodes;
+      tree = m.tree.now;
+      section = m.section.now;
+    } };
 
     ghost invariant = { λ m. length m.tree.now ≡ m.nodes * width m.bits };
 }
@@ -93,7 +101,8 @@ impl<'a> Mmdb<'a> {
     }
 
     fn seek(&self, at: Addr) -> Option<u32>
-        ensures { result ≡ seek (record_at self.now.bits self.now.tree) self.now.nodes 0 (bits_of 128 at.0) }
+        ensures { result
+            ≡ seek (record_at self.now.bits self.now.tree) self.now.nodes 0 (bits_of 128 at.0) }
     {
         let mut record = 0;
         let mut left: u32 = 128;
@@ -200,7 +209,8 @@ fn number_field(members: &[(Text, Value)], key: &str) -> Option<u128>
 
 /// The value of a key: of equal keys the last counts.
 fn field<'a>(members: &'a [(Text, Value)], key: &str) -> Option<&'a Value>
-    ensures { option_map (λ v. value_tree v.now) result ≡ field_of key.now (members_view members.now) None }
+    ensures { option_map (λ v. value_tree v.now) result
+        ≡ field_of key.now (members_view members.now) None }
 {
     let mut found = None;
     for (name, value) in members {

@@ -22,9 +22,11 @@ pub(crate) struct Data {
 /// The data section of the places with these numbers, in this order.
 pub(crate) fn data_of(alloc: Global, places: &Places, numbers: &[u32]) -> Result<Data, Memory>
     ensures section { IfOk result
-        (λ made. made.section.bytes ≡ packed (map_list (λ k. answer_value (place_at places.now k)) numbers.now)) }
+        (λ made. made.section.bytes
+        ≡ packed (map_list (λ k. answer_value (place_at places.now k)) numbers.now)) }
     ensures starts { IfOk result
-        (λ made. made.starts.items ≡ packed_offsets (map_list (λ k. answer_value (place_at places.now k)) numbers.now)) }
+        (λ made. made.starts.items
+        ≡ packed_offsets (map_list (λ k. answer_value (place_at places.now k)) numbers.now)) }
     ensures readable { IfOk result
         (λ _. All (λ k. CanBeReadBack (answer_value (place_at places.now k))) numbers.now) }
 {
@@ -52,7 +54,8 @@ fn add(alloc: Global, made: &mut Data, places: &Places, number: u32) -> Result<(
 }
 
 fn value_of(alloc: Global, places: &Places, number: u32) -> Result<Value, Memory>
-    ensures value { IfOk result (λ value. value_tree value ≡ answer_value (place_at places.now number)) }
+    ensures value { IfOk result
+        (λ value. value_tree value ≡ answer_value (place_at places.now number)) }
     ensures readable { IfOk result (λ value. CanBeReadBack (value_tree value)) }
 {
     match places.get(number) {

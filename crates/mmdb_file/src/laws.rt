@@ -1,5 +1,6 @@
 ghost use Rattle.std.specs.Prelude.{ℕ};
-ghost use Rattle.mmdb_file.specs.Laws.{LastMarkerIsTheWriters, NumbersStandForPlaces, WrittenFileIsWalked};
+ghost use Rattle.mmdb_file.specs.Laws.{LastMarkerIsTheWriters, NumbersStandForPlaces};
+ghost use Rattle.mmdb_file.specs.Laws.{WrittenFileIsWalked};
 
 use mmdb_tree::tree_reads_back;
 
@@ -10,8 +11,8 @@ pub fn last_marker_is_the_writers()
 {}
 
 /// The law that the walk of a file image gives what the tree answers: whoever follows the public
-/// standard through the bytes comes, along every list of at least one bit on which the tree ends, to
-/// the value of the tree's place, or to none where the tree has none. Calling it does nothing.
+/// standard through the bytes comes, along every list of at least one bit on which the tree ends,
+/// to the value of the tree's place, or to none where the tree has none. Calling it does nothing.
 pub fn written_file_is_walked()
     ensures { WrittenFileIsWalked }
 {

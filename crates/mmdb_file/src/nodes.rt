@@ -1,5 +1,6 @@
 //! The bytes of the search tree.
-ghost use Rattle.std.specs.Prelude.{◌≡◌, ◌*◌, ◌<◌, ◌≤◌, ◌^◌, ℕ, length, slice_index_or, slice_index, ◌+◌, [], ◌∷◌, IfOk, map as map_list};
+ghost use Rattle.std.specs.Prelude.{◌≡◌, ◌*◌, ◌<◌, ◌≤◌, ◌^◌, ℕ, length, slice_index_or};
+ghost use Rattle.std.specs.Prelude.{slice_index, ◌+◌, [], ◌∷◌, IfOk, map as map_list};
 ghost use Rattle.mmdb_tree.specs.Nodes.{tree_bytes, width};
 ghost use Rattle.mmdb_tree.specs.Laws.{NodeFits};
 ghost use Rattle.trie_core.specs.Store.{IsOf};
@@ -16,7 +17,8 @@ use trie_core::{NodeId, Rec, Store};
 pub(crate) fn put_nodes(tree: &mut [u8], bits: Bits, nodes: &[(u32, u32)])
     requires few { length nodes.now < 2 ^ 32 }
     requires room { length nodes.now * width bits ≡ length tree.old }
-    requires fits { (k : ℕ) → k < length nodes.now → NodeFits bits (slice_index_or nodes.now k (0, 0)) }
+    requires fits { (k : ℕ) → k < length nodes.now
+        → NodeFits bits (slice_index_or nodes.now k (0, 0)) }
     ensures { tree.new ≡ tree_bytes bits nodes.now }
 {
     let tree: &mut [u8] = tree;
@@ -25,8 +27,8 @@ pub(crate) fn put_nodes(tree: &mut [u8], bits: Bits, nodes: &[(u32, u32)])
     }
 }
 
-/// The records of the nodes with these ids; where there are none, of one node that leads to the root on
-/// both sides.
+/// The records of the nodes with these ids; where there are none, of one node that leads to the
+/// root on both sides.
 pub(crate) fn nodes_of(
     alloc: Global,
     store: &Store,
@@ -37,7 +39,8 @@ pub(crate) fn nodes_of(
     requires root { IsOf store.now root }
     requires of { AreOf store.now ids.now }
     requires few { length numbers.now.nodes < 2 ^ 32 }
-    requires low { (k : ℕ) → numbers.now.count + 16 + slice_index numbers.now.starts.items k < 2 ^ 32 }
+    requires low { (k : ℕ)
+        → numbers.now.count + 16 + slice_index numbers.now.starts.items k < 2 ^ 32 }
     ensures { IfOk result (λ nodes. nodes.items
         ≡ nodes_from store.now (number_of numbers.now) root ids.now) }
 {
@@ -50,8 +53,10 @@ pub(crate) fn nodes_of(
 
 fn root_node(alloc: Global, root: Rec, numbers: &Numbers) -> Result<Vec<(u32, u32)>, Memory>
     requires few { length numbers.now.nodes < 2 ^ 32 }
-    requires low { (k : ℕ) → numbers.now.count + 16 + slice_index numbers.now.starts.items k < 2 ^ 32 }
-    ensures { IfOk result (λ nodes. nodes.items ≡ (number_of numbers.now root, number_of numbers.now root) ∷ []) }
+    requires low { (k : ℕ)
+        → numbers.now.count + 16 + slice_index numbers.now.starts.items k < 2 ^ 32 }
+    ensures { IfOk result
+        (λ nodes. nodes.items ≡ (number_of numbers.now root, number_of numbers.now root) ∷ []) }
 {
     let record = numbers.record(root);
     let mut nodes = Vec::new(alloc);
@@ -67,8 +72,10 @@ fn inner_nodes(
 ) -> Result<Vec<(u32, u32)>, Memory>
     requires of { AreOf store.now ids.now }
     requires few { length numbers.now.nodes < 2 ^ 32 }
-    requires low { (k : ℕ) → numbers.now.count + 16 + slice_index numbers.now.starts.items k < 2 ^ 32 }
-    ensures { IfOk result (λ nodes. nodes.items ≡ map_list (node_numbers store.now (number_of numbers.now)) ids.now) }
+    requires low { (k : ℕ)
+        → numbers.now.count + 16 + slice_index numbers.now.starts.items k < 2 ^ 32 }
+    ensures { IfOk result
+        (λ nodes. nodes.items ≡ map_list (node_numbers store.now (number_of numbers.now)) ids.now) }
 {
     let mut nodes = Vec::with_capacity(alloc, ids.len())?;
     for id in ids {

@@ -22,8 +22,10 @@ impl Numbers {
     /// The record as it stands in the file.
     pub(crate) fn record(&self, rec: Rec) -> u32
         requires few { length self.now.nodes < 2 ^ 32 }
-        requires low { (k : ℕ) → self.now.count + 16 + slice_index self.now.starts.items k < 2 ^ 32 }
-        ensures { result ≡ record_number self.now.count self.now.nodes self.now.places.keys self.now.starts.items rec }
+        requires low { (k : ℕ)
+            → self.now.count + 16 + slice_index self.now.starts.items k < 2 ^ 32 }
+        ensures { result ≡ record_number self.now.count self.now.nodes self.now.places.keys
+            self.now.starts.items rec }
     {
         match rec {
             Rec::Leaf(number) => self.leaf(number),
@@ -32,8 +34,10 @@ impl Numbers {
     }
 
     fn leaf(&self, number: u32) -> u32
-        requires low { (k : ℕ) → self.now.count + 16 + slice_index self.now.starts.items k < 2 ^ 32 }
-        ensures { result ≡ record_number self.now.count self.now.nodes self.now.places.keys self.now.starts.items (Rec.Leaf number) }
+        requires low { (k : ℕ)
+            → self.now.count + 16 + slice_index self.now.starts.items k < 2 ^ 32 }
+        ensures { result ≡ record_number self.now.count self.now.nodes self.now.places.keys
+            self.now.starts.items (Rec.Leaf number) }
     {
         match self.places.get_index_of(&number) {
             Some(index) => (u64::from(self.count) + GAP + start_at(&self.starts, index)) as u32,
@@ -43,7 +47,8 @@ impl Numbers {
 
     fn node(&self, id: NodeId) -> u32
         requires few { length self.now.nodes < 2 ^ 32 }
-        ensures { result ≡ record_number self.now.count self.now.nodes self.now.places.keys self.now.starts.items (Rec.Node id) }
+        ensures { result ≡ record_number self.now.count self.now.nodes self.now.places.keys
+            self.now.starts.items (Rec.Node id) }
     {
         match self.nodes.index_of(id) {
             Some(index) => index as u32,

@@ -1,16 +1,19 @@
 //! The value that stands for a place in the data section.
 ghost use Rattle.std.specs.Prelude.{◌≡◌, [], ◌∷◌, ◌++◌, IfOk, OnOk, map as map_list, codes};
-ghost use Rattle.mmdb_data.specs.Tree.{CanBeReadBack, text as text_tree, list as list_tree, item, no_items};
+ghost use Rattle.mmdb_data.specs.Tree.{CanBeReadBack, text as text_tree, list as list_tree, item};
+ghost use Rattle.mmdb_data.specs.Tree.{no_items};
 ghost use Rattle.mmdb_data.specs.View.{tree as value_tree, pair_view};
-ghost use Rattle.mmdb_file.specs.PlaceValue.{one, subdivision as subdivision_of, city_member, country_member, postal_member, region_member, subdivision_list, place_value as value_of_place};
+ghost use Rattle.mmdb_file.specs.PlaceValue.{one, subdivision as subdivision_of, city_member};
+ghost use Rattle.mmdb_file.specs.PlaceValue.{country_member, postal_member, region_member};
+ghost use Rattle.mmdb_file.specs.PlaceValue.{subdivision_list, place_value as value_of_place};
 
 use geo_addr::{Memory, Text};
 use geo_terms::Place;
 use mmdb_data::Value;
 use std::alloc::Global;
 
-/// The value of a place: a map of its parts by the names that readers of city files know, empty parts
-/// left out.
+/// The value of a place: a map of its parts by the names that readers of city files know, empty
+/// parts left out.
 pub fn place_value(alloc: Global, place: &Place) -> Result<Value, Memory>
     ensures value { IfOk result (λ value. value_tree value ≡ value_of_place place.now) }
     ensures readable { IfOk result (λ value. CanBeReadBack (value_tree value)) }

@@ -77,7 +77,8 @@ fn with_range<L: Ledger>(
     requires of { IsRootOf store.old root }
     requires low { (a k : ℕ) → a < 2 ^ 128 → leaf_at store.old root a ≡ Some k → k ≤ leaf }
     ensures of { IfOk result (IsRootOf store.new) }
-    ensures low { IfOk result (λ r. (a k : ℕ) → a < 2 ^ 128 → leaf_at store.new r a ≡ Some k → k ≤ leaf) }
+    ensures low { IfOk result
+        (λ r. (a k : ℕ) → a < 2 ^ 128 → leaf_at store.new r a ≡ Some k → k ≤ leaf) }
 {
     store.paint(root, range, leaf, steps)
 }
@@ -91,7 +92,8 @@ fn painted<L: Ledger>(
     steps: &mut Steps<L>,
 ) -> Result<Root, StoreFault>
     ensures of { IfOk result (IsRootOf store.new) }
-    ensures low { IfOk result (λ r. (a k : ℕ) → a < 2 ^ 128 → leaf_at store.new r a ≡ Some k → k ≤ leaf) }
+    ensures low { IfOk result
+        (λ r. (a k : ℕ) → a < 2 ^ 128 → leaf_at store.new r a ≡ Some k → k ≤ leaf) }
 {
     let mut root = store.empty();
     for (first, last) in ranges {
@@ -115,7 +117,8 @@ fn number(alloc: Global, places: &mut Places, country: &[u8]) -> Result<u32, Fai
 /// The file of the root, of the epoch 1700000000 and the type `Geofeed-City`.
 fn written(alloc: Global, store: &Store, root: Root, places: &Places) -> Result<Emitted, Fail>
     requires of { IsRootOf store.now root }
-    requires numbers { (a k : ℕ) → a < 2 ^ 128 → leaf_at store.now root a ≡ Some k → k ≤ length places.now }
+    requires numbers { (a k : ℕ) → a < 2 ^ 128 → leaf_at store.now root a ≡ Some k
+        → k ≤ length places.now }
 {
     let meta = Meta {
         epoch: 1_700_000_000,
@@ -182,8 +185,8 @@ fn put_node(bytes: &mut Vec<u8>, left: u8, right: u8) -> Result<(), Fail> {
     Ok(())
 }
 
-/// What stands after the tree: 16 zero bytes, the place of the country, and the marker and the metadata
-/// of so many nodes.
+/// What stands after the tree: 16 zero bytes, the place of the country, and the marker and the
+/// metadata of so many nodes.
 fn put_rest(bytes: &mut Vec<u8>, country: &[u8], nodes: u8) -> Result<(), Fail> {
     let no_data: &[u8] = NO_DATA;
     bytes.extend_from_slice(&[0; 16])?;
@@ -198,7 +201,8 @@ fn put_rest(bytes: &mut Vec<u8>, country: &[u8], nodes: u8) -> Result<(), Fail> 
 #[test]
 fn bytes_of_files(rt: HostRuntime) -> Result<(), Fail> {
     let alloc = rt.alloc();
-    // 128.0.0.0/1: a node for each of the first 96 bits, which are 0, and for the last one, which is 1
+    // 128.0.0.0/1: a node for each of the first 96 bits, which are 0, and for the last one,
+    // which is 1
     let half = [(0x8000_0000, 0xffff_ffff)];
     let file = file_of::<Brand>(&rt, alloc, b"DE", &half, Blank::new(1))?;
     let mut wanted = Vec::new(alloc);

@@ -1,5 +1,7 @@
 //! Writing a file.
-ghost use Rattle.std.specs.Prelude.{◌≡◌, ◌+◌, ◌*◌, ◌^◌, ◌<◌, ◌≤◌, ◌++◌, ℕ, length, max, IfOk, OnOk, IfSome, slice_index_or, slice_index, [], nat_eq, List, option_map, Option, Some, None, Ok, Err};
+ghost use Rattle.std.specs.Prelude.{◌≡◌, ◌+◌, ◌*◌, ◌^◌, ◌<◌, ◌≤◌, ◌++◌, ℕ, length, max, IfOk, OnOk};
+ghost use Rattle.std.specs.Prelude.{IfSome, slice_index_or, slice_index, [], nat_eq, List};
+ghost use Rattle.std.specs.Prelude.{option_map, Option, Some, None, Ok, Err};
 ghost use Rattle.std.specs.Str.{IsUtf8};
 ghost use Rattle.geo_addr.specs.Bits.{bits_of};
 ghost use Rattle.mmdb_file.specs.PlaceValue.{place_value};
@@ -9,11 +11,13 @@ ghost use Rattle.trie_core.specs.Tree.{tree};
 ghost use Rattle.trie_core.specs.Store.{IsOf, IsRootOf, leaf_at, tree_of};
 ghost use Rattle.geo_terms.specs.PlaceForm.{PlaceParts};
 ghost use Rattle.least_nodes.specs.Order.{AreOf};
-ghost use Rattle.mmdb_file.specs.Writing.{nodes_from, number_of, place_tree, count_for, section_for, end_for, AnswersPlaces, FindsPlaces};
+ghost use Rattle.mmdb_file.specs.Writing.{nodes_from, number_of, place_tree, count_for};
+ghost use Rattle.mmdb_file.specs.Writing.{section_for, end_for, AnswersPlaces, FindsPlaces};
 ghost use Rattle.least_nodes.specs.NodeList.{Member};
 ghost use Rattle.mmdb_tree.specs.Laws.{NodeFits};
 ghost use Rattle.mmdb_tree.specs.Nodes.{limit, smallest, record_size, tree_bytes};
-ghost use Rattle.mmdb_file.specs.FileImage.{file, file_of, file_with, file_nodes, file_section, file_end, same_answer};
+ghost use Rattle.mmdb_file.specs.FileImage.{file, file_of, file_with, file_nodes, file_section};
+ghost use Rattle.mmdb_file.specs.FileImage.{file_end, same_answer};
 ghost use Rattle.mmdb_file.specs.declared.fault.FileFault.TheVariants as faults;
 
 use crate::data::{Data, data_of};
@@ -42,11 +46,11 @@ pub struct Emitted {
     pub bits: u8,
 }
 
-/// The file of the tree that the root means, whose leaf 0 is no data and whose leaf k is the place of
-/// number k.
+/// The file of the tree that the root means, whose leaf 0 is no data and whose leaf k is the place
+/// of number k.
 ///
-/// Each node and each place stands once, in the order of a walk that takes a node before its children
-/// and the left child before the right one.
+/// Each node and each place stands once, in the order of a walk that takes a node before its
+/// children and the left child before the right one.
 pub fn write_file(
     alloc: Global,
     store: &Store,
@@ -55,19 +59,25 @@ pub fn write_file(
     meta: &Meta,
 ) -> Result<Emitted, FileFault>
     requires root { IsRootOf store.now root }
-    requires numbers { (address k : ℕ) → address < 2 ^ 128 → leaf_at store.now root address ≡ Some k → k ≤ length places.now }
+    requires numbers { (address k : ℕ) → address < 2 ^ 128 → leaf_at store.now root address ≡ Some k
+        → k ≤ length places.now }
     requires name { length meta.now.name ≤ 64 }
 
     // What is written is decided by the places of the addresses, whatever their numbers are.
-    ensures places { (answer : ℕ → Option PlaceParts) → AnswersPlaces places.now store.now root answer
+    ensures places { (answer : ℕ → Option PlaceParts)
+        → AnswersPlaces places.now store.now root answer
         → place_tree places.now store.now root ≡ tree same_answer answer 128 0 }
     ensures bytes { IfOk result (λ written. file (place_tree places.now store.now root)
         meta.now.epoch meta.now.name ≡ Some written.bytes.items) }
 
-    // Whoever follows the public standard through the bytes comes to the value of the address's place.
-    ensures walked { IfOk result (λ written. (address k : ℕ) → leaf_at store.now root address ≡ Some k
-        → walk written.bytes.items (bits_of 128 address) ≡ Ok (option_map place_value (place_at places.now k))) }
-    ensures nodes { IfOk result (λ written. written.nodes ≡ file_nodes (place_tree places.now store.now root)) }
+    // Whoever follows the public standard through the bytes comes to
+    // the value of the address's place.
+    ensures walked { IfOk result
+        (λ written. (address k : ℕ) → leaf_at store.now root address ≡ Some k
+        → walk written.bytes.items (bits_of 128 address)
+        ≡ Ok (option_map place_value (place_at places.now k))) }
+    ensures nodes { IfOk result
+        (λ written. written.nodes ≡ file_nodes (place_tree places.now store.now root)) }
 
     // The count is the one that whoever opens the bytes reads in them.
     ensures told { IfOk result (λ written. nodes_told written.bytes.items ≡ Some written.nodes) }
@@ -77,7 +87,8 @@ pub fn write_file(
         (λ written. (nodes : List (Member (Option PlaceParts) × Member (Option PlaceParts)))
         → FindsPlaces places.now store.now root nodes → written.nodes ≤ length nodes) }
     ensures section { IfOk result
-        (λ written. written.section ≡ length (file_section (place_tree places.now store.now root))) }
+        (λ written. written.section
+        ≡ length (file_section (place_tree places.now store.now root))) }
     ensures bits { IfOk result (λ written. option_map record_size
         (smallest (file_end (place_tree places.now store.now root))) ≡ Some written.bits) }
     ensures too_large { result ≡ Err faults.TooLarge
@@ -106,21 +117,28 @@ pub fn write_file(
     })
 }
 
-/// The law that the tree that a root means, with its leaves as the places that they number, is the tree of
-/// those places, and that the file of the numbers and its counts are those of the places. Calling it does
-/// nothing.
+/// The law that the tree that a root means, with its leaves as the places that they number, is the
+/// tree of those places, and that the file of the numbers and its counts are those of the places.
+/// Calling it does nothing.
 pub fn numbers_to_places(store: &Store, root: Root, places: &Places)
     requires root { IsRootOf store.now root }
-    requires numbers { (address k : ℕ) → address < 2 ^ 128 → leaf_at store.now root address ≡ Some k → k ≤ length places.now }
-    ensures places { (answer : ℕ → Option PlaceParts) → AnswersPlaces places.now store.now root answer
+    requires numbers { (address k : ℕ) → address < 2 ^ 128 → leaf_at store.now root address ≡ Some k
+        → k ≤ length places.now }
+    ensures places { (answer : ℕ → Option PlaceParts)
+        → AnswersPlaces places.now store.now root answer
         → place_tree places.now store.now root ≡ tree same_answer answer 128 0 }
     ensures bytes { (epoch : ℕ) (name : List ℕ)
-        → file_with nat_eq (place_at places.now) (tree_of store.now root) epoch name ≡ file (place_tree places.now store.now root) epoch name }
-    ensures nodes { file_nodes (place_tree places.now store.now root) ≡ count_for (tree_of store.now root) }
+        → file_with nat_eq (place_at places.now) (tree_of store.now root) epoch name
+        ≡ file (place_tree places.now store.now root) epoch name }
+    ensures nodes { file_nodes (place_tree places.now store.now root)
+        ≡ count_for (tree_of store.now root) }
     ensures fewest { (nodes : List (Member (Option PlaceParts) × Member (Option PlaceParts)))
-        → FindsPlaces places.now store.now root nodes → count_for (tree_of store.now root) ≤ length nodes }
-    ensures section { file_section (place_tree places.now store.now root) ≡ section_for places.now (tree_of store.now root) }
-    ensures end { file_end (place_tree places.now store.now root) ≡ end_for places.now (tree_of store.now root) }
+        → FindsPlaces places.now store.now root nodes
+        → count_for (tree_of store.now root) ≤ length nodes }
+    ensures section { file_section (place_tree places.now store.now root)
+        ≡ section_for places.now (tree_of store.now root) }
+    ensures end { file_end (place_tree places.now store.now root)
+        ≡ end_for places.now (tree_of store.now root) }
 {
     let _ = store.rec_of(root);
     let _ = places.len();
@@ -155,12 +173,15 @@ fn written(
     requires name { length meta.now.name ≤ 64 }
     requires ids { length ids.now ≤ numbers.now.count }
     requires keys { length numbers.now.nodes ≤ numbers.now.count }
-    requires low { (k : ℕ) → numbers.now.count + 16 + slice_index numbers.now.starts.items k < limit bits }
+    requires low { (k : ℕ)
+        → numbers.now.count + 16 + slice_index numbers.now.starts.items k < limit bits }
     ensures bytes { IfOk result (λ bytes. bytes.items ≡ file_of bits
-        (nodes_from store.now (number_of numbers.now) root ids.now) section.now meta.now.epoch meta.now.name) }
+        (nodes_from store.now (number_of numbers.now) root ids.now) section.now meta.now.epoch
+        meta.now.name) }
     ensures typed { IfOk result (λ _. (meta.now.epoch < 2 ^ 64) × IsUtf8 meta.now.name) }
     ensures fits { (k : ℕ) → k < length (nodes_from store.now (number_of numbers.now) root ids.now)
-        → NodeFits bits (slice_index_or (nodes_from store.now (number_of numbers.now) root ids.now) k (0, 0)) }
+        → NodeFits bits
+        (slice_index_or (nodes_from store.now (number_of numbers.now) root ids.now) k (0, 0)) }
 {
     let nodes = nodes_of(alloc, store, root, ids, numbers)?;
     file_bytes(alloc, bits, nodes.as_slice(), section, meta)
@@ -185,7 +206,8 @@ fn file_bytes(
     meta: &Meta,
 ) -> Result<Vec<u8>, Memory>
     requires few { length nodes.now < 2 ^ 32 }
-    requires fits { (k : ℕ) → k < length nodes.now → NodeFits bits (slice_index_or nodes.now k (0, 0)) }
+    requires fits { (k : ℕ) → k < length nodes.now
+        → NodeFits bits (slice_index_or nodes.now k (0, 0)) }
     requires name { length meta.now.name ≤ 64 }
     ensures bytes { IfOk result
         (λ bytes. bytes.items ≡ file_of bits nodes.now section.now meta.now.epoch meta.now.name) }
@@ -202,7 +224,8 @@ fn file_bytes(
 
 fn tree_of_nodes(alloc: Global, bits: Bits, nodes: &[(u32, u32)]) -> Result<Vec<u8>, Memory>
     requires few { length nodes.now < 2 ^ 32 }
-    requires fits { (k : ℕ) → k < length nodes.now → NodeFits bits (slice_index_or nodes.now k (0, 0)) }
+    requires fits { (k : ℕ) → k < length nodes.now
+        → NodeFits bits (slice_index_or nodes.now k (0, 0)) }
     ensures { IfOk result (λ tree. tree.items ≡ tree_bytes bits nodes.now) }
 {
     let mut tree = vec![in alloc; 0; nodes.len() * bits.width()]?;

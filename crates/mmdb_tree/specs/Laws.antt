@@ -1,5 +1,6 @@
 -- What is read of nodes that were written.
-use Rattle.std.specs.Prelude.{◌≡◌, ◌<◌, ℕ, Bool, true, false, cond, List, ◌++◌, length, slice_index_or}
+use Rattle.std.specs.Prelude.{◌≡◌, ◌<◌, ℕ, Bool, true, false, cond, List, ◌++◌, length}
+use Rattle.std.specs.Prelude.{slice_index_or}
 use Rattle.mmdb_tree.specs.declared.bits.Bits.{Bits}
 use Rattle.mmdb_tree.specs.Nodes.{limit, node_bytes, record_in, record_at, tree_bytes}
 
@@ -15,10 +16,13 @@ record_of right node = cond right node.1 node.0
 abbrev pub NodeReadsBack : Type 0
 NodeReadsBack =
     (bits : Bits) (left right : ℕ) (after : List ℕ) → left < limit bits → right < limit bits
-    → (record_in bits (node_bytes bits left right ++ after) false ≡ left) × (record_in bits (node_bytes bits left right ++ after) true ≡ right)
+    → (record_in bits (node_bytes bits left right ++ after) false ≡ left)
+    × (record_in bits (node_bytes bits left right ++ after) true ≡ right)
 
 -- each node of a tree that was written is read back, whatever follows the tree
 abbrev pub TreeReadsBack : Type 0
 TreeReadsBack =
-    (bits : Bits) (nodes : List (ℕ × ℕ)) (after : List ℕ) → ((k : ℕ) → k < length nodes → NodeFits bits (slice_index_or nodes k (0, 0)))
-    → (n : ℕ) → n < length nodes → (right : Bool) → record_at bits (tree_bytes bits nodes ++ after) n right ≡ record_of right (slice_index_or nodes n (0, 0))
+    (bits : Bits) (nodes : List (ℕ × ℕ)) (after : List ℕ)
+    → ((k : ℕ) → k < length nodes → NodeFits bits (slice_index_or nodes k (0, 0)))
+    → (n : ℕ) → n < length nodes → (right : Bool) → record_at bits
+    (tree_bytes bits nodes ++ after) n right ≡ record_of right (slice_index_or nodes n (0, 0))

@@ -1,5 +1,7 @@
 -- Nodes of the search tree as bytes (MaxMind DB 2.0, "Binary Search Tree Section").
-use Rattle.std.specs.Prelude.{◌≤◌, ◌<◌, ℕ, ◌+◌, ◌*◌, ◌/◌, ◌%◌, ◌^◌, Bool, true, false, List, [], ◌∷◌, ◌++◌, slice_index, drop, Option, Some, None, nat_lt, if◌then◌else◌}
+use Rattle.std.specs.Prelude.{◌≤◌, ◌<◌, ℕ, ◌+◌, ◌*◌, ◌/◌, ◌%◌, ◌^◌, Bool, true, false, List, []}
+use Rattle.std.specs.Prelude.{◌∷◌, ◌++◌, slice_index, drop, Option, Some, None, nat_lt}
+use Rattle.std.specs.Prelude.{if◌then◌else◌}
 use Rattle.std.specs.Int.{bytes_high_first}
 use Rattle.byteorder.specs.Endian.{big_from}
 use Rattle.mmdb_tree.specs.declared.bits.Bits.{Bits}
@@ -23,7 +25,8 @@ limit B24 = 2 ^ 24
 limit B28 = 2 ^ 28
 limit B32 = 2 ^ 32
 
--- a node with the records `left` and `right`; in 28-bit nodes the fourth byte has the top four bits of `left` in its high half and those of `right` in its low half
+-- a node with the records `left` and `right`; in 28-bit nodes the fourth byte has the top four bits
+-- of `left` in its high half and those of `right` in its low half
 abbrev pub node_bytes : Bits → ℕ → ℕ → List ℕ
 node_bytes B24 left right = bytes_high_first 3 left ++ bytes_high_first 3 right
 node_bytes B28 left right =
@@ -50,4 +53,6 @@ tree_bytes bits (node ∷ nodes) = node_bytes bits node.0 node.1 ++ tree_bytes b
 
 -- the smallest size whose records hold the number, or none where no size does
 abbrev pub smallest : ℕ → Option Bits
-smallest n = if nat_lt n (limit B24) then Some B24 else if nat_lt n (limit B28) then Some B28 else if nat_lt n (limit B32) then Some B32 else None
+smallest n =
+    if nat_lt n (limit B24) then Some B24 else if nat_lt n (limit B28) then Some B28
+    else if nat_lt n (limit B32) then Some B32 else None

@@ -1,5 +1,6 @@
 -- The fields of a line of a statistics file (NRO extended allocation and assignment report).
-use Rattle.std.specs.Prelude.{◌≡◌, ℕ, Bool, false, not, ◌&&◌, ◌||◌, ◌==◌, List, [], ◌∷◌, map, codes, Option}
+use Rattle.std.specs.Prelude.{◌≡◌, ℕ, Bool, false, not, ◌&&◌, ◌||◌, ◌==◌, List, [], ◌∷◌, map, codes}
+use Rattle.std.specs.Prelude.{Option}
 use Rattle.std.specs.Char.{is_ascii_digit}
 use Rattle.std.specs.List.{list_all}
 use Rattle.geo_addr.specs.Lines.{pieces, pieces_after, trimmed}
@@ -27,7 +28,8 @@ is_skipped line = is_empty (trimmed line) || is_comment line
 abbrev pub is_version : List ℕ → Bool
 is_version [] = false
 is_version (two ∷ []) = two == 50
-is_version (two ∷ dot ∷ digits) = two == 50 && dot == 46 && not (is_empty digits) && list_all is_ascii_digit digits
+is_version (two ∷ dot ∷ digits) =
+    two == 50 && dot == 46 && not (is_empty digits) && list_all is_ascii_digit digits
 
 -- a version line has a version as its first field
 abbrev pub is_version_line : List (List ℕ) → Bool
@@ -36,13 +38,16 @@ is_version_line (first ∷ more) = is_version first
 
 -- a summary line has `*` as its second field and `summary` as its sixth
 abbrev pub is_summary_line : List (List ℕ) → Bool
-is_summary_line (a ∷ star ∷ c ∷ d ∷ e ∷ word ∷ more) = same_text star (codes "*") && same_text word (codes "summary")
+is_summary_line (a ∷ star ∷ c ∷ d ∷ e ∷ word ∷ more) =
+    same_text star (codes "*") && same_text word (codes "summary")
 is_summary_line _ = false
 
--- these are the fields of a record: registry, country, type, start, value, date, status, and any more
+-- these are the fields of a record: registry, country, type, start, value, date, status,
+-- and any more
 abbrev pub IsRecord : List (List ℕ) → Record → Type 0
 IsRecord (registry ∷ country ∷ kind ∷ start ∷ value ∷ date ∷ status ∷ more) r =
-    (r.registry.now ≡ registry) × (r.country.now ≡ country) × (r.kind.now ≡ kind) × (r.start.now ≡ start)
+    (r.registry.now ≡ registry) × (r.country.now ≡ country) × (r.kind.now ≡ kind)
+    × (r.start.now ≡ start)
     × (r.value.now ≡ value) × (r.date.now ≡ date) × (r.status.now ≡ status)
 IsRecord _ r = ⊥
 

@@ -11,7 +11,8 @@ use Rattle.nro_stats.specs.Verdicts.{verdict}
 
 -- the delegation that a line makes
 abbrev pub row_by : List ℕ → ℕ → Verdict → Option DelegationParts
-row_by slot line (Delegated range place) = Some (record { slot = slot; line = line; range = range; place = place })
+row_by slot line (Delegated range place) =
+    Some (record { slot = slot; line = line; range = range; place = place })
 row_by slot line (Broken rule) = None
 row_by slot line Silent = None
 

@@ -1,5 +1,6 @@
 -- What a line of a statistics file says (NRO extended allocation and assignment report).
-use Rattle.std.specs.Prelude.{ℕ, ◌+◌, ◌-◌, ◌%◌, ◌^◌, Bool, not, ◌&&◌, ◌||◌, ◌==◌, nat_le, nat_lt, List, ◌∷◌, codes, Option, None, Some, Result, Ok, Err, if◌then◌else◌}
+use Rattle.std.specs.Prelude.{ℕ, ◌+◌, ◌-◌, ◌%◌, ◌^◌, Bool, not, ◌&&◌, ◌||◌, ◌==◌, nat_le, nat_lt}
+use Rattle.std.specs.Prelude.{List, ◌∷◌, codes, Option, None, Some, Result, Ok, Err, if◌then◌else◌}
 use Rattle.geo_addr.specs.AddressTexts.{address_in, is_six}
 use Rattle.geo_addr.specs.Decimals.{decimal}
 use Rattle.geo_addr.specs.Ranges.{Ends, Prefix, range_of_block, is_v4}
@@ -15,15 +16,20 @@ use Rattle.nro_stats.specs.Fields.{fields, is_skipped, is_version_line, is_summa
 
 -- the types of resources
 abbrev pub is_kind : List ℕ → Bool
-is_kind kind = same_text kind (codes "asn") || same_text kind (codes "ipv4") || same_text kind (codes "ipv6")
+is_kind kind =
+    same_text kind (codes "asn") || same_text kind (codes "ipv4") || same_text kind (codes "ipv6")
 
 -- the statuses of a resource
 abbrev pub is_status : List ℕ → Bool
-is_status status = same_text status (codes "allocated") || same_text status (codes "assigned") || same_text status (codes "available") || same_text status (codes "reserved")
+is_status status =
+    same_text status (codes "allocated") || same_text status (codes "assigned")
+    || same_text status (codes "available") || same_text status (codes "reserved")
 
 -- numbers of systems say nothing, and neither does what is not held by anybody
 abbrev pub is_silent : (kind status : List ℕ) → Bool
-is_silent kind status = same_text kind (codes "asn") || same_text status (codes "available") || same_text status (codes "reserved")
+is_silent kind status =
+    same_text kind (codes "asn") || same_text status (codes "available")
+    || same_text status (codes "reserved")
 
 abbrev pub number_in : Result Addr AddrFault → Option ℕ
 number_in (Ok at) = Some at.0
@@ -41,7 +47,8 @@ abbrev pub v4_counted : ℕ → Option ℕ → Result Ends Rule
 v4_counted first None = Err S07
 v4_counted first (Some count) =
     if count == 0 then Err S07
-    else (if nat_lt (2 ^ 32) (first + count) then Err S05 else Ok (record { first = first; last = first + count - 1 }))
+    else (if nat_lt (2 ^ 32) (first + count) then Err S05
+    else Ok (record { first = first; last = first + count - 1 }))
 
 abbrev pub v4_from : Option ℕ → List ℕ → Result Ends Rule
 v4_from None value = Err S04
@@ -52,13 +59,15 @@ v4_range start value = v4_from (v4_start start) value
 
 -- whether an IPv6 start and a prefix length make a block that is not inside `::/96`
 abbrev pub makes_block : Prefix → Bool
-makes_block b = nat_le b.len 128 && (b.first % 2 ^ (128 - b.len)) == 0 && not (is_v4 (range_of_block b))
+makes_block b =
+    nat_le b.len 128 && (b.first % 2 ^ (128 - b.len)) == 0 && not (is_v4 (range_of_block b))
 
 -- from an IPv6 start, a prefix of the length that the value is: one to three digits
 abbrev pub v6_prefixed : ℕ → Option ℕ → Result Ends Rule
 v6_prefixed first None = Err S07
 v6_prefixed first (Some len) =
-    if makes_block (record { first = first; len = len }) then Ok (range_of_block (record { first = first; len = len })) else Err S07
+    if makes_block (record { first = first; len = len })
+    then Ok (range_of_block (record { first = first; len = len })) else Err S07
 
 abbrev pub v6_from : Option ℕ → List ℕ → Result Ends Rule
 v6_from None value = Err S04
@@ -69,7 +78,8 @@ v6_range start value = v6_from (v6_start start) value
 
 -- the addresses of a record
 abbrev pub range_in : (kind start value : List ℕ) → Result Ends Rule
-range_in kind start value = if same_text kind (codes "ipv4") then v4_range start value else v6_range start value
+range_in kind start value =
+    if same_text kind (codes "ipv4") then v4_range start value else v6_range start value
 
 -- a delegation of a range to what a country names; it is out of form where that is none
 abbrev pub placed_at : Ends → Option PlaceParts → Verdict
@@ -92,7 +102,8 @@ judged country kind start value status =
     else placed_in (range_in kind start value) country))
 
 abbrev pub record_verdict : List (List ℕ) → Verdict
-record_verdict (registry ∷ country ∷ kind ∷ start ∷ value ∷ date ∷ status ∷ more) = judged country kind start value status
+record_verdict (registry ∷ country ∷ kind ∷ start ∷ value ∷ date ∷ status ∷ more) =
+    judged country kind start value status
 record_verdict _ = Broken S01
 
 -- what the fields of a line say: version and summary lines are passed over

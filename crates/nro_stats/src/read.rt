@@ -1,5 +1,6 @@
 //! A statistics file.
-ghost use Rattle.std.specs.Prelude.{◌≡◌, ◌≢◌, ◌<◌, ◌≤◌, ◌↔◌, ◌++◌, length, IfOk, IsSome, OnOk, option_to_list};
+ghost use Rattle.std.specs.Prelude.{◌≡◌, ◌≢◌, ◌<◌, ◌≤◌, ◌↔◌, ◌++◌, length, IfOk, IsSome, OnOk};
+ghost use Rattle.std.specs.Prelude.{option_to_list};
 ghost use Rattle.nro_stats.specs.File.{longest, most, note_of, notes, row_of, rows, stats};
 
 use crate::verdict::{Verdict, read_line};
@@ -13,8 +14,8 @@ const LONGEST: usize = 268_435_456;
 /// The most delegations of a file.
 const MOST: usize = 2_097_152;
 
-/// For each so many bytes of a file room for one row is taken ahead; few files have shorter lines on the
-/// average.
+/// For each so many bytes of a file room for one row is taken ahead; few files have shorter lines
+/// on the average.
 const SHORT_LINE: usize = 40;
 
 /// Reads a statistics file: the delegations and the notes of its lines.
@@ -68,10 +69,14 @@ fn read_lines(alloc: Global, slot: &Text, bytes: &[u8]) -> Result<Found, SourceF
 // Adds what one more line says.
 fn take_line(slot: &Text, line: Line, found: &mut Found) -> Result<(), SourceFault>
     requires { length found.old.rows.items ≤ most }
-    ensures rows { OnOk result (found.new.rows.items ≡ found.old.rows.items ++ option_to_list (row_of slot.now (line.entry.number, line.entry.text.now))) }
-    ensures notes { OnOk result (found.new.notes.items ≡ found.old.notes.items ++ option_to_list (note_of slot.now (line.entry.number, line.entry.text.now))) }
+    ensures rows { OnOk result (found.new.rows.items ≡ found.old.rows.items
+        ++ option_to_list (row_of slot.now (line.entry.number, line.entry.text.now))) }
+    ensures notes { OnOk result (found.new.notes.items ≡ found.old.notes.items
+        ++ option_to_list (note_of slot.now (line.entry.number, line.entry.text.now))) }
     ensures within { OnOk result (length found.new.rows.items ≤ most) }
-    ensures too_many { result ≡ Err SourceFault.TooMany → IsSome (row_of slot.now (line.entry.number, line.entry.text.now)) × (length found.old.rows.items ≡ most) }
+    ensures too_many { result ≡ Err SourceFault.TooMany
+        → IsSome (row_of slot.now (line.entry.number, line.entry.text.now))
+        × (length found.old.rows.items ≡ most) }
     ensures too_long { result ≢ Err SourceFault.TooLong }
 {
     match read_line(&mut found.texts, line.text)? {

@@ -2,7 +2,8 @@
 ghost use Rattle.std.specs.Prelude.{◌≡◌, ◌∷◌, ◌&&◌, ◌||◌, [], false, codes, MatchOption};
 ghost use Rattle.std.specs.Option.{option_copied};
 ghost use Rattle.geo_terms.specs.PlaceForm.{same_text};
-ghost use Rattle.nro_stats.specs.Fields.{IsRecord, IsShort, fields, fields_after, is_comment, is_skipped, is_summary_line, is_version, is_version_line};
+ghost use Rattle.nro_stats.specs.Fields.{IsRecord, IsShort, fields, fields_after, is_comment};
+ghost use Rattle.nro_stats.specs.Fields.{is_skipped, is_summary_line, is_version, is_version_line};
 
 use geo_addr::{are_digits, cut_at, trim_blanks};
 
@@ -21,7 +22,8 @@ pub(crate) struct Record<'a> {
 impl<'a> Record<'a> {
     /// The record that a line is, or `None` where it has fewer than seven fields.
     pub fn of(line: &'a [u8]) -> Option<Record<'a>>
-        ensures { MatchOption result (IsShort (fields line.now)) (λ found. IsRecord (fields line.now) found) }
+        ensures { MatchOption result (IsShort (fields line.now))
+            (λ found. IsRecord (fields line.now) found) }
     {
         let mut rest = Some(line);
         let registry = take_field(&mut rest)?;
@@ -45,7 +47,8 @@ impl<'a> Record<'a> {
 
 /// Whether these are the fields of a version line or of a summary line.
 pub(crate) fn is_heading(found: &Record) -> bool
-    ensures { result ≡ (is_version found.now.registry.now || (same_text found.now.country.now (codes "*") && same_text found.now.date.now (codes "summary"))) }
+    ensures { result ≡ (is_version found.now.registry.now || (same_text found.now.country.now
+        (codes "*") && same_text found.now.date.now (codes "summary"))) }
 {
     let is_summary = found.country == b"*".as_slice() && found.date == b"summary".as_slice();
     is_version(found.registry) || is_summary
@@ -53,7 +56,8 @@ pub(crate) fn is_heading(found: &Record) -> bool
 
 // Takes the field before the first bar, if any text is left.
 fn take_field<'a>(rest: &mut Option<&'a [u8]>) -> Option<&'a [u8]>
-    ensures { MatchOption result (fields_after (option_copied rest.old) ≡ []) (λ field. fields_after (option_copied rest.old) ≡ field.now ∷ fields_after (option_copied rest.new)) }
+    ensures { MatchOption result (fields_after (option_copied rest.old) ≡ []) (λ field.
+        fields_after (option_copied rest.old) ≡ field.now ∷ fields_after (option_copied rest.new)) }
 {
     let text = (*rest)?;
     let (piece, after) = cut_at(text, b'|');
@@ -77,8 +81,8 @@ fn is_comment(line: &[u8]) -> bool
     }
 }
 
-/// Whether a line is a version line, which has a version as its first field, or a summary line, which has `*`
-/// as its second field and `summary` as its sixth.
+/// Whether a line is a version line, which has a version as its first field, or a summary line,
+/// which has `*` as its second field and `summary` as its sixth.
 pub(crate) fn is_heading_line(line: &[u8]) -> bool
     ensures { result ≡ (is_version_line (fields line.now) || is_summary_line (fields line.now)) }
 {
@@ -117,7 +121,9 @@ fn is_summary_line(line: &[u8]) -> bool
 
 // The second and the sixth field.
 fn star_and_word(line: &[u8]) -> Option<(&[u8], &[u8])>
-    ensures { MatchOption result (is_summary_line (fields line.now) ≡ false) (λ found. is_summary_line (fields line.now) ≡ (same_text found.0.now (codes "*") && same_text found.1.now (codes "summary"))) }
+    ensures { MatchOption result
+        (is_summary_line (fields line.now) ≡ false) (λ found. is_summary_line (fields line.now)
+        ≡ (same_text found.0.now (codes "*") && same_text found.1.now (codes "summary"))) }
 {
     let mut rest = Some(line);
     let _registry = take_field(&mut rest)?;

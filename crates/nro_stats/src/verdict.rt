@@ -2,7 +2,9 @@
 ghost use Rattle.std.specs.Prelude.{◌≡◌, IfOk};
 ghost use Rattle.geo_addr.specs.AddressTexts.{is_six};
 ghost use Rattle.nro_stats.specs.Fields.{fields};
-ghost use Rattle.nro_stats.specs.Verdicts.{PlacesCountryAlone, is_kind, is_silent, is_status, judged, placed, range_in, v4_range, v4_start, v6_range, v6_start, verdict};
+ghost use Rattle.nro_stats.specs.Verdicts.{PlacesCountryAlone, is_kind, is_silent, is_status};
+ghost use Rattle.nro_stats.specs.Verdicts.{judged, placed, range_in, v4_range, v4_start, v6_range};
+ghost use Rattle.nro_stats.specs.Verdicts.{v6_start, verdict};
 
 use crate::record::{Record, is_heading, is_heading_line, is_skipped};
 use geo_addr::{Block, Memory, Range, decimal, is_aligned, is_six, parse_addr, range_of};
@@ -36,7 +38,8 @@ pub(crate) fn read_line(texts: &mut Texts, line: &[u8]) -> Result<Verdict, Memor
 // What a record says: the first rule that holds of it, else nothing, else a delegation.
 #[tactic(auto, unfolding(crate::specs::Verdicts::judged))]
 fn judged(texts: &mut Texts, found: &Record) -> Result<Verdict, Memory>
-    ensures verdict { IfOk result (λ said. said ≡ judged found.now.country.now found.now.kind.now found.now.start.now found.now.value.now found.now.status.now) }
+    ensures verdict { IfOk result (λ said. said ≡ judged found.now.country.now found.now.kind.now
+        found.now.start.now found.now.value.now found.now.status.now) }
     ensures alone { IfOk result PlacesCountryAlone }
 {
     if !is_kind(found.kind) {

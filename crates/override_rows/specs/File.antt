@@ -59,10 +59,13 @@ repeat_rules = record { repeats = O07; differs = O08 }
 abbrev pub fault_among : List Override → ℕ → Verdict → Option Fault
 fault_among all line Silent = None
 fault_among all line (Broken rule) = Some (record { line = line; rule = rule })
-fault_among all line (Accepted range said) = fault_by repeat_rules line (fate row_line row_range row_said all (record { line = line; range = range; said = said }))
+fault_among all line (Accepted range said) =
+    fault_by repeat_rules line
+    (fate row_line row_range row_said all (record { line = line; range = range; said = said }))
 
 abbrev pub faults : List ℕ → List Fault
-faults file = filter_map (λ line. fault_among (accepted file) line.0 (verdict line.1)) (numbered_lines file)
+faults file =
+    filter_map (λ line. fault_among (accepted file) line.0 (verdict line.1)) (numbered_lines file)
 
 abbrev pub note_of : Fault → Note
 note_of fault = record { origin = Overrides; line = fault.line; rule = fault.rule }

@@ -1,7 +1,9 @@
 //! A file of overrides.
-ghost use Rattle.std.specs.Prelude.{◌≡◌, ◌≢◌, ◌<◌, ◌≤◌, ◌↔◌, ◌++◌, ℕ, List, Some, length, map, IfOk, IsSome, OnOk, option_to_list};
+ghost use Rattle.std.specs.Prelude.{◌≡◌, ◌≢◌, ◌<◌, ◌≤◌, ◌↔◌, ◌++◌, ℕ, List, Some, length, map};
+ghost use Rattle.std.specs.Prelude.{IfOk, IsSome, OnOk, option_to_list};
 ghost use Rattle.csv_lines.specs.Rests.{CanRead, Stands, handed};
-ghost use Rattle.override_rows.specs.File.{AreClean, accepted, refused, row_of_line, fault_of, longest, most, note_of, overrides};
+ghost use Rattle.override_rows.specs.File.{AreClean, accepted, refused, row_of_line, fault_of};
+ghost use Rattle.override_rows.specs.File.{longest, most, note_of, overrides};
 
 use crate::verdict::{Verdict, read_line};
 use csv::{ByteRecord, Reader};
@@ -78,11 +80,17 @@ fn read_lines(alloc: Global, bytes: &[u8]) -> Result<Found, SourceFault>
 fn take_line(line: Line, reader: &mut Reader<&[u8]>, found: &mut Found) -> Result<(), SourceFault>
     requires few { length found.old.rows.items ≤ most }
     requires reads { CanRead (λ s. Some s.now) reader.old line.text.now }
-    ensures rows { OnOk result (found.new.rows.items ≡ found.old.rows.items ++ option_to_list (row_of_line (line.entry.number, line.entry.text.now))) }
-    ensures faults { OnOk result (found.new.faults.items ≡ found.old.faults.items ++ option_to_list (fault_of (line.entry.number, line.entry.text.now))) }
+    ensures rows { OnOk result (found.new.rows.items ≡ found.old.rows.items
+        ++ option_to_list (row_of_line (line.entry.number, line.entry.text.now))) }
+    ensures faults { OnOk result (found.new.faults.items ≡ found.old.faults.items
+        ++ option_to_list (fault_of (line.entry.number, line.entry.text.now))) }
     ensures within { OnOk result (length found.new.rows.items ≤ most) }
-    ensures stands { (left : List ℕ) → Stands (λ s. Some s.now) reader.old (handed line.entry.text.now ++ left) → OnOk result (Stands (λ s. Some s.now) reader.new left) }
-    ensures too_many { result ≡ Err SourceFault.TooMany → IsSome (row_of_line (line.entry.number, line.entry.text.now)) × (length found.old.rows.items ≡ most) }
+    ensures stands { (left : List ℕ)
+        → Stands (λ s. Some s.now) reader.old (handed line.entry.text.now ++ left)
+        → OnOk result (Stands (λ s. Some s.now) reader.new left) }
+    ensures too_many { result ≡ Err SourceFault.TooMany
+        → IsSome (row_of_line (line.entry.number, line.entry.text.now))
+        × (length found.old.rows.items ≡ most) }
     ensures too_long { result ≢ Err SourceFault.TooLong }
 {
     match read_line(reader, line.text, &mut found.row, &mut found.texts)? {

@@ -4,7 +4,8 @@ use geo_terms::{Said, note_text};
 use std::alloc::Global;
 use std::test::Fail;
 
-// What overrides say: the line, the range and the place of each row, and the notes as a report prints them.
+// What overrides say: the line, the range and the place of each row,
+// and the notes as a report prints them.
 fn read(alloc: Global, file: &[u8]) -> Result<String, Fail> {
     let overrides = read_overrides(alloc, file)?;
     let mut text = String::new(alloc);

@@ -27,7 +27,8 @@ pub(crate) fn read_line(
 ) -> Result<Verdict, Memory>
     requires { CanRead (λ s. Some s.now) reader.old line.now }
     ensures verdict { IfOk result (λ found. found ≡ verdict line.now) }
-    ensures stands { (left : List ℕ) → Stands (λ s. Some s.now) reader.old (handed line.now ++ left) → OnOk result (Stands (λ s. Some s.now) reader.new left) }
+    ensures stands { (left : List ℕ) → Stands (λ s. Some s.now) reader.old (handed line.now ++ left)
+        → OnOk result (Stands (λ s. Some s.now) reader.new left) }
 {
     if let Some(bare) = bare_row(line) {
         return row_verdict(texts, &bare);
@@ -53,7 +54,8 @@ fn row_verdict<R: Row>(texts: &mut Texts, row: &R) -> Result<Verdict, Memory>
 
 fn acted<R: Row>(texts: &mut Texts, range: Range, row: &R) -> Result<Verdict, Memory>
     requires { AreTexts (R.fields row.now) }
-    ensures { IfOk result (λ found. found ≡ acted range (column 1 (R.fields row.now)) (R.fields row.now)) }
+    ensures { IfOk result
+        (λ found. found ≡ acted range (column 1 (R.fields row.now)) (R.fields row.now)) }
 {
     let word = column(row, 1);
     if word == b"void".as_slice() {

@@ -1,5 +1,6 @@
 -- The cut points of all sources, and the segments between them.
-use Rattle.std.specs.Prelude.{◌≡◌, ℕ, ◌+◌, ◌^◌, ◌<◌, ◌≤◌, IsTrue, List, All, Any, Contains, length, count_by}
+use Rattle.std.specs.Prelude.{◌≡◌, ℕ, ◌+◌, ◌^◌, ◌<◌, ◌≤◌, IsTrue, List, All, Any, Contains, length}
+use Rattle.std.specs.Prelude.{count_by}
 use Rattle.std.specs.List.{AllAdjacentBelow}
 use Rattle.geo_addr.specs.Ranges.{Ends, IsRange, IsWithin, NoCut}
 use Rattle.geo_terms.specs.Cuts.{statement_ranges}
@@ -12,12 +13,15 @@ use Rattle.cut_segments.specs.CutPlaces.{AreCutsOf}
 abbrev pub AreCutPlaces : InForce → List ℕ → Type 0
 AreCutPlaces s places = AreCutsOf (statement_ranges s) places
 
--- two addresses have one record where none of the places lies above the lower and at or below the higher
+-- two addresses have one record where none of the places lies above the
+-- lower and at or below the higher
 abbrev pub IsConstantBetween : InForce → List ℕ → Type 0
 IsConstantBetween s places =
-    (a b : ℕ) → a ≤ b → b < 2 ^ 128 → ((c : ℕ) → a < c → c ≤ b → ¬ Contains places c) → spoken_at s a ≡ spoken_at s b
+    (a b : ℕ) → a ≤ b → b < 2 ^ 128
+    → ((c : ℕ) → a < c → c ≤ b → ¬ Contains places c) → spoken_at s a ≡ spoken_at s b
 
--- ascending ranges that have the touched addresses and no others, with no cut point of the sources inside one; and no more of them than there are touched grounds and touched cut points
+-- ascending ranges that have the touched addresses and no others, with no cut point of the sources
+-- inside one; and no more of them than there are touched grounds and touched cut points
 pub record AreSourceSegments (s : InForce) (touched out : List Ends) : Type 0 where
   pub ranges : All IsRange out
   pub apart : AllAdjacentBelow (λ r t. r.last < t.first) out (length out)

@@ -1,4 +1,5 @@
-//! All sources in force: the record of an address and why it has it, the report, cut points and segments.
+//! All sources in force: the record of an address and why it has it, the report,
+//! cut points and segments.
 #![tactic(auto)]
 
 mod sources;

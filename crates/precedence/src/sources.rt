@@ -31,11 +31,18 @@ impl Model for Sources {
 
     ghost Value = { InForce };
 
-    ghost view = { λ s. record { dumps = s.speaking.dumps; feeds = s.speaking.feeds; stats = s.statistics; overrides = s.overriding } };
+    ghost view = { λ s. record {
+      dumps = s.speaking.dumps;
+      feeds = s.speaking.feeds;
+      stats = s.statistics;
+      overrides = s.overriding;
+    } };
 }
 
 impl Sources {
-    ghost use Rattle.std.specs.Prelude.{◌≡◌, ◌↔◌, ◌∷◌, ◌++◌, ◌<◌, ℕ, List, Some, None, length, map, find, option_map, All, Any, IfOk, IfErr, IsTrue, OnOk, OnErr};
+    ghost use Rattle.std.specs.Prelude.{◌≡◌, ◌↔◌, ◌∷◌, ◌++◌, ◌<◌, ℕ, List, Some, None, length, map};
+    ghost use Rattle.std.specs.Prelude.{find, option_map, All, Any, IfOk, IfErr, IsTrue, OnOk};
+    ghost use Rattle.std.specs.Prelude.{OnErr};
     ghost use Rattle.std.specs.Arc.{arc_value};
     ghost use Rattle.std.specs.List.{AllAdjacentBelow};
     ghost use Rattle.std.specs.List.Sorted.{IsStrictlyIncreasing};
@@ -45,7 +52,8 @@ impl Sources {
     ghost use Rattle.geo_terms.specs.Covering.{covering};
     ghost use Rattle.geo_terms.specs.Cuts.{statement_ranges};
     ghost use Rattle.geo_terms.specs.PlaceForm.{same_text};
-    ghost use Rattle.geo_terms.specs.Precedence.{first_delegation, first_override, reasons_at, record_at, speaker, speaking_entry, spoken_at};
+    ghost use Rattle.geo_terms.specs.Precedence.{first_delegation, first_override, reasons_at};
+    ghost use Rattle.geo_terms.specs.Precedence.{record_at, speaker, speaking_entry, spoken_at};
     ghost use Rattle.geo_terms.specs.Report.{alias_notes, reader_notes, report};
     ghost use Rattle.geo_terms.specs.Sources.{feed_of, no_sources, references};
     ghost use Rattle.geo_terms.specs.SlotOrder.{AreInOrder, placed, removed};
@@ -71,8 +79,10 @@ impl Sources {
     ///
     /// After `Memory` the given dump is dropped.
     pub fn set_rpsl(&mut self, dump: Dump) -> Result<Option<Arc<Dump>>, Memory>
-        ensures sources { OnOk result (self.new ≡ record self.old { dumps = placed (λ d. d.slot) dump self.old.dumps }) }
-        ensures old { IfOk result (λ old. option_map arc_value old ≡ find (λ d. same_text d.slot dump.slot) self.old.dumps) }
+        ensures sources { OnOk result
+            (self.new ≡ record self.old { dumps = placed (λ d. d.slot) dump self.old.dumps }) }
+        ensures old { IfOk result (λ old. option_map arc_value old
+            ≡ find (λ d. same_text d.slot dump.slot) self.old.dumps) }
         ensures err { OnErr result (self.new ≡ self.old) }
     {
         self.speaking.set_dump(dump)
@@ -80,9 +90,12 @@ impl Sources {
 
     /// Takes the dump of a slot out of force, and hands it back.
     pub fn drop_rpsl(&mut self, slot: &str) -> Result<Arc<Dump>, DropFault>
-        ensures sources { OnOk result (self.new ≡ record self.old { dumps = removed (λ d. d.slot) slot.now self.old.dumps }) }
-        ensures old { IfOk result (λ old. Some (arc_value old) ≡ find (λ d. same_text d.slot slot.now) self.old.dumps) }
-        ensures not_there { IfErr result (λ fault. fault ≡ DropFault.NotThere ↔ (find (λ d. same_text d.slot slot.now) self.old.dumps ≡ None)) }
+        ensures sources { OnOk result
+            (self.new ≡ record self.old { dumps = removed (λ d. d.slot) slot.now self.old.dumps }) }
+        ensures old { IfOk result
+            (λ old. Some (arc_value old) ≡ find (λ d. same_text d.slot slot.now) self.old.dumps) }
+        ensures not_there { IfErr result (λ fault. fault ≡ DropFault.NotThere
+            ↔ (find (λ d. same_text d.slot slot.now) self.old.dumps ≡ None)) }
         ensures err { OnErr result (self.new ≡ self.old) }
     {
         self.speaking.drop_dump(slot)
@@ -92,8 +105,10 @@ impl Sources {
     ///
     /// After `Memory` the given feed is dropped.
     pub fn set_feed(&mut self, feed: Feed) -> Result<Option<Arc<Feed>>, Memory>
-        ensures sources { OnOk result (self.new ≡ record self.old { feeds = placed (λ f. f.url) feed self.old.feeds }) }
-        ensures old { IfOk result (λ old. option_map arc_value old ≡ find (λ f. same_text f.url feed.url) self.old.feeds) }
+        ensures sources { OnOk result
+            (self.new ≡ record self.old { feeds = placed (λ f. f.url) feed self.old.feeds }) }
+        ensures old { IfOk result (λ old. option_map arc_value old
+            ≡ find (λ f. same_text f.url feed.url) self.old.feeds) }
         ensures err { OnErr result (self.new ≡ self.old) }
     {
         self.speaking.set_feed(feed)
@@ -101,20 +116,26 @@ impl Sources {
 
     /// Takes the feed of a URL out of force, and hands it back. It takes no memory.
     pub fn drop_feed(&mut self, url: &str) -> Result<Arc<Feed>, DropFault>
-        ensures sources { OnOk result (self.new ≡ record self.old { feeds = removed (λ f. f.url) url.now self.old.feeds }) }
-        ensures old { IfOk result (λ old. Some (arc_value old) ≡ find (λ f. same_text f.url url.now) self.old.feeds) }
-        ensures not_there { IfErr result (λ fault. fault ≡ DropFault.NotThere ↔ (find (λ f. same_text f.url url.now) self.old.feeds ≡ None)) }
+        ensures sources { OnOk result
+            (self.new ≡ record self.old { feeds = removed (λ f. f.url) url.now self.old.feeds }) }
+        ensures old { IfOk result
+            (λ old. Some (arc_value old) ≡ find (λ f. same_text f.url url.now) self.old.feeds) }
+        ensures not_there { IfErr result (λ fault. fault ≡ DropFault.NotThere
+            ↔ (find (λ f. same_text f.url url.now) self.old.feeds ≡ None)) }
         ensures err { OnErr result (self.new ≡ self.old) }
     {
         self.speaking.drop_feed(url)
     }
 
-    /// Puts a statistics file in the place of the one with the same slot, and hands the old one back.
+    /// Puts a statistics file in the place of the one with the same slot,
+    /// and hands the old one back.
     ///
     /// After `Memory` the given file is dropped.
     pub fn set_stats(&mut self, stats: Stats) -> Result<Option<Arc<Stats>>, Memory>
-        ensures sources { OnOk result (self.new ≡ record self.old { stats = placed (λ t. t.slot) stats self.old.stats }) }
-        ensures old { IfOk result (λ old. option_map arc_value old ≡ find (λ t. same_text t.slot stats.slot) self.old.stats) }
+        ensures sources { OnOk result
+            (self.new ≡ record self.old { stats = placed (λ t. t.slot) stats self.old.stats }) }
+        ensures old { IfOk result (λ old. option_map arc_value old
+            ≡ find (λ t. same_text t.slot stats.slot) self.old.stats) }
         ensures err { OnErr result (self.new ≡ self.old) }
     {
         self.statistics.set(stats)
@@ -122,9 +143,12 @@ impl Sources {
 
     /// Takes the statistics file of a slot out of force, and hands it back.
     pub fn drop_stats(&mut self, slot: &str) -> Result<Arc<Stats>, DropFault>
-        ensures sources { OnOk result (self.new ≡ record self.old { stats = removed (λ t. t.slot) slot.now self.old.stats }) }
-        ensures old { IfOk result (λ old. Some (arc_value old) ≡ find (λ t. same_text t.slot slot.now) self.old.stats) }
-        ensures not_there { IfErr result (λ fault. fault ≡ DropFault.NotThere ↔ (find (λ t. same_text t.slot slot.now) self.old.stats ≡ None)) }
+        ensures sources { OnOk result
+            (self.new ≡ record self.old { stats = removed (λ t. t.slot) slot.now self.old.stats }) }
+        ensures old { IfOk result
+            (λ old. Some (arc_value old) ≡ find (λ t. same_text t.slot slot.now) self.old.stats) }
+        ensures not_there { IfErr result (λ fault. fault ≡ DropFault.NotThere
+            ↔ (find (λ t. same_text t.slot slot.now) self.old.stats ≡ None)) }
         ensures err { OnErr result (self.new ≡ self.old) }
     {
         self.statistics.remove(slot)
@@ -145,7 +169,8 @@ impl Sources {
     pub fn drop_overrides(&mut self) -> Result<Arc<Overrides>, DropFault>
         ensures sources { OnOk result (self.new ≡ record self.old { overrides = None }) }
         ensures old { IfOk result (λ old. Some (arc_value old) ≡ self.old.overrides) }
-        ensures not_there { IfErr result (λ fault. (fault ≡ DropFault.NotThere) × (self.old.overrides ≡ None)) }
+        ensures not_there { IfErr result
+            (λ fault. (fault ≡ DropFault.NotThere) × (self.old.overrides ≡ None)) }
         ensures err { OnErr result (self.new ≡ self.old) }
     {
         match self.overriding.remove() {
@@ -177,8 +202,8 @@ impl Sources {
         self.speaking.authority().feed_of(url)
     }
 
-    /// The first reference of this URL, in the order of references, whose range is of the block's family
-    /// and contains the block.
+    /// The first reference of this URL, in the order of references, whose range is of the block's
+    /// family and contains the block.
     pub fn covering(&self, block: Block, url: &str) -> Option<&Reference>
         ensures { option_copied result ≡ covering (references self.now) url.now block }
     {
@@ -228,8 +253,8 @@ impl Sources {
         self.speaking.authority().entry_at(at)
     }
 
-    /// What the sources say of an address. The two blocks of IPv6 addresses that carry IPv4 addresses are
-    /// no different here from other addresses.
+    /// What the sources say of an address. The two blocks of IPv6 addresses that carry IPv4
+    /// addresses are no different here from other addresses.
     #[tactic(auto, unfolding(geo_terms::specs::Precedence::spoken_at))]
     pub fn spoken_at(&self, at: Addr) -> Option<&Place>
         ensures { option_copied result ≡ spoken_at self.now at.0 }
@@ -251,8 +276,8 @@ impl Sources {
         self.spoken_at(home(at))
     }
 
-    /// Why an address has its record: the first override, the speaker, the speaking entry and the first
-    /// delegation at the address whose record it has, and that record.
+    /// Why an address has its record: the first override, the speaker, the speaking entry and the
+    /// first delegation at the address whose record it has, and that record.
     pub fn why_at(&self, at: Addr) -> Why<'_>
         ensures { reasons_of result ≡ reasons_at self.now at.0 }
     {
@@ -266,8 +291,8 @@ impl Sources {
         }
     }
 
-    /// The record of a segment: that of its first address, which all of it has where no cut point lies
-    /// above that address.
+    /// The record of a segment: that of its first address, which all of it has where no cut point
+    /// lies above that address.
     pub fn choice(&self, segment: Range) -> Option<&Place>
         ensures { option_copied result ≡ spoken_at self.now segment.first }
     {
@@ -276,7 +301,8 @@ impl Sources {
 
     /// The records of several segments, in their order.
     pub fn choices(&self, segments: &[Range]) -> Result<Vec<Option<&Place>>, Memory>
-        ensures { IfOk result (λ choices. map option_copied choices.items ≡ map (λ r. spoken_at self.now r.first) segments.now) }
+        ensures { IfOk result (λ choices. map option_copied choices.items
+            ≡ map (λ r. spoken_at self.now r.first) segments.now) }
     {
         let mut choices = Vec::with_capacity(self.alloc, segments.len())?;
         for segment in segments {
@@ -311,24 +337,30 @@ impl Sources {
 
     /// The places at which the statements in force cut a range: ascending, each once.
     ///
-    /// What is said of an address is constant between two neighbours of those of the whole address space.
+    /// What is said of an address is constant between two neighbours of
+    /// those of the whole address space.
     pub fn cuts_in(&self, within: Range) -> Result<Vec<u128>, Memory>
-        ensures exact { IfOk result (λ places. AreCuts (statement_ranges self.now) within places.items) }
+        ensures exact { IfOk result
+            (λ places. AreCuts (statement_ranges self.now) within places.items) }
         ensures ascending { IfOk result (λ places. IsStrictlyIncreasing places.items) }
-        ensures constant { within ≡ whole → IfOk result (λ places. IsConstantBetween self.now places.items) }
+        ensures constant { within ≡ whole
+            → IfOk result (λ places. IsConstantBetween self.now places.items) }
     {
         let Range { first, last } = within;
         let places = self.places_in(&[Range { first, last }])?;
         Ok(places)
     }
 
-    /// The touched grounds as ascending ranges that are disjoint, cut at the cut points of the sources:
-    /// the same is said on all of a range.
+    /// The touched grounds as ascending ranges that are disjoint, cut at the cut points of the
+    /// sources: the same is said on all of a range.
     ///
-    /// Of the cut points it reads those that lie inside what is touched; where that is most of them, all.
+    /// Of the cut points it reads those that lie inside what is touched;
+    /// where that is most of them, all.
     pub fn segments(&self, touched: &[Range]) -> Result<Vec<Range>, Memory>
-        ensures segments { IfOk result (λ segments. AreSourceSegments self.now touched.now segments.items) }
-        ensures steady { IfOk result (λ segments. All (λ r. (a : ℕ) → IsWithin r a → spoken_at self.now a ≡ spoken_at self.now r.first) segments.items) }
+        ensures segments { IfOk result
+            (λ segments. AreSourceSegments self.now touched.now segments.items) }
+        ensures steady { IfOk result (λ segments. All (λ r. (a : ℕ) → IsWithin r a
+            → spoken_at self.now a ≡ spoken_at self.now r.first) segments.items) }
     {
         let bounds = self.bounds_of(touched)?;
         let places = self.places_in(bounds.as_slice())?;
@@ -336,7 +368,8 @@ impl Sources {
         Ok(segments)
     }
 
-    /// The same sources once more: each of them and each index is shared, so the cost is their number.
+    /// The same sources once more: each of them and each index is shared,
+    /// so the cost is their number.
     pub fn snapshot(&self) -> Result<Sources, Memory>
         ensures { IfOk result (λ same. same ≡ self.now) }
     {
@@ -364,12 +397,14 @@ impl Sources {
         self.overriding.push_alias_notes(notes)
     }
 
-    // Ascending ranges that are disjoint and have all that is touched: what is touched, or, where much is,
-    // the whole address space.
+    // Ascending ranges that are disjoint and have all that is touched: what is touched, or, where
+    // much is, the whole address space.
     fn bounds_of(&self, touched: &[Range]) -> Result<Vec<Range>, Memory>
         ensures ranges { IfOk result (λ bounds. All IsRange bounds.items) }
-        ensures apart { IfOk result (λ bounds. AllAdjacentBelow (λ r t. r.last < t.first) bounds.items (length bounds.items)) }
-        ensures covered { IfOk result (λ bounds. (a : ℕ) → IsWithin whole a → IsTrue (is_touched touched.now a) → Any (λ r. IsWithin r a) bounds.items) }
+        ensures apart { IfOk result (λ bounds. AllAdjacentBelow (λ r t. r.last < t.first)
+            bounds.items (length bounds.items)) }
+        ensures covered { IfOk result (λ bounds. (a : ℕ) → IsWithin whole a
+            → IsTrue (is_touched touched.now a) → Any (λ r. IsWithin r a) bounds.items) }
     {
         if self.count() / 4 <= touched.len() {
             let bounds = vec![in self.alloc; whole()]?;
@@ -390,7 +425,8 @@ impl Sources {
     fn places_in(&self, bounds: &[Range]) -> Result<Vec<u128>, Memory>
         requires ranges { All IsRange bounds.now }
         requires apart { AllAdjacentBelow (λ r t. r.last < t.first) bounds.now (length bounds.now) }
-        ensures exact { IfOk result (λ places. AreCutsInside (statement_ranges self.now) bounds.now places.items) }
+        ensures exact { IfOk result
+            (λ places. AreCutsInside (statement_ranges self.now) bounds.now places.items) }
         ensures ascending { IfOk result (λ places. IsStrictlyIncreasing places.items) }
     {
         let mut places = Vec::new(self.alloc);

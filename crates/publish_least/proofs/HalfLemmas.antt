@@ -1,5 +1,6 @@
 -- The halves of a block are blocks.
-use Rattle.std.proofs.Common.{◌≡◌, ℕ, suc, ◌+◌, ◌-◌, ◌*◌, ◌%◌, ◌^◌, ◌<◌, ◌≤◌, refl, sym, ap, subst, ◌∙◌, arith}
+use Rattle.std.proofs.Common.{◌≡◌, ℕ, suc, ◌+◌, ◌-◌, ◌*◌, ◌%◌, ◌^◌, ◌<◌, ◌≤◌, refl, sym, ap, subst}
+use Rattle.std.proofs.Common.{◌∙◌, arith}
 use Rattle.std.proofs.lemmas.Nat.{one_shl, pow_pos}
 use Rattle.std.proofs.Math.Nat.{two-pow-succ, add-mod_right, zero-mod}
 use Rattle.std.proofs.Math.Pow.{mod-mod-pow}
@@ -12,12 +13,16 @@ module _ (b : Prefix) (block : IsBlock b) (more : b.len < 128) where
   half_size = one_shl (127 - b.len) 128 (omega arith)
 
   whole_size : 2 ^ (128 - b.len) ≡ 2 ^ (127 - b.len) + 2 ^ (127 - b.len)
-  whole_size = let next : 128 - b.len ≡ suc (127 - b.len) = omega arith in ap (λ e. 2 ^ e) next ∙ two-pow-succ (127 - b.len)
+  whole_size =
+      let next : 128 - b.len ≡ suc (127 - b.len) = omega arith in
+      ap (λ e. 2 ^ e) next ∙ two-pow-succ (127 - b.len)
 
   aligned_lower : b.first % 2 ^ (127 - b.len) ≡ 0
   aligned_lower =
       let split : 1 + (127 - b.len) ≡ 128 - b.len = omega arith in
-      sym (mod-mod-pow b.first 1 (127 - b.len)) ∙ ap (λ e. b.first % 2 ^ e % 2 ^ (127 - b.len)) split ∙ ap (λ m. m % 2 ^ (127 - b.len)) block.aligned ∙ zero-mod (2 ^ (127 - b.len))
+      sym (mod-mod-pow b.first 1 (127 - b.len))
+      ∙ ap (λ e. b.first % 2 ^ e % 2 ^ (127 - b.len)) split
+      ∙ ap (λ m. m % 2 ^ (127 - b.len)) block.aligned ∙ zero-mod (2 ^ (127 - b.len))
 
   -- the upper half begins below 2 ^ 128
   pub middle_within : b.first + 2 ^ (127 - b.len) < 2 ^ 128
@@ -37,9 +42,12 @@ module _ (b : Prefix) (block : IsBlock b) (more : b.len < 128) where
     aligned = ap (λ p. b.first % p) same_size ∙ aligned_lower;
   }
 
-  pub IsBlock-upper : (middle : ℕ) → middle ≡ b.first + 2 ^ (127 - b.len) → IsBlock (record { first = middle; len = b.len + 1 })
+  pub IsBlock-upper : (middle : ℕ)
+      → middle ≡ b.first + 2 ^ (127 - b.len) → IsBlock (record { first = middle; len = b.len + 1 })
   IsBlock-upper middle is = record {
     length_fits = omega arith;
     within = let below = middle_within in omega arith;
-    aligned = ap (λ p. middle % p) same_size ∙ ap (λ f. f % 2 ^ (127 - b.len)) is ∙ add-mod_right b.first (2 ^ (127 - b.len)) ∙ aligned_lower;
+    aligned =
+        ap (λ p. middle % p) same_size ∙ ap (λ f. f % 2 ^ (127 - b.len)) is
+        ∙ add-mod_right b.first (2 ^ (127 - b.len)) ∙ aligned_lower;
   }

@@ -1,5 +1,6 @@
 -- Lemmas on which leaves a list has.
-use Rattle.std.proofs.Common.{◌≡◌, inl, inr, ◌⊎◌, ℕ, Bool, true, false, ◌&&◌, ◌||◌, nat_eq, if◌then◌else◌, List, [], ◌∷◌, ◌++◌, filter, refl, sym, ap, ap₂, ◌∙◌}
+use Rattle.std.proofs.Common.{◌≡◌, inl, inr, ◌⊎◌, ℕ, Bool, true, false, ◌&&◌, ◌||◌, nat_eq}
+use Rattle.std.proofs.Common.{if◌then◌else◌, List, [], ◌∷◌, ◌++◌, filter, refl, sym, ap, ap₂, ◌∙◌}
 use Rattle.trie_core.proofs.TreeLemmas.{nat_equality}
 use Rattle.std.proofs.lemmas.Bool.{or_cases}
 use Rattle.publish_least.specs.Price.{has, shared}
@@ -22,7 +23,10 @@ has-rest d x xs is = ap (λ b. nat_eq d x || b) is ∙ or_true (nat_eq d x)
 
 -- an element is the first one or one of the rest
 pub has-cases : (d x : ℕ) (xs : List ℕ) → has (x ∷ xs) d ≡ true → (d ≡ x) ⊎ (has xs d ≡ true)
-has-cases d x xs is = elim (or_cases (nat_eq d x) (has xs d) is) [ inl here ↦ inl ((nat_equality d x).0 here) | inr later ↦ inr later ]
+has-cases d x xs is = elim (or_cases (nat_eq d x) (has xs d) is) [
+  | inl here ↦ inl ((nat_equality d x).0 here)
+  | inr later ↦ inr later
+]
 
 or_assoc : (a b c : Bool) → (a || (b || c)) ≡ ((a || b) || c)
 or_assoc true b c = refl
@@ -31,10 +35,12 @@ or_assoc false b c = refl
 -- two lists one after the other
 pub has-append : (xs ys : List ℕ) (d : ℕ) → has (xs ++ ys) d ≡ (has xs d || has ys d)
 has-append [] ys d = refl
-has-append (x ∷ xs) ys d = ap (λ b. nat_eq d x || b) (has-append xs ys d) ∙ or_assoc (nat_eq d x) (has xs d) (has ys d)
+has-append (x ∷ xs) ys d =
+    ap (λ b. nat_eq d x || b) (has-append xs ys d) ∙ or_assoc (nat_eq d x) (has xs d) (has ys d)
 
 -- one element of a filtered list
-filter_step : (ys : List ℕ) (x d : ℕ) (rest : List ℕ) (p : Bool) (e : Bool) → has ys x ≡ p → nat_eq d x ≡ e → has rest d ≡ (has (filter (has ys) []) d || has rest d)
+filter_step : (ys : List ℕ) (x d : ℕ) (rest : List ℕ) (p : Bool) (e : Bool) → has ys x ≡ p
+    → nat_eq d x ≡ e → has rest d ≡ (has (filter (has ys) []) d || has rest d)
     → has (if p then x ∷ rest else rest) d ≡ ((e && p) || has rest d)
 filter_step ys x d rest true true at same _ = ap (λ b. b || has rest d) same
 filter_step ys x d rest true false at same _ = ap (λ b. b || has rest d) same
@@ -54,6 +60,10 @@ and_same false p q h same = refl
 pub has-shared : (xs ys : List ℕ) (d : ℕ) → has (shared xs ys) d ≡ (has xs d && has ys d)
 has-shared [] ys d = refl
 has-shared (x ∷ xs) ys d =
-    let step : has (shared (x ∷ xs) ys) d ≡ ((nat_eq d x && has ys x) || has (shared xs ys) d) = filter_step ys x d (shared xs ys) (has ys x) (nat_eq d x) refl refl refl in
-    let rest : ((nat_eq d x && has ys x) || has (shared xs ys) d) ≡ ((nat_eq d x && has ys x) || (has xs d && has ys d)) = ap (λ b. (nat_eq d x && has ys x) || b) (has-shared xs ys d) in
-    step ∙ rest ∙ and_same (nat_eq d x) (has ys x) (has ys d) (has xs d) (λ same. ap (has ys) (sym ((nat_equality d x).0 same)))
+    let step : has (shared (x ∷ xs) ys) d ≡ ((nat_eq d x && has ys x) || has (shared xs ys) d) =
+    filter_step ys x d (shared xs ys) (has ys x) (nat_eq d x) refl refl refl in
+    let rest : ((nat_eq d x && has ys x) || has (shared xs ys) d)
+    ≡ ((nat_eq d x && has ys x) || (has xs d && has ys d)) =
+    ap (λ b. (nat_eq d x && has ys x) || b) (has-shared xs ys d) in
+    step ∙ rest ∙ and_same (nat_eq d x) (has ys x) (has ys d) (has xs d)
+    (λ same. ap (has ys) (sym ((nat_equality d x).0 same)))

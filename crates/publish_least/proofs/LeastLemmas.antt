@@ -11,9 +11,12 @@ use Rattle.publish_least.specs.Lines.{AreInside, AnswerAs, AreFewest, InPreorder
 use Rattle.publish_least.specs.Price.{cost}
 use Rattle.publish_least.specs.Choice.{lines_of, part_of}
 use Rattle.publish_least.proofs.PartLemmas.{look-part}
-use Rattle.publish_least.proofs.Whole.{least_inside, least_preorder, least_answers, least_fewest, least_price}
+use Rattle.publish_least.proofs.Whole.{least_inside, least_preorder, least_answers, least_fewest}
+use Rattle.publish_least.proofs.Whole.{least_price}
 
-module _ (pairs : List Pair) (root : Root) (within : Prefix) (t : Tree ℕ) (is : t ≡ part_of (tree_of pairs root) within) (block : IsBlock within) (plain : IsPlain within) (low : height t ≤ 128 - within.len)
+module _ (pairs : List Pair) (root : Root) (within : Prefix) (t : Tree ℕ)
+    (is : t ≡ part_of (tree_of pairs root) within) (block : IsBlock within) (plain : IsPlain within)
+    (low : height t ≤ 128 - within.len)
     (lines : List Line) (same : lines ≡ lines_of t within) where
   pub lines_are : lines ≡ lines_of (part_of (tree_of pairs root) within) within
   lines_are = same ∙ ap (λ s. lines_of s within) is
@@ -24,14 +27,22 @@ module _ (pairs : List Pair) (root : Root) (within : Prefix) (t : Tree ℕ) (is 
   pub in_preorder : InPreorder lines
   in_preorder = subst InPreorder (sym same) (least_preorder t within block plain low)
 
-  leaf_is : (a : ℕ) → IsWithin (range_of_block within) a → leaf_at pairs root a ≡ look t (bits_of (128 - within.len) a)
-  leaf_is a inside = look-part (tree_of pairs root) within block a inside ∙ ap (λ s. look s (bits_of (128 - within.len) a)) (sym is)
+  leaf_is : (a : ℕ) → IsWithin (range_of_block within) a
+      → leaf_at pairs root a ≡ look t (bits_of (128 - within.len) a)
+  leaf_is a inside =
+      look-part (tree_of pairs root) within block a inside
+      ∙ ap (λ s. look s (bits_of (128 - within.len) a)) (sym is)
 
   pub answer_as : AnswerAs (leaf_at pairs root) within lines
-  answer_as = subst (AnswerAs (leaf_at pairs root) within) (sym same) (λ a inside. leaf_is a inside ∙ least_answers t within block plain low a inside)
+  answer_as =
+      subst (AnswerAs (leaf_at pairs root) within) (sym same)
+      (λ a inside. leaf_is a inside ∙ least_answers t within block plain low a inside)
 
   pub are_fewest : AreFewest (leaf_at pairs root) within lines
-  are_fewest = subst (AreFewest (leaf_at pairs root) within) (sym same) (λ others inside answers. least_fewest t within block plain low others inside (λ a at. sym (leaf_is a at) ∙ answers a at))
+  are_fewest =
+      subst (AreFewest (leaf_at pairs root) within)
+      (sym same) (λ others inside answers. least_fewest t within block plain low others inside
+      (λ a at. sym (leaf_is a at) ∙ answers a at))
 
   pub price_is : length lines ≡ cost (part_of (tree_of pairs root) within) 0
   price_is = ap length same ∙ least_price t within block plain low ∙ ap (λ s. cost s 0) is

@@ -1,5 +1,7 @@
 -- The price of a tree by its best leaves.
-use Rattle.std.proofs.Common.{◌≡◌, inl, inr, ℕ, ◌+◌, ◌≤◌, min, Bool, true, false, ◌&&◌, ◌||◌, nat_eq, if◌then◌else◌, List, [], ◌∷◌, ◌++◌, refl, sym, ap, ap₂, subst, ◌∙◌, arith}
+use Rattle.std.proofs.Common.{◌≡◌, inl, inr, ℕ, ◌+◌, ◌≤◌, min, Bool, true, false, ◌&&◌, ◌||◌}
+use Rattle.std.proofs.Common.{nat_eq, if◌then◌else◌, List, [], ◌∷◌, ◌++◌, refl, sym, ap, ap₂, subst}
+use Rattle.std.proofs.Common.{◌∙◌, arith}
 use Rattle.std.proofs.lemmas.Bool.{or_cases, and_parts}
 use Rattle.trie_core.specs.Tree.{Tree, leaf, node}
 use Rattle.least_nodes.specs.Layout.{leaves}
@@ -11,7 +13,8 @@ abbrev pub miss : Bool → ℕ
 miss b = if b then 0 else 1
 
 -- the least price is no higher than that of an element
-least-below : (price : ℕ → ℕ) (d : ℕ) (xs : List ℕ) (e : ℕ) → has xs e ≡ true → least_price price d xs ≤ price e
+least-below : (price : ℕ → ℕ) (d : ℕ) (xs : List ℕ) (e : ℕ) → has xs e ≡ true
+    → least_price price d xs ≤ price e
 least-below price d [] e is = absurd (cc)
 least-below price d (x ∷ xs) e is =
     elim (has-cases e x xs is) [
@@ -20,9 +23,12 @@ least-below price d (x ∷ xs) e is =
     ]
 
 -- and no lower than what is below each price
-least-above : (price : ℕ → ℕ) (d : ℕ) (xs : List ℕ) (m : ℕ) → ((e : ℕ) → m ≤ price e) → m ≤ least_price price d xs
+least-above : (price : ℕ → ℕ) (d : ℕ) (xs : List ℕ) (m : ℕ)
+    → ((e : ℕ) → m ≤ price e) → m ≤ least_price price d xs
 least-above price d [] m all = all d
-least-above price d (x ∷ xs) m all = let first = all x in let rest = least-above price d xs m all in omega arith
+least-above price d (x ∷ xs) m all =
+    let first = all x in
+    let rest = least-above price d xs m all in omega arith
 
 -- what a tree costs, where so much is least
 pub record IsPriced (t : Tree ℕ) (m : ℕ) : Type 0 where
@@ -50,7 +56,8 @@ apart_hit true false none some = refl
 apart_hit false true none some = refl
 apart_hit false false none some = absurd (cc)
 
-apart_price : (k : ℕ) (p q : Bool) → (p && q) ≡ false → min (k + (miss p + miss q)) (1 + (k + 1)) ≡ (k + 1) + miss (p || q)
+apart_price : (k : ℕ) (p q : Bool) → (p && q) ≡ false
+    → min (k + (miss p + miss q)) (1 + (k + 1)) ≡ (k + 1) + miss (p || q)
 apart_price k true true none = absurd (cc)
 apart_price k true false none = omega arith
 apart_price k false true none = omega arith
@@ -83,39 +90,66 @@ module _ (l r : Tree ℕ) (ml mr : ℕ) (left : IsPriced l ml) (right : IsPriced
 
   -- the leaves of the halves are those of the node
   left_inside : (d : ℕ) → has (best l) d ≡ true → has (leaves l ++ leaves r) d ≡ true
-  left_inside d is = has-append (leaves l) (leaves r) d ∙ or_left (has (leaves l) d) (has (leaves r) d) (left.inside d is)
+  left_inside d is =
+      has-append (leaves l) (leaves r) d
+      ∙ or_left (has (leaves l) d) (has (leaves r) d) (left.inside d is)
 
   right_inside : (d : ℕ) → has (best r) d ≡ true → has (leaves l ++ leaves r) d ≡ true
-  right_inside d is = has-append (leaves l) (leaves r) d ∙ or_right (has (leaves l) d) (has (leaves r) d) (right.inside d is)
+  right_inside d is =
+      has-append (leaves l) (leaves r) d
+      ∙ or_right (has (leaves l) d) (has (leaves r) d) (right.inside d is)
 
   -- by what the best leaves of the halves share
-  halves_by : (zs : List ℕ) → shared (best l) (best r) ≡ zs → (m : ℕ) × AreHalvesPriced l r (or_either zs (best l) (best r)) m
+  halves_by : (zs : List ℕ) → shared (best l) (best r) ≡ zs
+      → (m : ℕ) × AreHalvesPriced l r (or_either zs (best l) (best r)) m
   halves_by [] is =
-      let none : (d : ℕ) → (has (best l) d && has (best r) d) ≡ false = λ d. sym (has-shared (best l) (best r) d) ∙ ap (λ zs. has zs d) is in (
+      let none : (d : ℕ) → (has (best l) d && has (best r) d) ≡ false =
+      λ d. sym (has-shared (best l) (best r) d) ∙ ap (λ zs. has zs d) is in (
         ml + mr + 1,
         record {
-          hit = λ e some. let b = both e in let one = apart_hit (has (best l) e) (has (best r) e) (none e) (sym (has-append (best l) (best r) e) ∙ some) in omega arith;
-          any = λ e. let b = both e in let one = apart_any (has (best l) e) (has (best r) e) (none e) in omega arith;
+          hit =
+              λ e some. let b = both e in let one = apart_hit (has (best l) e)
+              (has (best r) e) (none e) (sym (has-append (best l) (best r) e) ∙ some) in
+              omega arith;
+          any =
+              λ e. let b = both e in
+              let one = apart_any (has (best l) e) (has (best r) e) (none e) in
+              omega arith;
           price = λ d.
-              ap (λ n. min n (1 + (ml + mr + 1))) (both d) ∙ apart_price (ml + mr) (has (best l) d) (has (best r) d) (none d) ∙ ap (λ b. (ml + mr + 1) + miss b) (sym (has-append (best l) (best r) d));
-          some = (left.some.0, has-append (best l) (best r) left.some.0 ∙ or_left (has (best l) left.some.0) (has (best r) left.some.0) left.some.1);
+              ap (λ n. min n (1 + (ml + mr + 1))) (both d)
+              ∙ apart_price (ml + mr) (has (best l) d) (has (best r) d) (none d)
+              ∙ ap (λ b. (ml + mr + 1) + miss b) (sym (has-append (best l) (best r) d));
+          some = (
+            left.some.0,
+            has-append (best l) (best r) left.some.0
+                ∙ or_left (has (best l) left.some.0) (has (best r) left.some.0) left.some.1,
+          );
           inside = λ d is-best.
-              elim (or_cases (has (best l) d) (has (best r) d) (sym (has-append (best l) (best r) d) ∙ is-best)) [
+              elim (or_cases (has (best l) d) (has (best r) d)
+              (sym (has-append (best l) (best r) d) ∙ is-best)) [
                 | inl here ↦ left_inside d here
                 | inr there ↦ right_inside d there
               ];
         },
       )
   halves_by (z ∷ zs) is =
-      let says : (d : ℕ) → has (z ∷ zs) d ≡ (has (best l) d && has (best r) d) = λ d. ap (λ ys. has ys d) (sym is) ∙ has-shared (best l) (best r) d in (
+      let says : (d : ℕ) → has (z ∷ zs) d ≡ (has (best l) d && has (best r) d) =
+      λ d. ap (λ ys. has ys d) (sym is) ∙ has-shared (best l) (best r) d in (
         ml + mr,
         record {
-          hit = λ e some. let b = both e in let none = both_hit (has (best l) e) (has (best r) e) (sym (says e) ∙ some) in omega arith;
+          hit =
+              λ e some. let b = both e in
+              let none = both_hit (has (best l) e) (has (best r) e) (sym (says e) ∙ some) in
+              omega arith;
           any = λ e. let b = both e in omega arith;
           price = λ d.
-              ap (λ n. min n (1 + (ml + mr))) (both d) ∙ both_price (ml + mr) (has (best l) d) (has (best r) d) ∙ ap (λ b. (ml + mr) + miss b) (sym (says d));
+              ap (λ n. min n (1 + (ml + mr))) (both d)
+              ∙ both_price (ml + mr) (has (best l) d) (has (best r) d)
+              ∙ ap (λ b. (ml + mr) + miss b) (sym (says d));
           some = (z, has-first z zs);
-          inside = λ d is-best. left_inside d ((and_parts (has (best l) d) (has (best r) d) (sym (says d) ∙ is-best)).0);
+          inside =
+              λ d is-best. left_inside d
+              ((and_parts (has (best l) d) (has (best r) d) (sym (says d) ∙ is-best)).0);
         },
       )
 
@@ -123,18 +157,23 @@ module _ (l r : Tree ℕ) (ml mr : ℕ) (left : IsPriced l ml) (right : IsPriced
   halves_priced = halves_by (shared (best l) (best r)) refl
 
 -- the least price of the halves is that of a best leaf
-pub halves_least : (l r : Tree ℕ) (bests : List ℕ) (m : ℕ) → AreHalvesPriced l r bests m → least_price (λ e. cost l e + cost r e) 0 (leaves l ++ leaves r) ≡ m
+pub halves_least : (l r : Tree ℕ) (bests : List ℕ) (m : ℕ) → AreHalvesPriced l r bests m
+    → least_price (λ e. cost l e + cost r e) 0 (leaves l ++ leaves r) ≡ m
 halves_least l r bests m halves =
     let e : ℕ = halves.some.0 in
     let at = halves.hit e halves.some.1 in
-    let below = least-below (λ x. cost l x + cost r x) 0 (leaves l ++ leaves r) e (halves.inside e halves.some.1) in
+    let below = least-below (λ x. cost l x + cost r x) 0 (leaves l ++ leaves r) e
+    (halves.inside e halves.some.1) in
     let above = least-above (λ x. cost l x + cost r x) 0 (leaves l ++ leaves r) m halves.any in
     omega arith
 
 -- so the node is priced
-pub node_priced : (l r : Tree ℕ) (m : ℕ) → AreHalvesPriced l r (best (node l r)) m → IsPriced (node l r) m
+pub node_priced : (l r : Tree ℕ) (m : ℕ) → AreHalvesPriced l r (best (node l r)) m
+    → IsPriced (node l r) m
 node_priced l r m halves = record {
-  price = λ d. ap (λ n. min (cost l d + cost r d) (1 + n)) (halves_least l r (best (node l r)) m halves) ∙ halves.price d;
+  price =
+      λ d. ap (λ n. min (cost l d + cost r d) (1 + n)) (halves_least l r (best (node l r)) m halves)
+      ∙ halves.price d;
   some = halves.some;
   inside = halves.inside;
 }
@@ -161,4 +200,6 @@ priced (node l r) =
 
 -- the halves of a node, at its least price
 pub halves_of : (l r : Tree ℕ) → (m : ℕ) × AreHalvesPriced l r (best (node l r)) m
-halves_of l r = let left = priced l in let right = priced r in halves_priced l r left.0 right.0 left.1 right.1
+halves_of l r =
+    let left = priced l in let right = priced r in
+    halves_priced l r left.0 right.0 left.1 right.1

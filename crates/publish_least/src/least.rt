@@ -15,13 +15,15 @@ use geo_addr::{Block, Memory};
 use std::alloc::Global;
 use trie_core::{Rec, Root, Store};
 
-/// The fewest lines that answer, by longest match inside a block, as the root does at each address of the block. No
-/// line inside the block is taken for given: outside of every line the answer is leaf 0.
+/// The fewest lines that answer, by longest match inside a block, as the root does at each address
+/// of the block. No line inside the block is taken for given:
+/// outside of every line the answer is leaf 0.
 ///
-/// Of several shortest lists it is this one. A leaf is best for a part of the tree where no other leaf, inherited from
-/// above, saves a line there. The block begins with leaf 0. Where the inherited leaf is best, there is no line;
-/// otherwise there is one of leaf 0 where that is best, else of the best leaf to which a walk through the whole block
-/// comes first, low addresses before high ones.
+/// Of several shortest lists it is this one. A leaf is best for a part of the tree where no other
+/// leaf, inherited from above, saves a line there. The block begins with leaf 0. Where the
+/// inherited leaf is best, there is no line; otherwise there is one of leaf 0 where that is best,
+/// else of the best leaf to which a walk through the whole block comes first,
+/// low addresses before high ones.
 pub fn least_lines(
     alloc: Global,
     store: &Store,

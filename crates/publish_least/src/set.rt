@@ -1,5 +1,6 @@
 //! Sets of places, as ascending lists.
-ghost use Rattle.std.specs.Prelude.{◌≡◌, ℕ, ◌<◌, true, false, ◌||◌, length, slice_get, Some, IfOk, MatchOption};
+ghost use Rattle.std.specs.Prelude.{◌≡◌, ℕ, ◌<◌, true, false, ◌||◌, length, slice_get, Some, IfOk};
+ghost use Rattle.std.specs.Prelude.{MatchOption};
 ghost use Rattle.std.specs.List.Sorted.{IsNonDecreasing};
 ghost use Rattle.publish_least.specs.Price.{has, shared};
 ghost use Rattle.publish_least.specs.Sets.{IsJoined};
@@ -21,7 +22,8 @@ pub(crate) fn joined(alloc: Global, xs: &[usize], ys: &[usize]) -> Result<Vec<us
     }
 }
 
-/// The place to take where this one is inherited: None where it is in the set, else the first of the set.
+/// The place to take where this one is inherited: None where it is in the set,
+/// else the first of the set.
 pub(crate) fn chosen(set: &[usize], inherited: usize) -> Option<usize>
     requires rises { IsNonDecreasing set.now }
     requires some { 0 < length set.now }

@@ -114,8 +114,8 @@ fn fewest_lines_in_order(rt: HostRuntime) -> Result<(), Fail> {
     Ok(())
 }
 
-// 64 addresses with two leaves in turn need one line for the block and one for every other address; with 64
-// leaves they need a line each.
+// 64 addresses with two leaves in turn need one line for the block and one for every other address;
+// with 64 leaves they need a line each.
 #[test]
 fn chequered_block(rt: HostRuntime) -> Result<(), Fail> {
     let alloc = rt.alloc();

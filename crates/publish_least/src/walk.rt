@@ -1,11 +1,14 @@
 //! The walks through a store: what is learnt on the way up, and written on the way down.
-ghost use Rattle.std.specs.Prelude.{◌≡◌, ◌≢◌, ℕ, ◌-◌, ◌<◌, ◌≤◌, ◌∷◌, ◌++◌, [], true, length, slice_get, slice_index, Some, None, List, IfOk, OnOk, MatchBool};
+ghost use Rattle.std.specs.Prelude.{◌≡◌, ◌≢◌, ℕ, ◌-◌, ◌<◌, ◌≤◌, ◌∷◌, ◌++◌, [], true, length};
+ghost use Rattle.std.specs.Prelude.{slice_get, slice_index, Some, None, List, IfOk, OnOk};
+ghost use Rattle.std.specs.Prelude.{MatchBool};
 ghost use Rattle.trie_core.specs.declared.node.Pair.{Pair};
 ghost use Rattle.trie_core.specs.Tree.{node, height};
 ghost use Rattle.trie_core.specs.Store.{meaning, IsOf};
 ghost use Rattle.publish_least.specs.Price.{has};
 ghost use Rattle.publish_least.specs.Choice.{order_after, standing, root_line, lines_below};
-ghost use Rattle.publish_least.specs.Memo.{table_of, IsSet, IsKnown, IsMemo, Stays, IsNoted, IsSetOf, HasPlace, single};
+ghost use Rattle.publish_least.specs.Memo.{table_of, IsSet, IsKnown, IsMemo, Stays, IsNoted};
+ghost use Rattle.publish_least.specs.Memo.{IsSetOf, HasPlace, single};
 
 use crate::half::halves;
 use crate::line::Line;
@@ -30,8 +33,8 @@ impl Memo {
         })
     }
 
-    /// Walks through the tree of a record, and passes over nodes that were seen. No tree is higher than 128, so the
-    /// recursion stays shallow.
+    /// Walks through the tree of a record, and passes over nodes that were seen. No tree is higher
+    /// than 128, so the recursion stays shallow.
     pub(crate) fn learn(&mut self, alloc: Global, store: &Store, rec: Rec) -> Result<(), Memory>
         requires of { IsOf store.now rec }
         requires memo { IsMemo store.now (table_of self.old) }
@@ -122,7 +125,8 @@ impl Memo {
         }
     }
 
-    // The place of the leaf that stands at the root of a record, for which a line is written where it is not inherited.
+    // The place of the leaf that stands at the root of a record,
+    // for which a line is written where it is not inherited.
     fn stand(
         &self,
         rec: Rec,

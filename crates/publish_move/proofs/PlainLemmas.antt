@@ -1,5 +1,6 @@
 -- A block that is plain by its length or its first address is plain by its addresses.
-use Rattle.std.proofs.Common.{inl, inr, ◌≡◌, ℕ, ◌+◌, ◌-◌, ◌*◌, ◌%◌, ◌^◌, ◌<◌, ◌≤◌, true, false, ◌||◌, nat_le, ap, ◌∙◌, arith}
+use Rattle.std.proofs.Common.{inl, inr, ◌≡◌, ℕ, ◌+◌, ◌-◌, ◌*◌, ◌%◌, ◌^◌, ◌<◌, ◌≤◌, true, false}
+use Rattle.std.proofs.Common.{◌||◌, nat_le, ap, ◌∙◌, arith}
 use Rattle.std.proofs.lemmas.Bool.{cases_lt, lt-leb}
 use Rattle.std.proofs.lemmas.Bool.Decides.{nat_tests}
 use Rattle.std.proofs.lemmas.Nat.{pow-add, pow_pos}
@@ -16,7 +17,8 @@ v4_block_ends first k fits below aligned =
     let start : first < 2 ^ (32 - k) * 2 ^ k = omega arith in
     omega (arith, multiple_ends first (2 ^ k) (2 ^ (32 - k)) (pow_pos k) start aligned)
 
-long_enough : (len : ℕ) (first : ℕ) → (nat_le 96 len || nat_le (2 ^ 32) first) ≡ true → first < 2 ^ 32 → 96 ≤ len
+long_enough : (len : ℕ) (first : ℕ) → (nat_le 96 len || nat_le (2 ^ 32) first) ≡ true
+    → first < 2 ^ 32 → 96 ≤ len
 long_enough len first plain low =
     let not : nat_le (2 ^ 32) first ≡ false = lt-leb (2 ^ 32) first low in
     grind (arith, nat_tests)

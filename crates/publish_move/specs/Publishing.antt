@@ -15,5 +15,6 @@ publishing block file world = record {
   blocked = None;
   files = puts (published (record_tree world.session.state.sources) block);
   session = emitted world.session;
-  text = printed_line file (length (published_lines (record_tree world.session.state.sources) block));
+  text =
+      printed_line file (length (published_lines (record_tree world.session.state.sources) block));
 }

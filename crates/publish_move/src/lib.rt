@@ -1,4 +1,5 @@
-//! The last move of `publish JOB BLOCK FILE`: the tree is built, the feed put, and its line printed.
+//! The last move of `publish JOB BLOCK FILE`: the tree is built, the feed put,
+//! and its line printed.
 #![tactic(auto)]
 
 mod plain;

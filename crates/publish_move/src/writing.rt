@@ -85,7 +85,8 @@ fn feed_of<R: Threads + Sync, G: Gate, L: Ledger>(
     ensures lines { IfOk result (λ feed. feed.lines
         ≡ length (published_lines (record_tree session.old.state.sources) block)) }
     ensures too_large { result ≡ Err (Stop.Blocked Cause.TooLarge) → IsSpent session.old }
-    ensures causes { IfErr result (λ why. (why ≡ Stop.Blocked Cause.TooLarge) ⊎ (why ≡ Stop.Memory)) }
+    ensures causes { IfErr result
+        (λ why. (why ≡ Stop.Blocked Cause.TooLarge) ⊎ (why ≡ Stop.Memory)) }
     ensures spent { steps.new ≤ steps.old + bound session.old.touched session.old.state.sources }
     ensures grown { HasGrown session.old session.new }
     ensures done { OnOk result (HasEmitted session.old session.new) }

@@ -1,5 +1,7 @@
 -- The text of a block is hexadecimal digits, dots, colons and a slash: a plain field, and clean.
-use Rattle.std.proofs.Common.{inl, inr, ◌≡◌, ◌⊎◌, ℕ, zero, suc, ◌+◌, ◌-◌, ◌/◌, ◌%◌, ◌^◌, ◌<◌, ◌≤◌, Bool, true, false, cond, not, ◌&&◌, ◌||◌, nat_le, nat_lt, All, List, [], ◌∷◌, ◌++◌, length, get_or, decimal, reverse, refl, ap, ◌∙◌, arith}
+use Rattle.std.proofs.Common.{inl, inr, ◌≡◌, ◌⊎◌, ℕ, zero, suc, ◌+◌, ◌-◌, ◌/◌, ◌%◌, ◌^◌, ◌<◌, ◌≤◌}
+use Rattle.std.proofs.Common.{Bool, true, false, cond, not, ◌&&◌, ◌||◌, nat_le, nat_lt, All, List}
+use Rattle.std.proofs.Common.{[], ◌∷◌, ◌++◌, length, get_or, decimal, reverse, refl, ap, ◌∙◌, arith}
 use Rattle.std.specs.Prelude.{codes}
 use Rattle.std.specs.Char.{digit_value}
 use Rattle.std.specs.Int.Digits.{AllBelowBase}
@@ -12,10 +14,12 @@ use Rattle.std.proofs.lemmas.List.{length-append, reverse-append}
 use Rattle.std.proofs.lemmas.List.Folds.{list_all-append}
 use Rattle.std.proofs.lemmas.Str.{IsUtf8-from_ascii}
 use Rattle.std.proofs.lemmas.Str.Ascii.{IsAscii-from_all}
-use Rattle.std.proofs.NetLemmas.Alphabet.{IsDigitOrDot, IsHexOrColon, All-ipv4_text, All-hex_groups_text}
+use Rattle.std.proofs.NetLemmas.Alphabet.{IsDigitOrDot, IsHexOrColon, All-ipv4_text}
+use Rattle.std.proofs.NetLemmas.Alphabet.{All-hex_groups_text}
 use Rattle.std.proofs.NetLemmas.Texts.{AllSegments}
 use Rattle.geo_addr.specs.Lines.{is_blank}
-use Rattle.geo_addr.specs.Printing.{block_text, eight_groups, four_octets, groups_before, number_text, printed_length, text4, text6}
+use Rattle.geo_addr.specs.Printing.{block_text, eight_groups, four_octets, groups_before}
+use Rattle.geo_addr.specs.Printing.{number_text, printed_length, text4, text6}
 use Rattle.geo_addr.specs.Ranges.{IsBlock, Prefix, is_v4, range_of_block}
 use Rattle.csv_lines.specs.Clean.{is_clean}
 use Rattle.csv_lines.specs.Fields.{is_plain}
@@ -36,9 +40,11 @@ colon b (inr one) = grind (arith, nat_tests)
 digit : (b : ℕ) → digit_value b < 10 → is_prefix_byte b ≡ true
 digit b low = grind (arith, nat_tests)
 
-each : (P : ℕ → Type 0) → ((b : ℕ) → P b → is_prefix_byte b ≡ true) → (xs : List ℕ) → All P xs → list_all is_prefix_byte xs ≡ true
+each : (P : ℕ → Type 0) → ((b : ℕ) → P b → is_prefix_byte b ≡ true) → (xs : List ℕ) → All P xs
+    → list_all is_prefix_byte xs ≡ true
 each P f [] h = refl
-each P f (x ∷ xs) h = rw (f x (h 0 0 (omega arith)), each P f xs (λ k d l. h (suc k) d (omega arith))) refl
+each P f (x ∷ xs) h =
+    rw (f x (h 0 0 (omega arith)), each P f xs (λ k d l. h (suc k) d (omega arith))) refl
 
 digits : (xs : List ℕ) → AllDigits 10 xs → list_all is_prefix_byte xs ≡ true
 digits [] h = refl
@@ -52,7 +58,8 @@ four_fit n (suc (suc zero)) = omega arith
 four_fit n (suc (suc (suc zero))) = omega arith
 four_fit n (suc (suc (suc (suc k)))) = omega arith
 
-groups_fit : (count n : ℕ) (gs : List ℕ) → AllBelowBase 65536 gs → AllBelowBase 65536 (groups_before count n gs)
+groups_fit : (count n : ℕ) (gs : List ℕ) → AllBelowBase 65536 gs
+    → AllBelowBase 65536 (groups_before count n gs)
 groups_fit zero n gs fit = fit
 groups_fit (suc count) n gs fit = groups_fit count (n / 65536) ((n % 65536) ∷ gs) (omega arith, fit)
 
@@ -67,7 +74,9 @@ bytes4 n = each IsDigitOrDot dot (text4 n) (All-ipv4_text (four_octets n) (four_
 
 bytes6 : (n : ℕ) → list_all is_prefix_byte (text6 n) ≡ true
 unfolding text6 eight_groups
-bytes6 n = each IsHexOrColon colon (text6 n) (All-hex_groups_text (eight_groups n) (segments (groups_before 8 n []) (groups_fit 8 n [] tt)))
+bytes6 n =
+    each IsHexOrColon colon (text6 n)
+    (All-hex_groups_text (eight_groups n) (segments (groups_before 8 n []) (groups_fit 8 n [] tt)))
 
 number_bytes : (six : Bool) (n : ℕ) → list_all is_prefix_byte (number_text six n) ≡ true
 number_bytes true n = bytes6 n
@@ -89,11 +98,16 @@ prefix_bytes b is =
     let first = number_text (not (is_v4 (range_of_block b))) b.first in
     let len = printed_length b in
     list_all-append is_prefix_byte (first ++ codes "/") (decimal len)
-    ∙ rw (list_all-append is_prefix_byte first (codes "/"), number_bytes (not (is_v4 (range_of_block b))) b.first, length_bytes len (short_length b is)) refl
+    ∙ rw (
+      list_all-append is_prefix_byte first (codes "/"),
+      number_bytes (not (is_v4 (range_of_block b))) b.first,
+      length_bytes len (short_length b is),
+    ) refl
 
 -- ---- what such bytes are
 
-weaker : (q : ℕ → Bool) → ((b : ℕ) → is_prefix_byte b ≡ true → q b ≡ true) → (xs : List ℕ) → list_all is_prefix_byte xs ≡ true → list_all q xs ≡ true
+weaker : (q : ℕ → Bool) → ((b : ℕ) → is_prefix_byte b ≡ true → q b ≡ true) → (xs : List ℕ)
+    → list_all is_prefix_byte xs ≡ true → list_all q xs ≡ true
 weaker q f [] h = refl
 weaker q f (x ∷ xs) h =
     let (one, more) = and_parts (is_prefix_byte x) (list_all is_prefix_byte xs) h in
@@ -106,7 +120,8 @@ no_blank (x ∷ xs) h =
     let other : is_blank x ≡ false = grind (arith, nat_tests) in
     rw other refl
 
-backwards : (xs : List ℕ) → list_all is_prefix_byte xs ≡ true → list_all is_prefix_byte (reverse xs) ≡ true
+backwards : (xs : List ℕ) → list_all is_prefix_byte xs ≡ true
+    → list_all is_prefix_byte (reverse xs) ≡ true
 backwards [] h = refl
 backwards (x ∷ xs) h =
     let (one, more) = and_parts (is_prefix_byte x) (list_all is_prefix_byte xs) h in
@@ -116,17 +131,24 @@ backwards (x ∷ xs) h =
 
 ascii : (xs : List ℕ) → list_all is_prefix_byte xs ≡ true → All (λ b. b < 128) xs
 ascii [] h k d l = absurd (omega arith)
-ascii (x ∷ xs) h zero d l = let (one, more) = and_parts (is_prefix_byte x) (list_all is_prefix_byte xs) h in grind (arith, nat_tests)
-ascii (x ∷ xs) h (suc k) d l = let (one, more) = and_parts (is_prefix_byte x) (list_all is_prefix_byte xs) h in ascii xs more k d (omega arith)
+ascii (x ∷ xs) h zero d l =
+    let (one, more) = and_parts (is_prefix_byte x) (list_all is_prefix_byte xs) h in
+    grind (arith, nat_tests)
+ascii (x ∷ xs) h (suc k) d l =
+    let (one, more) = and_parts (is_prefix_byte x) (list_all is_prefix_byte xs) h in
+    ascii xs more k d (omega arith)
 
 pub plain_block : (b : Prefix) → IsBlock b → list_all is_plain (block_text b) ≡ true
-plain_block b is = weaker is_plain (λ c h. grind (arith, nat_tests)) (block_text b) (prefix_bytes b is)
+plain_block b is =
+    weaker is_plain (λ c h. grind (arith, nat_tests)) (block_text b) (prefix_bytes b is)
 
 pub good_block : (b : Prefix) → IsBlock b → IsGood (block_text b)
 good_block b is =
     let bytes = prefix_bytes b is in
     record {
-      utf8 = IsUtf8-from_ascii (block_text b) (IsAscii-from_all (block_text b) (ascii (block_text b) bytes));
+      utf8 =
+          IsUtf8-from_ascii (block_text b)
+          (IsAscii-from_all (block_text b) (ascii (block_text b) bytes));
       clean = record {
         bytes = weaker is_clean (λ c h. grind (arith, nat_tests)) (block_text b) bytes;
         start = no_blank (block_text b) bytes;
@@ -141,4 +163,8 @@ ascii_block b is = ascii (block_text b) (prefix_bytes b is)
 pub some_block : (b : Prefix) → 0 < length (block_text b)
 some_block b =
     let first = number_text (not (is_v4 (range_of_block b))) b.first in
-    omega (arith, length-append (first ++ codes "/") (decimal (printed_length b)), length-append first (codes "/"))
+    omega (
+      arith,
+      length-append (first ++ codes "/") (decimal (printed_length b)),
+      length-append first (codes "/"),
+    )

@@ -1,6 +1,7 @@
 -- The text of a feed (RFC 8805 section 2.1) that says what lines of blocks and places say.
 -- A byte is its number: 10 is the line feed, 44 the comma.
-use Rattle.std.specs.Prelude.{ℕ, if◌then◌else◌, List, [], ◌∷◌, ◌++◌, flat_map, map, codes, decimal, Option, None, Some}
+use Rattle.std.specs.Prelude.{ℕ, if◌then◌else◌, List, [], ◌∷◌, ◌++◌, flat_map, map, codes, decimal}
+use Rattle.std.specs.Prelude.{Option, None, Some}
 use Rattle.std.specs.List.{list_all}
 use Rattle.geo_addr.specs.Printing.{block_text}
 use Rattle.geo_addr.specs.Ranges.{Prefix}

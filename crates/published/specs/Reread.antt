@@ -1,5 +1,6 @@
 -- What a feed that was written of lines reads as.
-use Rattle.std.specs.Prelude.{◌≡◌, ◌≢◌, ℕ, List, [], length, map, All, AllPairs, IsUtf8, Ok, Option, None, Some}
+use Rattle.std.specs.Prelude.{◌≡◌, ◌≢◌, ℕ, List, [], length, map, All, AllPairs, IsUtf8, Ok, Option}
+use Rattle.std.specs.Prelude.{None, Some}
 use Rattle.std.specs.List.{enumerate_from}
 use Rattle.geo_addr.specs.Prefixes.{block_in}
 use Rattle.geo_addr.specs.Printing.{block_text}

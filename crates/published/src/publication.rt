@@ -7,7 +7,8 @@ ghost use Rattle.feed_csv.specs.File.{feed};
 ghost use Rattle.mmdb_file.specs.Writing.{place_tree};
 ghost use Rattle.publish_least.specs.Choice.{lines_of, part_of};
 ghost use Rattle.publish_least.specs.Lines.{IsPlain};
-ghost use Rattle.published.specs.PlaceLines.{IsPublished, published, published_feed, published_lines};
+ghost use Rattle.published.specs.PlaceLines.{IsPublished, published, published_feed};
+ghost use Rattle.published.specs.PlaceLines.{published_lines};
 ghost use Rattle.published.specs.Reread.{IsCleanAt};
 
 use crate::file::feed_text;

@@ -1,5 +1,6 @@
 -- A name is ASCII, so it is a text; and a name that is found is the one that was sought.
-use Rattle.std.proofs.Common.{◌≡◌, ℕ, ◌<◌, Bool, true, false, ◌&&◌, List, [], ◌∷◌, length, IsTrue, refl, arith, nat_eq, nat_le}
+use Rattle.std.proofs.Common.{◌≡◌, ℕ, ◌<◌, Bool, true, false, ◌&&◌, List, [], ◌∷◌, length, IsTrue}
+use Rattle.std.proofs.Common.{refl, arith, nat_eq, nat_le}
 use Rattle.std.proofs.lemmas.Bool.Decides.{nat_tests}
 use Rattle.std.proofs.lemmas.Str.{IsUtf8-from_ascii}
 use Rattle.std.proofs.lemmas.Str.Ascii.{IsAscii-cons, IsAscii-nil}
@@ -26,14 +27,18 @@ letter_is_ascii b h = grind (arith, nat_tests)
 bytes_are_ascii : (bs : List ℕ) → list_all is_name_byte bs ≡ true → IsAscii bs
 bytes_are_ascii [] h = IsAscii-nil
 bytes_are_ascii (b ∷ bs) h =
-    IsAscii-cons b bs (byte_is_ascii b (and_left (is_name_byte b) (list_all is_name_byte bs) h)) (bytes_are_ascii bs (and_right (is_name_byte b) (list_all is_name_byte bs) h))
+    IsAscii-cons b bs (byte_is_ascii b (and_left (is_name_byte b) (list_all is_name_byte bs) h))
+    (bytes_are_ascii bs (and_right (is_name_byte b) (list_all is_name_byte bs) h))
 
 pub name_is_text : (name : List ℕ) → IsTrue (is_name name) → IsUtf8 name
 name_is_text [] h = IsUtf8-from_ascii [] IsAscii-nil
 name_is_text (b ∷ bs) h =
-    let front : (is_ascii_alphabetic b && nat_le (length bs) 63) ≡ true = and_left (is_ascii_alphabetic b && nat_le (length bs) 63) (list_all is_name_byte bs) h in
-    IsUtf8-from_ascii (b ∷ bs) (IsAscii-cons b bs (letter_is_ascii b (and_left (is_ascii_alphabetic b) (nat_le (length bs) 63) front))
-    (bytes_are_ascii bs (and_right (is_ascii_alphabetic b && nat_le (length bs) 63) (list_all is_name_byte bs) h)))
+    let front : (is_ascii_alphabetic b && nat_le (length bs) 63) ≡ true =
+    and_left (is_ascii_alphabetic b && nat_le (length bs) 63) (list_all is_name_byte bs) h in
+    IsUtf8-from_ascii (b ∷ bs) (IsAscii-cons b bs
+    (letter_is_ascii b (and_left (is_ascii_alphabetic b) (nat_le (length bs) 63) front))
+    (bytes_are_ascii bs
+    (and_right (is_ascii_alphabetic b && nat_le (length bs) 63) (list_all is_name_byte bs) h)))
 
 pub same_is : (xs ys : List ℕ) → same_text xs ys ≡ true → xs ≡ ys
 same_is [] [] e = refl

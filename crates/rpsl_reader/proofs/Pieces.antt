@@ -15,9 +15,11 @@ pub given-append : (s : State) (a b : List ℕ) → given s (a ++ b) ≡ given s
 unfolding given after
 given-append s [] b = refl
 given-append s (x ∷ a) b =
-    ap (λ t. gives s x ++ t) (given-append (step s x) a b) ∙ sym (append_assoc (gives s x) (given (step s x) a) (given (after (step s x) a) b))
+    ap (λ t. gives s x ++ t) (given-append (step s x) a b)
+    ∙ sym (append_assoc (gives s x) (given (step s x) a) (given (after (step s x) a) b))
 
-pub wanted-append : (w : Wanted) (xs ys : List Item) → wanted w (xs ++ ys) ≡ wanted w xs ++ wanted w ys
+pub wanted-append : (w : Wanted) (xs ys : List Item)
+    → wanted w (xs ++ ys) ≡ wanted w xs ++ wanted w ys
 unfolding wanted
 wanted-append w xs ys = filter_map-append (wanted_of w) xs ys
 

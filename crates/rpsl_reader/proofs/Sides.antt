@@ -1,5 +1,8 @@
 -- The bytes of a name at the head of a line, and what stands behind them.
-use Rattle.std.proofs.Common.{◌≡◌, ℕ, suc, ◌+◌, ◌<◌, ◌==◌, Bool, true, false, cond, not, ◌&&◌, List, [], ◌∷◌, ◌++◌, length, take, drop, get_or, ◌-◌, ◌≤◌, ◌≢◌, map, IsTrue, Option, Some, None, refl, sym, ap, subst, ◌∙◌, arith, nat_le, inl, inr}
+use Rattle.std.proofs.Common.{◌≡◌, ℕ, suc, ◌+◌, ◌<◌, ◌==◌, Bool, true, false, cond, not, ◌&&◌, List}
+use Rattle.std.proofs.Common.{[], ◌∷◌, ◌++◌, length, take, drop, get_or, ◌-◌, ◌≤◌, ◌≢◌, map, IsTrue}
+use Rattle.std.proofs.Common.{Option, Some, None, refl, sym, ap, subst, ◌∙◌, arith, nat_le, inl}
+use Rattle.std.proofs.Common.{inr}
 use Rattle.std.proofs.lemmas.Bool.{cases_lt, lt-ltb, ne_eqb}
 use Rattle.std.proofs.lemmas.Bool.Decides.{nat_tests}
 use Rattle.std.proofs.lemmas.List.{take-append-drop, take_all}
@@ -10,14 +13,17 @@ use Rattle.std.specs.Char.{is_ascii_alphabetic, to_ascii_lowercase}
 use Rattle.std.specs.List.{list_all, position, position_or_len}
 use Rattle.geo_addr.specs.Prefixes.{cut_first}
 use Rattle.rpsl_reader.proofs.Names.{and_left, and_right}
-use Rattle.rpsl_reader.specs.Attributes.{HasSides, Numbered, behind, continued, continues, is_attribute, is_name, is_name_byte, is_named, joined, may_begin, name_of, said_of, value_of}
+use Rattle.rpsl_reader.specs.Attributes.{HasSides, Numbered, behind, continued, continues}
+use Rattle.rpsl_reader.specs.Attributes.{is_attribute, is_name, is_name_byte, is_named, joined}
+use Rattle.rpsl_reader.specs.Attributes.{may_begin, name_of, said_of, value_of}
 
 -- where the first byte stands that may not stand in a name
 abbrev end_of : List ℕ → ℕ
 end_of line = position_or_len (λ b. not (is_name_byte b)) line
 
 -- a byte that was not found stands past the end
-pub end_past : (line : List ℕ) → None ≡ position (λ b. not (is_name_byte b)) line → length line ≡ end_of line
+pub end_past : (line : List ℕ) → None ≡ position (λ b. not (is_name_byte b)) line
+    → length line ≡ end_of line
 end_past line none =
     elim (cases_lt (end_of line) (length line)) [
       | inl inside ↦
@@ -45,11 +51,16 @@ split_of : (line : List ℕ) → IsSplit line (end_of line)
 split_of [] = record { named = refl; stops = tt }
 split_of (b ∷ bs) =
     let s : IsSplit bs (end_of bs) = split_of bs in
-    let by : (t : Bool) → is_name_byte b ≡ t → IsSplit (b ∷ bs) (cond (not (not t)) (1 + end_of bs) 0) =
-    λ t. elim t as (λ t. is_name_byte b ≡ t → IsSplit (b ∷ bs) (cond (not (not t)) (1 + end_of bs) 0)) [
+    let by : (t : Bool) → is_name_byte b ≡ t
+    → IsSplit (b ∷ bs) (cond (not (not t)) (1 + end_of bs) 0) =
+    λ t.
+    elim t as (λ t. is_name_byte b ≡ t → IsSplit (b ∷ bs) (cond (not (not t)) (1 + end_of bs) 0)) [
       | true ↦ λ e.
           let one : suc (end_of bs) ≡ 1 + end_of bs = omega arith in
-          let longer : IsSplit (b ∷ bs) (suc (end_of bs)) = record { named = ap (λ t. t && list_all is_name_byte (take (end_of bs) bs)) e ∙ s.named; stops = s.stops } in
+          let longer : IsSplit (b ∷ bs) (suc (end_of bs)) = record {
+            named = ap (λ t. t && list_all is_name_byte (take (end_of bs) bs)) e ∙ s.named;
+            stops = s.stops;
+          } in
           subst (λ (n : ℕ). IsSplit (b ∷ bs) n) one longer
       | false ↦ λ e. record { named = refl; stops = e }
     ] in
@@ -67,15 +78,21 @@ letter_is : (b : ℕ) → is_ascii_alphabetic b ≡ true → is_name_byte b ≡ 
 letter_is b h = grind (arith, nat_tests)
 
 -- the first colon stands behind the bytes of a name
-cut_there : (name value : List ℕ) → list_all is_name_byte name ≡ true → cut_first 58 (name ++ (58 ∷ value)) ≡ (name, Some value)
+cut_there : (name value : List ℕ) → list_all is_name_byte name ≡ true
+    → cut_first 58 (name ++ (58 ∷ value)) ≡ (name, Some value)
 cut_there [] value all = refl
 cut_there (b ∷ bs) value all =
-    rw (no_colon b (and_left (is_name_byte b) (list_all is_name_byte bs) all), cut_there bs value (and_right (is_name_byte b) (list_all is_name_byte bs) all)) refl
+    rw (
+      no_colon b (and_left (is_name_byte b) (list_all is_name_byte bs) all),
+      cut_there bs value (and_right (is_name_byte b) (list_all is_name_byte bs) all),
+    ) refl
 
 -- bytes of a name make one as far as their first and their number allow
 names_are : (name : List ℕ) → list_all is_name_byte name ≡ true → is_name name ≡ may_begin name
 names_are [] all = refl
-names_are (b ∷ bs) all = and_true (is_ascii_alphabetic b && nat_le (length bs) 63) (list_all is_name_byte bs) (and_right (is_name_byte b) (list_all is_name_byte bs) all)
+names_are (b ∷ bs) all =
+    and_true (is_ascii_alphabetic b && nat_le (length bs) 63) (list_all is_name_byte bs)
+    (and_right (is_name_byte b) (list_all is_name_byte bs) all)
 
 and_false : (b : Bool) → (b && false) ≡ false
 and_false true = refl
@@ -86,27 +103,33 @@ abbrev all_named : List ℕ × Option (List ℕ) → Bool
 all_named (name, None) = false
 all_named (name, Some rest) = list_all is_name_byte name
 
-all_put : (b : ℕ) (c : List ℕ × Option (List ℕ)) → all_named c ≡ false → all_named (b ∷ c.0, c.1) ≡ false
+all_put : (b : ℕ) (c : List ℕ × Option (List ℕ)) → all_named c ≡ false
+    → all_named (b ∷ c.0, c.1) ≡ false
 all_put b (name, None) e = refl
 all_put b (name, Some rest) e = ap (λ t. is_name_byte b && t) e ∙ and_false (is_name_byte b)
 
-all_fails : (b : ℕ) (c : List ℕ × Option (List ℕ)) → is_name_byte b ≡ false → all_named (b ∷ c.0, c.1) ≡ false
+all_fails : (b : ℕ) (c : List ℕ × Option (List ℕ)) → is_name_byte b ≡ false
+    → all_named (b ∷ c.0, c.1) ≡ false
 all_fails b (name, None) e = refl
 all_fails b (name, Some rest) e = ap (λ t. t && list_all is_name_byte name) e
 
 -- no name stands before the first colon where something else stands behind the bytes of a name
-none_named : (name rest : List ℕ) → list_all is_name_byte name ≡ true → Stops rest → Bare rest → all_named (cut_first 58 (name ++ rest)) ≡ false
+none_named : (name rest : List ℕ) → list_all is_name_byte name ≡ true → Stops rest → Bare rest
+    → all_named (cut_first 58 (name ++ rest)) ≡ false
 none_named [] [] all stops bare = refl
 none_named [] (r ∷ rs) all stops bare = rw bare (all_fails r (cut_first 58 rs) stops)
 none_named (b ∷ bs) rest all stops bare =
     rw (no_colon b (and_left (is_name_byte b) (list_all is_name_byte bs) all))
-    (all_put b (cut_first 58 (bs ++ rest)) (none_named bs rest (and_right (is_name_byte b) (list_all is_name_byte bs) all) stops bare))
+    (all_put b (cut_first 58 (bs ++ rest))
+    (none_named bs rest (and_right (is_name_byte b) (list_all is_name_byte bs) all) stops bare))
 
 name_all : (name : List ℕ) → is_name name ≡ true → list_all is_name_byte name ≡ true
 name_all [] e = absurd (let f : false ≡ true = e in cc)
 name_all (b ∷ bs) e =
-    let front : (is_ascii_alphabetic b && nat_le (length bs) 63) ≡ true = and_left (is_ascii_alphabetic b && nat_le (length bs) 63) (list_all is_name_byte bs) e in
-    ap (λ t. t && list_all is_name_byte bs) (letter_is b (and_left (is_ascii_alphabetic b) (nat_le (length bs) 63) front))
+    let front : (is_ascii_alphabetic b && nat_le (length bs) 63) ≡ true =
+    and_left (is_ascii_alphabetic b && nat_le (length bs) 63) (list_all is_name_byte bs) e in
+    ap (λ t. t && list_all is_name_byte bs)
+    (letter_is b (and_left (is_ascii_alphabetic b) (nat_le (length bs) 63) front))
     ∙ and_right (is_ascii_alphabetic b && nat_le (length bs) 63) (list_all is_name_byte bs) e
 
 named_all : (c : List ℕ × Option (List ℕ)) → is_named c ≡ true → all_named c ≡ true
@@ -123,28 +146,40 @@ none_is c e =
     by (is_named c) refl
 
 -- a colon behind the bytes of a name
-pub has_sides : (line value : List ℕ) → drop (end_of line) line ≡ 58 ∷ value → may_begin (take (end_of line) line) ≡ true → HasSides line (take (end_of line) line) value
+pub has_sides : (line value : List ℕ) → drop (end_of line) line ≡ 58 ∷ value
+    → may_begin (take (end_of line) line) ≡ true → HasSides line (take (end_of line) line) value
 unfolding is_attribute
 has_sides line value colon begins =
     let s : IsSplit line (end_of line) = split_of line in
-    let whole : line ≡ take (end_of line) line ++ (58 ∷ value) = sym (ap (λ t. take (end_of line) line ++ t) (sym colon) ∙ take-append-drop (end_of line) line) in
-    let sides : cut_first 58 line ≡ (take (end_of line) line, Some value) = ap (cut_first 58) whole ∙ cut_there (take (end_of line) line) value s.named in
-    record { begins = ap is_named sides ∙ names_are (take (end_of line) line) s.named ∙ begins; sides = sides }
+    let whole : line ≡ take (end_of line) line ++ (58 ∷ value) = sym
+    (ap (λ t. take (end_of line) line ++ t) (sym colon) ∙ take-append-drop (end_of line) line) in
+    let sides : cut_first 58 line ≡ (take (end_of line) line, Some value) =
+    ap (cut_first 58) whole ∙ cut_there (take (end_of line) line) value s.named in
+    record {
+      begins = ap is_named sides ∙ names_are (take (end_of line) line) s.named ∙ begins;
+      sides = sides;
+    }
 
 -- a colon behind the bytes of no name
-pub no_name : (line value : List ℕ) → drop (end_of line) line ≡ 58 ∷ value → may_begin (take (end_of line) line) ≡ false → is_attribute line ≡ false
+pub no_name : (line value : List ℕ) → drop (end_of line) line ≡ 58 ∷ value
+    → may_begin (take (end_of line) line) ≡ false → is_attribute line ≡ false
 unfolding is_attribute
 no_name line value colon not =
     let s : IsSplit line (end_of line) = split_of line in
-    let whole : line ≡ take (end_of line) line ++ (58 ∷ value) = sym (ap (λ t. take (end_of line) line ++ t) (sym colon) ∙ take-append-drop (end_of line) line) in
-    ap (λ t. is_named (cut_first 58 t)) whole ∙ ap is_named (cut_there (take (end_of line) line) value s.named) ∙ names_are (take (end_of line) line) s.named ∙ not
+    let whole : line ≡ take (end_of line) line ++ (58 ∷ value) = sym
+    (ap (λ t. take (end_of line) line ++ t) (sym colon) ∙ take-append-drop (end_of line) line) in
+    ap (λ t. is_named (cut_first 58 t)) whole
+    ∙ ap is_named (cut_there (take (end_of line) line) value s.named)
+    ∙ names_are (take (end_of line) line) s.named ∙ not
 
 -- something else behind them
 pub no_sides : (line : List ℕ) → Bare (drop (end_of line) line) → is_attribute line ≡ false
 unfolding is_attribute
 no_sides line bare =
     let s : IsSplit line (end_of line) = split_of line in
-    none_is (cut_first 58 line) (ap (λ t. all_named (cut_first 58 t)) (sym (take-append-drop (end_of line) line)) ∙ none_named (take (end_of line) line) (drop (end_of line) line) s.named s.stops bare)
+    none_is (cut_first 58 line)
+    (ap (λ t. all_named (cut_first 58 t)) (sym (take-append-drop (end_of line) line))
+    ∙ none_named (take (end_of line) line) (drop (end_of line) line) s.named s.stops bare)
 
 bare_nil : (rest : List ℕ) → length rest < 1 → Bare rest
 bare_nil [] none = tt
@@ -154,28 +189,38 @@ bare_other : (rest : List ℕ) (d : ℕ) → get_or rest 0 d ≢ 58 → Bare res
 bare_other [] d other = tt
 bare_other (r ∷ rs) d other = ne_eqb r 58 other
 
-colon_is : (rest : List ℕ) (d : ℕ) → 1 ≤ length rest → get_or rest 0 d ≡ 58 → rest ≡ 58 ∷ take (length rest - 1) (drop 1 rest)
+colon_is : (rest : List ℕ) (d : ℕ) → 1 ≤ length rest → get_or rest 0 d ≡ 58
+    → rest ≡ 58 ∷ take (length rest - 1) (drop 1 rest)
 colon_is [] d some is = absurd (omega arith)
 colon_is (r ∷ rs) d some is = λ i. is i ∷ sym (take_all (length (r ∷ rs) - 1) rs (omega arith)) i
 
 -- the steps of the function that looks for the sides
-pub no_rest : (line rest : List ℕ) (n : ℕ) → n ≡ end_of line → rest ≡ drop n line → length rest < 1 → is_attribute line ≡ false
-no_rest line rest n at is none = no_sides line (subst Bare (is ∙ ap (λ k. drop k line) at) (bare_nil rest none))
+pub no_rest : (line rest : List ℕ) (n : ℕ) → n ≡ end_of line → rest ≡ drop n line → length rest < 1
+    → is_attribute line ≡ false
+no_rest line rest n at is none =
+    no_sides line (subst Bare (is ∙ ap (λ k. drop k line) at) (bare_nil rest none))
 
-pub other_rest : (line rest : List ℕ) (n d : ℕ) → n ≡ end_of line → rest ≡ drop n line → get_or rest 0 d ≢ 58 → is_attribute line ≡ false
-other_rest line rest n d at is other = no_sides line (subst Bare (is ∙ ap (λ k. drop k line) at) (bare_other rest d other))
+pub other_rest : (line rest : List ℕ) (n d : ℕ) → n ≡ end_of line → rest ≡ drop n line
+    → get_or rest 0 d ≢ 58 → is_attribute line ≡ false
+other_rest line rest n d at is other =
+    no_sides line (subst Bare (is ∙ ap (λ k. drop k line) at) (bare_other rest d other))
 
-pub unnamed_rest : (line name rest : List ℕ) (n d : ℕ) → n ≡ end_of line → name ≡ take n line → rest ≡ drop n line → 1 ≤ length rest → get_or rest 0 d ≡ 58 → may_begin name ≡ false → is_attribute line ≡ false
+pub unnamed_rest : (line name rest : List ℕ) (n d : ℕ) → n ≡ end_of line → name ≡ take n line
+    → rest ≡ drop n line → 1 ≤ length rest → get_or rest 0 d ≡ 58 → may_begin name ≡ false
+    → is_attribute line ≡ false
 unnamed_rest line name rest n d at front is some colon not =
-    no_name line (take (length rest - 1) (drop 1 rest)) (sym (is ∙ ap (λ k. drop k line) at) ∙ colon_is rest d some colon)
+    no_name line (take (length rest - 1) (drop 1 rest))
+    (sym (is ∙ ap (λ k. drop k line) at) ∙ colon_is rest d some colon)
     (ap may_begin (sym (front ∙ ap (λ k. take k line) at)) ∙ not)
 
-pub named_rest : (line name rest : List ℕ) (n d : ℕ) → n ≡ end_of line → name ≡ take n line → rest ≡ drop n line → 1 ≤ length rest → get_or rest 0 d ≡ 58 → may_begin name ≡ true
+pub named_rest : (line name rest : List ℕ) (n d : ℕ) → n ≡ end_of line → name ≡ take n line
+    → rest ≡ drop n line → 1 ≤ length rest → get_or rest 0 d ≡ 58 → may_begin name ≡ true
     → HasSides line name (take (length rest - 1) (drop 1 rest))
 named_rest line name rest n d at front is some colon begins =
     let same : name ≡ take (end_of line) line = front ∙ ap (λ k. take k line) at in
     subst (λ (t : List ℕ). HasSides line t (take (length rest - 1) (drop 1 rest))) (sym same)
-    (has_sides line (take (length rest - 1) (drop 1 rest)) (sym (is ∙ ap (λ k. drop k line) at) ∙ colon_is rest d some colon) (ap may_begin (sym same) ∙ begins))
+    (has_sides line (take (length rest - 1) (drop 1 rest)) (sym (is ∙ ap (λ k. drop k line) at)
+    ∙ colon_is rest d some colon) (ap may_begin (sym same) ∙ begins))
 
 -- a line that continues an attribute begins none
 pub continues_none : (line : List ℕ) → continues line ≡ true → is_attribute line ≡ false
@@ -191,24 +236,31 @@ pub sides_named : (line name value : List ℕ) → HasSides line name value → 
 unfolding is_attribute
 sides_named line name value h = ap is_named (sym h.sides) ∙ h.begins
 
-pub sides_name : (line name value : List ℕ) → HasSides line name value → name_of line ≡ map to_ascii_lowercase name
+pub sides_name : (line name value : List ℕ) → HasSides line name value
+    → name_of line ≡ map to_ascii_lowercase name
 sides_name line name value h = ap (λ c. map to_ascii_lowercase c.0) h.sides
 
-pub sides_value : (line name value : List ℕ) (ls : List Numbered) → HasSides line name value → value_of line ls ≡ continued (said_of value) ls
+pub sides_value : (line name value : List ℕ) (ls : List Numbered) → HasSides line name value
+    → value_of line ls ≡ continued (said_of value) ls
 sides_value line name value ls h = ap (λ c. continued (said_of (behind c)) ls) h.sides
 
 -- a step of a loop over lines
-pub later_rest : (left rest : List Numbered) (l : Numbered) → 1 ≤ length left → l ≡ get_or left 0 l → rest ≡ take (length left - 1) (drop 1 left) → left ≡ l ∷ rest
+pub later_rest : (left rest : List Numbered) (l : Numbered) → 1 ≤ length left → l ≡ get_or left 0 l
+    → rest ≡ take (length left - 1) (drop 1 left) → left ≡ l ∷ rest
 later_rest [] rest l some first is = absurd (omega arith)
-later_rest (m ∷ ms) rest l some first is = λ i. sym first i ∷ (sym (take_all (length (m ∷ ms) - 1) ms (omega arith)) ∙ sym is) i
+later_rest (m ∷ ms) rest l some first is =
+    λ i. sym first i ∷ (sym (take_all (length (m ∷ ms) - 1) ms (omega arith)) ∙ sym is) i
 
 -- a value goes on with the next line
-pub continued_step : (value new : List ℕ) (left rest : List Numbered) (l : Numbered) → 1 ≤ length left → l ≡ get_or left 0 l → rest ≡ take (length left - 1) (drop 1 left) → continues l.1 ≡ true → new ≡ joined value (said_of (drop 1 l.1))
+pub continued_step : (value new : List ℕ) (left rest : List Numbered) (l : Numbered)
+    → 1 ≤ length left → l ≡ get_or left 0 l → rest ≡ take (length left - 1) (drop 1 left)
+    → continues l.1 ≡ true → new ≡ joined value (said_of (drop 1 l.1))
     → continued new rest ≡ continued value left
 unfolding continued
 continued_step value new left rest l some first is goes put =
     let more : List ℕ = continued (joined value (said_of (drop 1 l.1))) rest in
     ap (λ t. continued t rest) put
     ∙ sym (ap (continued value) (later_rest left rest l some first is)
-    ∙ ap (λ t. cond t value (cond (continues l.1) more (continued value rest))) (continues_none l.1 goes)
+    ∙ ap (λ t. cond t value (cond (continues l.1) more (continued value rest)))
+    (continues_none l.1 goes)
     ∙ ap (λ t. cond t more (continued value rest)) goes)

@@ -1,6 +1,8 @@
 -- The lines of an object, and the attributes that they make (RFC 2622, section 2).
 -- A byte is its number: 35 is `#`, 37 is `%`, 43 is `+`, 45 is `-`, 58 is `:`, 95 is `_`.
-use Rattle.std.specs.Prelude.{◌≡◌, ℕ, Bool, true, false, not, ◌&&◌, ◌||◌, ◌==◌, nat_le, if◌then◌else◌, List, [], ◌∷◌, ◌++◌, length, map, drop, Option, None, Some}
+use Rattle.std.specs.Prelude.{◌≡◌, ℕ, Bool, true, false, not, ◌&&◌, ◌||◌, ◌==◌, nat_le}
+use Rattle.std.specs.Prelude.{if◌then◌else◌, List, [], ◌∷◌, ◌++◌, length, map, drop, Option, None}
+use Rattle.std.specs.Prelude.{Some}
 use Rattle.std.specs.Char.{is_ascii_alphabetic, is_ascii_alphanumeric, to_ascii_lowercase}
 use Rattle.std.specs.List.{list_all}
 use Rattle.geo_addr.specs.Lines.{is_blank, trimmed}
@@ -63,14 +65,17 @@ said_of text = trimmed (cut_first 35 text).0
 
 -- a value and what is said behind it: one space between them, and none where either is empty
 abbrev pub joined : (value said : List ℕ) → List ℕ
-joined value said = if is_empty said then value else (if is_empty value then said else value ++ (32 ∷ said))
+joined value said =
+    if is_empty said then value else (if is_empty value then said else value ++ (32 ∷ said))
 
--- a value with the lines that continue it, up to the next attribute; a continuation is read without its first byte
+-- a value with the lines that continue it, up to the next attribute;
+-- a continuation is read without its first byte
 unfoldable pub continued : List ℕ → List Numbered → List ℕ
 continued value [] = value
 continued value (l ∷ ls) =
     if is_attribute l.1 then value
-    else (if continues l.1 then continued (joined value (said_of (drop 1 l.1))) ls else continued value ls)
+    else (if continues l.1 then continued (joined value (said_of (drop 1 l.1))) ls
+    else continued value ls)
 
 -- what stands behind the first colon of a line
 abbrev pub behind : List ℕ × Option (List ℕ) → List ℕ

@@ -1,5 +1,6 @@
 -- What a reader keeps in its fields, and what a piece that was read changes of it.
-use Rattle.std.specs.Prelude.{◌≡◌, ℕ, ◌+◌, ◌^◌, ◌<◌, ◌≤◌, length, Bool, true, false, if◌then◌else◌, List, [], ◌++◌, fold, Option, None, Some}
+use Rattle.std.specs.Prelude.{◌≡◌, ℕ, ◌+◌, ◌^◌, ◌<◌, ◌≤◌, length, Bool, true, false, if◌then◌else◌}
+use Rattle.std.specs.Prelude.{List, [], ◌++◌, fold, Option, None, Some}
 use Rattle.rpsl_reader.specs.declared.item.Item.{Item}
 use Rattle.rpsl_reader.specs.Attributes.{Numbered}
 use Rattle.rpsl_reader.specs.Objects.{longest, size}
@@ -27,13 +28,15 @@ pub record IsCounted (fed lines : ℕ) : Type 0 where
   pub fits : fed < 2 ^ 63
 
 -- what a reader keeps of its fields
-pub record IsReader (fed lines : ℕ) (pending : List ℕ) (first : Option ℕ) (bytes : ℕ) (ls : List Numbered) : Type 0 where
+pub record IsReader (fed lines : ℕ) (pending : List ℕ) (first : Option ℕ) (bytes : ℕ)
+    (ls : List Numbered) : Type 0 where
   pub counts : IsCounted fed lines
   pub bounded : length pending ≤ most + 1
   pub group : IsOpen first bytes ls
 
--- what a piece changes: the counts; whether a line ended in it, so that its tail begins a line; the open group, which keeps
--- the lines from before or has only those of the piece; and the items that it gives
+-- what a piece changes: the counts; whether a line ended in it, so that its tail begins a line; the
+-- open group, which keeps the lines from before or has only those of the piece;
+-- and the items that it gives
 pub record Change : Type 0 where
   pub fed : ℕ
   pub lines : ℕ
@@ -67,7 +70,8 @@ accepted r c = record {
   };
 }
 
--- the open group inside a piece: the lines that the reader holds, whether they are still in it, and those of the piece
+-- the open group inside a piece: the lines that the reader holds, whether they are still in it,
+-- and those of the piece
 pub record Gathering : Type 0 where
   pub held : List Numbered
   pub keeps : Bool

@@ -8,7 +8,9 @@ use Rattle.rpsl_reader.specs.Selections.{Wanted, wanted}
 
 -- two pieces, one after the other, are one piece
 abbrev pub PiecesJoin : Type 0
-PiecesJoin = (s : State) (a b : List ℕ) → (after s (a ++ b) ≡ after (after s a) b) × (given s (a ++ b) ≡ given s a ++ given (after s a) b)
+PiecesJoin =
+    (s : State) (a b : List ℕ) → (after s (a ++ b) ≡ after (after s a) b)
+    × (given s (a ++ b) ≡ given s a ++ given (after s a) b)
 
 -- what is given on the way and at the end is what the text says
 abbrev pub GivenIsWhole : Type 0

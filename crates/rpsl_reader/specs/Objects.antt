@@ -1,11 +1,13 @@
 -- The objects of a dump (RFC 2622, section 2), and the notes on what is passed over.
-use Rattle.std.specs.Prelude.{ℕ, not, nat_lt, if◌then◌else◌, List, [], ◌∷◌, map, filter, flat_map, length, sum_by}
+use Rattle.std.specs.Prelude.{ℕ, not, nat_lt, if◌then◌else◌, List, [], ◌∷◌, map, filter, flat_map}
+use Rattle.std.specs.Prelude.{length, sum_by}
 use Rattle.std.specs.List.{slice_split}
 use Rattle.geo_addr.specs.Lines.{numbered_lines}
 use Rattle.geo_terms.specs.declared.note.Rule.TheVariants.{P01, P02}
 use Rattle.rpsl_reader.specs.declared.item.Item.{Item}
 use Rattle.rpsl_reader.specs.declared.item.Item.TheVariants.{Whole, Passed}
-use Rattle.rpsl_reader.specs.Attributes.{Numbered, attribute, attributes, is_attribute, is_comment, is_end, is_stray}
+use Rattle.rpsl_reader.specs.Attributes.{Numbered, attribute, attributes, is_attribute, is_comment}
+use Rattle.rpsl_reader.specs.Attributes.{is_end, is_stray}
 
 -- the most bytes of an object's lines, line ends not counted
 abbrev pub longest : ℕ
@@ -23,11 +25,13 @@ stray l = Passed l.0 P02
 abbrev pub strays : List Numbered → List Item
 strays ls = map stray (filter (λ l. is_stray l.1) ls)
 
--- the object and the notes that lines say: all before the first attribute is passed over with a note
+-- the object and the notes that lines say: all before the first
+-- attribute is passed over with a note
 unfoldable pub items : List Numbered → List Item
 items [] = []
 items (l ∷ ls) =
-    if is_attribute l.1 then Whole (record { line = l.0; parts = attribute l ls ∷ attributes ls }) ∷ strays ls
+    if is_attribute l.1
+    then Whole (record { line = l.0; parts = attribute l ls ∷ attributes ls }) ∷ strays ls
     else stray l ∷ items ls
 
 -- the note on lines that are too long together: on the first of them

@@ -1,5 +1,6 @@
 -- A text read byte by byte: what is kept between two bytes, and what each byte gives.
-use Rattle.std.specs.Prelude.{ℕ, ◌+◌, ◌==◌, nat_le, nat_lt, if◌then◌else◌, List, [], ◌∷◌, ◌++◌, length, take, drop, fold}
+use Rattle.std.specs.Prelude.{ℕ, ◌+◌, ◌==◌, nat_le, nat_lt, if◌then◌else◌, List, [], ◌∷◌, ◌++◌}
+use Rattle.std.specs.Prelude.{length, take, drop, fold}
 use Rattle.std.specs.List.{list_all}
 use Rattle.std.specs.Str.Lines.{strip_carriage_return}
 use Rattle.geo_addr.specs.Lines.{is_blank, without_mark}
@@ -30,11 +31,13 @@ none = within []
 abbrev pub start : State
 start = record { lines = 0; pending = []; group = none }
 
--- how many bytes of a line are kept as they are: the longest group, a byte order mark and a carriage return
+-- how many bytes of a line are kept as they are: the longest group,
+-- a byte order mark and a carriage return
 abbrev pub most : ℕ
 most = 1048580
 
--- the byte that stands for others, after one more: the newest while the ones before it are blanks, else an `x`
+-- the byte that stands for others, after one more: the newest while the ones
+-- before it are blanks, else an `x`
 abbrev pub newer : ℕ → ℕ → ℕ
 newer byte next = if is_blank byte then next else 120
 
@@ -55,7 +58,9 @@ first_number (m ∷ ms) n = m.0
 
 -- a group with one more line
 unfoldable pub with_line : Group → Numbered → Group
-with_line (within ls) l = if nat_lt longest (size ls + length l.1) then over (first_number ls l.0) else within (ls ++ (l ∷ []))
+with_line (within ls) l =
+    if nat_lt longest (size ls + length l.1) then over (first_number ls l.0)
+    else within (ls ++ (l ∷ []))
 with_line (over n) l = over n
 
 -- the group after a line
@@ -74,7 +79,11 @@ ended_by g l = if is_comment l.1 then [] else (if is_end l.1 then said_by g else
 -- the state after one more byte
 abbrev pub step : State → ℕ → State
 step s b =
-    if b == 10 then record { lines = s.lines + 1; pending = []; group = group_after s.group (line_of (s.lines + 1) s.pending) }
+    if b == 10 then record {
+      lines = s.lines + 1;
+      pending = [];
+      group = group_after s.group (line_of (s.lines + 1) s.pending);
+    }
     else record { lines = s.lines; pending = grown s.pending b; group = s.group }
 
 -- the items that one more byte gives

@@ -1,12 +1,14 @@
 -- Which objects, and which attributes of them, a reader is asked for.
-use Rattle.std.specs.Prelude.{ℕ, Bool, ◌||◌, if◌then◌else◌, List, [], ◌∷◌, filter, filter_map, Option, None, Some}
+use Rattle.std.specs.Prelude.{ℕ, Bool, ◌||◌, if◌then◌else◌, List, [], ◌∷◌, filter, filter_map}
+use Rattle.std.specs.Prelude.{Option, None, Some}
 use Rattle.std.specs.List.{list_any}
 use Rattle.geo_terms.specs.PlaceForm.{same_text}
 use Rattle.rpsl_reader.specs.declared.item.Attribute.{Attribute}
 use Rattle.rpsl_reader.specs.declared.item.Item.{Item}
 use Rattle.rpsl_reader.specs.declared.item.Item.TheVariants.{Whole, Passed}
 
--- all objects as they are, or those of some classes with the attributes of some names; names are in lower case
+-- all objects as they are, or those of some classes with the attributes of some names;
+-- names are in lower case
 pub record Wanted : Type 0 where
   pub everything : Bool
   pub classes : List (List ℕ)
@@ -37,7 +39,8 @@ wanted_parts w (p ∷ ps) = p ∷ filter (λ a. wants_name w a.name) ps
 -- what is handed out of an item; notes are always
 abbrev pub wanted_of : Wanted → Item → Option Item
 wanted_of w (Whole object) =
-    if wants_class w (class_of object.parts) then Some (Whole (record { line = object.line; parts = wanted_parts w object.parts })) else None
+    if wants_class w (class_of object.parts)
+    then Some (Whole (record { line = object.line; parts = wanted_parts w object.parts })) else None
 wanted_of w (Passed line rule) = Some (Passed line rule)
 
 -- what is handed out of some items

@@ -1,7 +1,10 @@
-ghost use Rattle.std.specs.Prelude.{◌≡◌, ◌≤◌, ◌∷◌, ◌++◌, [], false, not, length, map, IfOk, OnOk, IsTrue, MatchOption, filter};
+ghost use Rattle.std.specs.Prelude.{◌≡◌, ◌≤◌, ◌∷◌, ◌++◌, [], false, not, length, map, IfOk, OnOk};
+ghost use Rattle.std.specs.Prelude.{IsTrue, MatchOption, filter};
 ghost use Rattle.std.specs.Char.{to_ascii_lowercase};
 ghost use Rattle.std.specs.List.{list_any, position, position_or_len};
-ghost use Rattle.rpsl_reader.specs.Attributes.{HasSides, attribute, attribute_in, attributes, continued, is_attribute, is_name, is_name_byte, is_stray, joined, may_begin, said_of};
+ghost use Rattle.rpsl_reader.specs.Attributes.{HasSides, attribute, attribute_in, attributes};
+ghost use Rattle.rpsl_reader.specs.Attributes.{continued, is_attribute, is_name, is_name_byte};
+ghost use Rattle.rpsl_reader.specs.Attributes.{is_stray, joined, may_begin, said_of};
 ghost use Rattle.rpsl_reader.specs.Selections.{wants_name};
 
 use crate::item::Attribute;
@@ -22,7 +25,8 @@ pub(crate) struct Sides<'a> {
 
 /// The sides of a line that begins an attribute, and none of another line.
 pub(crate) fn sides_of(line: &[u8]) -> Option<Sides<'_>>
-    ensures { MatchOption result (is_attribute line.now ≡ false) (λ sides. HasSides line.now sides.name.now sides.value.now) }
+    ensures { MatchOption result (is_attribute line.now ≡ false)
+        (λ sides. HasSides line.now sides.name.now sides.value.now) }
 {
     let (name, rest) = line.split_at(name_end(line));
     let [stop, value @ ..] = rest else {
@@ -147,7 +151,8 @@ pub(crate) fn push_attributes(
     lines: &[GroupLine],
     parts: &mut Vec<Attribute>,
 ) -> Result<bool, Memory>
-    ensures parts { OnOk result (parts.new.items ≡ parts.old.items ++ filter (λ a. wants_name selection.now a.name) (attributes lines.now)) }
+    ensures parts { OnOk result (parts.new.items
+        ≡ parts.old.items ++ filter (λ a. wants_name selection.now a.name) (attributes lines.now)) }
     ensures strays { IfOk result (λ strays. strays ≡ list_any (λ l. is_stray l.1) lines.now) }
 {
     let mut left = lines;
@@ -169,7 +174,8 @@ fn push_line(
     lines: &[GroupLine],
     parts: &mut Vec<Attribute>,
 ) -> Result<bool, Memory>
-    ensures parts { OnOk result (parts.new.items ≡ parts.old.items ++ filter (λ a. wants_name selection.now a.name) (attribute_in line.now lines.now)) }
+    ensures parts { OnOk result (parts.new.items ≡ parts.old.items
+        ++ filter (λ a. wants_name selection.now a.name) (attribute_in line.now lines.now)) }
     ensures stray { IfOk result (λ stray. stray ≡ is_stray line.now.1) }
 {
     match sides_of(line.text) {
@@ -191,7 +197,8 @@ fn push_attribute(
     parts: &mut Vec<Attribute>,
 ) -> Result<(), Memory>
     requires { HasSides line.now.1 sides.name.now sides.value.now }
-    ensures { OnOk result (parts.new.items ≡ parts.old.items ++ filter (λ a. wants_name selection.now a.name) (attribute line.now lines.now ∷ [])) }
+    ensures { OnOk result (parts.new.items ≡ parts.old.items
+        ++ filter (λ a. wants_name selection.now a.name) (attribute line.now lines.now ∷ [])) }
 {
     let Some(name) = selection.attribute_name(alloc, sides.name)? else {
         return Ok(());

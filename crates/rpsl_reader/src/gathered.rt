@@ -1,6 +1,7 @@
 ghost use Rattle.std.specs.Prelude.{◌≡◌, ◌++◌, [], true, false, IfOk, OnOk};
 ghost use Rattle.rpsl_reader.specs.Changes.{IsOpen, open_group, open_lines};
-ghost use Rattle.rpsl_reader.specs.Reading.{ended_by, first_number, group_after, said_by, with_line};
+ghost use Rattle.rpsl_reader.specs.Reading.{ended_by, first_number, group_after, said_by};
+ghost use Rattle.rpsl_reader.specs.Reading.{with_line};
 ghost use Rattle.rpsl_reader.specs.Selections.{wanted};
 
 use crate::item::Item;
@@ -35,16 +36,24 @@ impl<'a> Model for Gathered<'a> {
 
     ghost Value = { Gathering };
 
-    ghost view = { λ g. record { held = g.held.now; keeps = g.keeps; first = g.first; bytes = g.bytes; lines = g.lines.items } };
+    ghost view = { λ g. record {
+      held = g.held.now;
+      keeps = g.keeps;
+      first = g.first;
+      bytes = g.bytes;
+      lines = g.lines.items;
+    } };
 
-    ghost invariant = { λ g. IsOpen g.first g.bytes ((if g.keeps then g.held.now else []) ++ g.lines.items) };
+    ghost invariant = { λ g.
+        IsOpen g.first g.bytes ((if g.keeps then g.held.now else []) ++ g.lines.items) };
 }
 
 impl<'a> Gathered<'a> {
     /// The open group as the reader holds it; it takes no memory.
     pub fn of(alloc: Global, held: &'a [HeldLine], first: Option<u64>, bytes: usize) -> Gathered<'a>
         requires { IsOpen first bytes held.now }
-        ensures { result ≡ record { held = held.now; keeps = true; first = first; bytes = bytes; lines = [] } }
+        ensures { result
+            ≡ record { held = held.now; keeps = true; first = first; bytes = bytes; lines = [] } }
     {
         Gathered {
             alloc,
@@ -66,8 +75,10 @@ impl<'a> Gathered<'a> {
         found: &mut Vec<Item>,
     ) -> Result<(), Memory>
         ensures held { OnOk result (self.new.held ≡ self.old.held) }
-        ensures group { OnOk result (open_group self.new ≡ group_after (open_group self.old) (number, text.entry.now)) }
-        ensures found { OnOk result (found.new.items ≡ found.old.items ++ wanted selection.now (ended_by (open_group self.old) (number, text.entry.now))) }
+        ensures group { OnOk result
+            (open_group self.new ≡ group_after (open_group self.old) (number, text.entry.now)) }
+        ensures found { OnOk result (found.new.items ≡ found.old.items
+            ++ wanted selection.now (ended_by (open_group self.old) (number, text.entry.now))) }
     {
         if is_comment(text) {
             return Ok(());
@@ -84,7 +95,8 @@ impl<'a> Gathered<'a> {
     // Adds a line that is in the group.
     fn add(&mut self, number: u64, text: &'a [u8]) -> Result<(), Memory>
         ensures held { OnOk result (self.new.held ≡ self.old.held) }
-        ensures group { OnOk result (open_group self.new ≡ with_line (open_group self.old) (number, text.entry.now)) }
+        ensures group { OnOk result
+            (open_group self.new ≡ with_line (open_group self.old) (number, text.entry.now)) }
     {
         if self.first.is_some() {
             return Ok(());
@@ -101,7 +113,8 @@ impl<'a> Gathered<'a> {
 
     // Forgets the lines.
     fn clear(&mut self, first: Option<u64>)
-        ensures { self.new ≡ record { held = self.old.held; keeps = false; first = first; bytes = 0; lines = [] } }
+        ensures { self.new
+            ≡ record { held = self.old.held; keeps = false; first = first; bytes = 0; lines = [] } }
     {
         self.keeps = false;
         self.first = first;
@@ -126,7 +139,8 @@ impl<'a> Gathered<'a> {
 
     // Adds what the group says.
     fn say(&self, selection: &Selection, found: &mut Vec<Item>) -> Result<(), Memory>
-        ensures { OnOk result (found.new.items ≡ found.old.items ++ wanted selection.now (said_by (open_group self.now))) }
+        ensures { OnOk result (found.new.items
+            ≡ found.old.items ++ wanted selection.now (said_by (open_group self.now))) }
     {
         if let Some(line) = self.first {
             let rule = Rule::P01;
@@ -159,7 +173,17 @@ impl<'a> Gathered<'a> {
         ended: Ended<'p>,
         found: Vec<Item>,
     ) -> Result<Progress<'p>, Memory>
-        ensures progress { IfOk result (λ progress. progress ≡ record { fed = fed; lines = ended.entry.lines; ended = true; tail = ended.entry.tail.now; keeps = self.now.keeps; first = self.now.first; bytes = self.now.bytes; more = self.now.lines; found = found.items }) }
+        ensures progress { IfOk result (λ progress. progress ≡ record {
+          fed = fed;
+          lines = ended.entry.lines;
+          ended = true;
+          tail = ended.entry.tail.now;
+          keeps = self.now.keeps;
+          first = self.now.first;
+          bytes = self.now.bytes;
+          more = self.now.lines;
+          found = found.items;
+        }) }
         ensures open { IsOpen self.now.first self.now.bytes (open_lines self.now) }
     {
         let more = held_lines(self.alloc, self.lines.as_slice())?;

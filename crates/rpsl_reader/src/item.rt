@@ -25,6 +25,7 @@ pub struct Object {
 pub enum Item {
     /// An object.
     Whole(Object),
-    /// A line that was passed over (`P02`), or the first line of an object that is too long (`P01`).
+    /// A line that was passed over (`P02`), or the first line of an
+    /// object that is too long (`P01`).
     Passed { line: u64, rule: Rule },
 }

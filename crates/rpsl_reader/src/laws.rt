@@ -1,5 +1,6 @@
 //! Laws over the definitions alone, which the readers above rest on.
-ghost use Rattle.rpsl_reader.specs.Laws.{AnyCutting, GivenIsWhole, PiecesJoin, StaysBounded, WantedJoins};
+ghost use Rattle.rpsl_reader.specs.Laws.{AnyCutting, GivenIsWhole, PiecesJoin, StaysBounded};
+ghost use Rattle.rpsl_reader.specs.Laws.{WantedJoins};
 
 /// Two pieces, one after the other, are one piece.
 pub fn pieces_join()

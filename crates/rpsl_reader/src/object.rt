@@ -1,6 +1,7 @@
 ghost use Rattle.std.specs.Prelude.{◌≡◌, ◌∷◌, ◌++◌, [], false, IfOk, OnOk, filter};
 ghost use Rattle.std.specs.List.{list_any};
-ghost use Rattle.rpsl_reader.specs.Attributes.{HasSides, attribute, attributes, continued, is_stray, said_of};
+ghost use Rattle.rpsl_reader.specs.Attributes.{HasSides, attribute, attributes, continued};
+ghost use Rattle.rpsl_reader.specs.Attributes.{is_stray, said_of};
 ghost use Rattle.rpsl_reader.specs.Objects.{items, strays};
 ghost use Rattle.rpsl_reader.specs.Selections.{wanted, wants_name};
 ghost use Rattle.rpsl_reader.specs.declared.item.Item.TheVariants.{Passed, Whole};
@@ -20,7 +21,8 @@ pub(crate) fn push_items(
     lines: &[GroupLine],
     found: &mut Vec<Item>,
 ) -> Result<(), Memory>
-    ensures { OnOk result (found.new.items ≡ found.old.items ++ wanted selection.now (items lines.now)) }
+    ensures { OnOk result
+        (found.new.items ≡ found.old.items ++ wanted selection.now (items lines.now)) }
 {
     let mut left = lines;
     while let [line, rest @ ..] = left {
@@ -44,7 +46,11 @@ fn push_first(
     found: &mut Vec<Item>,
 ) -> Result<(), Memory>
     requires { HasSides line.now.1 sides.name.now sides.value.now }
-    ensures { OnOk result (found.new.items ≡ found.old.items ++ (wanted selection.now (Whole (record { line = line.now.0; parts = attribute line.now lines.now ∷ attributes lines.now }) ∷ []) ++ strays lines.now)) }
+    ensures { OnOk result
+        (found.new.items ≡ found.old.items ++ (wanted selection.now (Whole (record {
+          line = line.now.0;
+          parts = attribute line.now lines.now ∷ attributes lines.now;
+        }) ∷ []) ++ strays lines.now)) }
 {
     if push_object(alloc, selection, line, sides, lines, found)? {
         push_strays(lines, found)?;
@@ -62,7 +68,11 @@ fn push_object(
     found: &mut Vec<Item>,
 ) -> Result<bool, Memory>
     requires { HasSides line.now.1 sides.name.now sides.value.now }
-    ensures found { OnOk result (found.new.items ≡ found.old.items ++ wanted selection.now (Whole (record { line = line.now.0; parts = attribute line.now lines.now ∷ attributes lines.now }) ∷ [])) }
+    ensures found { OnOk result
+        (found.new.items ≡ found.old.items ++ wanted selection.now (Whole (record {
+          line = line.now.0;
+          parts = attribute line.now lines.now ∷ attributes lines.now;
+        }) ∷ [])) }
     ensures strays { IfOk result (λ may. may ≡ false → strays lines.now ≡ []) }
 {
     let Some(name) = selection.class_name(alloc, sides.name)? else {
@@ -83,7 +93,14 @@ fn object_of(
     first: &[u8],
     lines: &[GroupLine],
 ) -> Result<(Object, bool), Memory>
-    ensures object { IfOk result (λ made. made.0 ≡ record { line = line.now.0; parts = record { name = name; value = continued (said_of first.now) lines.now; line = line.now.0 } ∷ filter (λ a. wants_name selection.now a.name) (attributes lines.now) }) }
+    ensures object { IfOk result (λ made. made.0 ≡ record {
+      line = line.now.0;
+      parts = record {
+        name = name;
+        value = continued (said_of first.now) lines.now;
+        line = line.now.0;
+      } ∷ filter (λ a. wants_name selection.now a.name) (attributes lines.now);
+    }) }
     ensures strays { IfOk result (λ made. made.1 ≡ list_any (λ l. is_stray l.1) lines.now) }
 {
     let value = value_of(alloc, first, lines)?;

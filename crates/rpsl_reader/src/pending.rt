@@ -4,10 +4,12 @@ ghost use Rattle.rpsl_reader.specs.Reading.{grown, most, newer};
 
 use geo_addr::{Memory, is_blank};
 
-/// How many bytes of a line are kept as they are: the longest object, a byte order mark and a carriage return.
+/// How many bytes of a line are kept as they are: the longest object,
+/// a byte order mark and a carriage return.
 const MOST: usize = 1_048_580;
 
-/// Goes on with a line by bytes that do not end it. Past `MOST` its last byte stands for all the others.
+/// Goes on with a line by bytes that do not end it. Past `MOST` its last
+/// byte stands for all the others.
 #[tactic(auto, using(crate::proofs::PieceLemmas::keeping))]
 pub(crate) fn hold(line: &mut Vec<u8>, bytes: &[u8]) -> Result<(), Memory>
     requires { length line.old.items ≤ most + 1 }

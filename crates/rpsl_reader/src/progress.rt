@@ -34,7 +34,17 @@ impl<'a> Model for Progress<'a> {
 
     ghost Value = { Change };
 
-    ghost view = { λ p. record { fed = p.fed; lines = p.lines; ended = p.ended; tail = p.tail.now; keeps = p.keeps; first = p.first; bytes = p.bytes; more = p.more.items; found = p.found.items } };
+    ghost view = { λ p. record {
+      fed = p.fed;
+      lines = p.lines;
+      ended = p.ended;
+      tail = p.tail.now;
+      keeps = p.keeps;
+      first = p.first;
+      bytes = p.bytes;
+      more = p.more.items;
+      found = p.found.items;
+    } };
 }
 
 impl<'a> Progress<'a> {

@@ -1,5 +1,6 @@
 //! The lines that end in a piece.
-ghost use Rattle.std.specs.Prelude.{◌≡◌, ◌∷◌, ◌++◌, [], ◌+◌, ◌≤◌, ◌<◌, ◌^◌, length, fold, OnOk, IfOk};
+ghost use Rattle.std.specs.Prelude.{◌≡◌, ◌∷◌, ◌++◌, [], ◌+◌, ◌≤◌, ◌<◌, ◌^◌, length, fold, OnOk};
+ghost use Rattle.std.specs.Prelude.{IfOk};
 ghost use Rattle.rpsl_reader.specs.Changes.{open_group};
 ghost use Rattle.rpsl_reader.specs.Reading.{after, given, grown, state_of};
 ghost use Rattle.rpsl_reader.specs.Selections.{wanted};
@@ -22,8 +23,11 @@ pub(crate) fn read_lines<'b, 'a: 'b>(
 ) -> Result<Ended<'a>, Memory>
     requires { lines + length rest.now + 1 < 2 ^ 64 }
     ensures held { OnOk result (gathered.new.held ≡ gathered.old.held) }
-    ensures found { OnOk result (found.new.items ≡ found.old.items ++ wanted selection.now (given (state_of lines first.entry.now (open_group gathered.old)) (10 ∷ rest.entry.now))) }
-    ensures state { IfOk result (λ ended. after (state_of lines first.entry.now (open_group gathered.old)) (10 ∷ rest.entry.now) ≡ state_of ended.lines (fold grown [] ended.tail.now) (open_group gathered.new)) }
+    ensures found { OnOk result (found.new.items ≡ found.old.items ++ wanted selection.now
+        (given (state_of lines first.entry.now (open_group gathered.old)) (10 ∷ rest.entry.now))) }
+    ensures state { IfOk result (λ ended.
+        after (state_of lines first.entry.now (open_group gathered.old)) (10 ∷ rest.entry.now)
+        ≡ state_of ended.lines (fold grown [] ended.tail.now) (open_group gathered.new)) }
     ensures counts { IfOk result (λ ended. ended.lines ≤ lines + length rest.entry.now + 1) }
 {
     let mut lines = lines;

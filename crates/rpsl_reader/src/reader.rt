@@ -1,4 +1,5 @@
-ghost use Rattle.std.specs.Prelude.{◌≡◌, ◌≢◌, ◌+◌, ◌<◌, ◌≤◌, ◌^◌, ◌∷◌, ◌++◌, [], All, length, fold, IfOk, OnOk, OnErr, if◌then◌else◌};
+ghost use Rattle.std.specs.Prelude.{◌≡◌, ◌≢◌, ◌+◌, ◌<◌, ◌≤◌, ◌^◌, ◌∷◌, ◌++◌, [], All, length, fold};
+ghost use Rattle.std.specs.Prelude.{IfOk, OnOk, OnErr, if◌then◌else◌};
 ghost use Rattle.rpsl_reader.specs.Changes.{IsChange, IsCounted, accepted, lines_in, open_group};
 ghost use Rattle.rpsl_reader.specs.Reading.{after, given, grown, last, most, start};
 ghost use Rattle.rpsl_reader.specs.Selections.{wanted};
@@ -16,7 +17,8 @@ use std::marker::Model;
 
 /// Reads the objects of a dump from its text in pieces, however it is cut.
 ///
-/// Contracts see how many bytes it was fed, and the state that the definition of reading gives them.
+/// Contracts see how many bytes it was fed, and the state that the
+/// definition of reading gives them.
 #[derive(Debug, Drop)]
 pub struct Reader {
     alloc: Global,
@@ -37,7 +39,14 @@ impl Model for Reader {
 
     ghost Value = { Fed };
 
-    ghost view = { λ r. record { fed = r.fed; state = record { lines = r.lines; pending = r.pending.items; group = group_of r.first r.group.items } } };
+    ghost view = { λ r. record {
+      fed = r.fed;
+      state = record {
+        lines = r.lines;
+        pending = r.pending.items;
+        group = group_of r.first r.group.items;
+      };
+    } };
 
     ghost invariant = { λ r. IsReader r.fed r.lines r.pending.items r.first r.bytes r.group.items };
 }
@@ -70,7 +79,8 @@ impl Reader {
         requires { self.old.fed + length piece.now < 2 ^ 63 }
         ensures fed { OnOk result (self.new.fed ≡ self.old.fed + length piece.now) }
         ensures state { OnOk result (self.new.state ≡ after self.old.state piece.now) }
-        ensures items { OnOk result (out.new.items ≡ out.old.items ++ given self.old.state piece.now) }
+        ensures items { OnOk result
+            (out.new.items ≡ out.old.items ++ given self.old.state piece.now) }
         ensures err { OnErr result (self.new ≡ self.old) }
         ensures err_items { OnErr result (out.new.items ≡ out.old.items) }
     {
@@ -98,13 +108,17 @@ impl Reader {
         Ok(())
     }
 
-    /// What one more piece gives, of what is wanted. The reader goes on as before until it accepts it.
+    /// What one more piece gives, of what is wanted. The reader goes on
+    /// as before until it accepts it.
     pub fn read<'a>(&self, piece: &'a [u8], selection: &Selection) -> Result<Progress<'a>, Memory>
         requires { self.now.fed + length piece.now < 2 ^ 63 }
         ensures change { IfOk result (λ progress. IsChange self.now progress) }
-        ensures fed { IfOk result (λ progress. (accepted self.now progress).fed ≡ self.now.fed + length piece.now) }
-        ensures state { IfOk result (λ progress. (accepted self.now progress).state ≡ after self.now.state piece.now) }
-        ensures items { IfOk result (λ progress. progress.found ≡ wanted selection.now (given self.now.state piece.now)) }
+        ensures fed { IfOk result
+            (λ progress. (accepted self.now progress).fed ≡ self.now.fed + length piece.now) }
+        ensures state { IfOk result
+            (λ progress. (accepted self.now progress).state ≡ after self.now.state piece.now) }
+        ensures items { IfOk result
+            (λ progress. progress.found ≡ wanted selection.now (given self.now.state piece.now)) }
     {
         let fed = self.fed + piece.len() as u64;
         let (head, after) = cut_at(piece, b'\n');
@@ -120,7 +134,8 @@ impl Reader {
         requires fits { fed < 2 ^ 63 }
         requires free { All (λ b. b ≢ 10) piece.now }
         ensures change { IsChange self.now result }
-        ensures after { accepted self.now result ≡ record { fed = fed; state = after self.now.state piece.now } }
+        ensures after { accepted self.now result
+            ≡ record { fed = fed; state = after self.now.state piece.now } }
         ensures items { result.found ≡ [] }
     {
         Progress {
@@ -148,8 +163,10 @@ impl Reader {
         requires fits { fed < 2 ^ 63 }
         requires free { All (λ b. b ≢ 10) head.now }
         ensures change { IfOk result (λ progress. IsChange self.now progress) }
-        ensures after { IfOk result (λ progress. accepted self.now progress ≡ record { fed = fed; state = after self.now.state (head.now ++ 10 ∷ rest.now) }) }
-        ensures items { IfOk result (λ progress. progress.found ≡ wanted selection.now (given self.now.state (head.now ++ 10 ∷ rest.now))) }
+        ensures after { IfOk result (λ progress. accepted self.now progress
+            ≡ record { fed = fed; state = after self.now.state (head.now ++ 10 ∷ rest.now) }) }
+        ensures items { IfOk result (λ progress. progress.found
+            ≡ wanted selection.now (given self.now.state (head.now ++ 10 ∷ rest.now))) }
     {
         let first = self.first_line(head)?;
         let mut gathered = self.gathered();
@@ -255,8 +272,10 @@ fn go_on(
     more: Vec<HeldLine>,
 ) -> Result<(), Memory>
     requires { length pending.old.items ≤ most + 1 }
-    ensures pending { OnOk result (pending.new.items ≡ fold grown (if ended then [] else pending.old.items) tail.now) }
-    ensures group { OnOk result (group.new.items ≡ (if ended then (if keeps then group.old.items else []) ++ more.items else group.old.items)) }
+    ensures pending { OnOk result
+        (pending.new.items ≡ fold grown (if ended then [] else pending.old.items) tail.now) }
+    ensures group { OnOk result (group.new.items ≡ (if ended
+        then (if keeps then group.old.items else []) ++ more.items else group.old.items)) }
     ensures bounded { length pending.new.items ≤ most + 1 }
     ensures err_pending { OnErr result (pending.new.items ≡ pending.old.items) }
     ensures err_group { OnErr result (group.new.items ≡ group.old.items) }
@@ -272,9 +291,11 @@ fn go_on(
     Ok(())
 }
 
-// The lines of the open group after a piece: those from before, where it keeps them, and those of the piece.
+// The lines of the open group after a piece: those from before, where it keeps them,
+// and those of the piece.
 fn keep(group: &mut Vec<HeldLine>, keeps: bool, more: Vec<HeldLine>) -> Result<(), Memory>
-    ensures ok { OnOk result (group.new.items ≡ (if keeps then group.old.items else []) ++ more.items) }
+    ensures ok { OnOk result
+        (group.new.items ≡ (if keeps then group.old.items else []) ++ more.items) }
     ensures err { OnErr result (group.new.items ≡ group.old.items) }
 {
     let mut more = more;

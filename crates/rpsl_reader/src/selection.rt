@@ -1,4 +1,5 @@
-ghost use Rattle.std.specs.Prelude.{◌≡◌, ◌∷◌, ◌++◌, [], true, false, map, IfOk, OnOk, OnErr, IsTrue, Some, None, if◌then◌else◌};
+ghost use Rattle.std.specs.Prelude.{◌≡◌, ◌∷◌, ◌++◌, [], true, false, map, IfOk, OnOk, OnErr};
+ghost use Rattle.std.specs.Prelude.{IsTrue, Some, None, if◌then◌else◌};
 ghost use Rattle.std.specs.Char.{to_ascii_lowercase};
 ghost use Rattle.std.specs.Option.{option_copied};
 ghost use Rattle.geo_terms.specs.PlaceForm.{same_text};
@@ -24,7 +25,11 @@ impl Model for Selection {
 
     ghost Value = { Wanted };
 
-    ghost view = { λ s. record { everything = s.everything; classes = s.classes.items; names = s.names.items } };
+    ghost view = { λ s. record {
+      everything = s.everything;
+      classes = s.classes.items;
+      names = s.names.items;
+    } };
 }
 
 impl Selection {
@@ -52,7 +57,8 @@ impl Selection {
 
     /// Adds the objects of a class, whose name is given in lower case.
     pub fn add_class(&mut self, name: Text) -> Result<(), Memory>
-        ensures added { OnOk result (self.new ≡ record self.old { classes = self.old.classes ++ name ∷ [] }) }
+        ensures added { OnOk result
+            (self.new ≡ record self.old { classes = self.old.classes ++ name ∷ [] }) }
         ensures err { OnErr result (self.new ≡ self.old) }
     {
         self.classes.push(name).map_err(Memory::from)
@@ -60,7 +66,8 @@ impl Selection {
 
     /// Adds the attributes of a name, which is given in lower case.
     pub fn add_name(&mut self, name: Text) -> Result<(), Memory>
-        ensures added { OnOk result (self.new ≡ record self.old { names = self.old.names ++ name ∷ [] }) }
+        ensures added { OnOk result
+            (self.new ≡ record self.old { names = self.old.names ++ name ∷ [] }) }
         ensures err { OnErr result (self.new ≡ self.old) }
     {
         self.names.push(name).map_err(Memory::from)
@@ -69,7 +76,9 @@ impl Selection {
     /// The name of a class in lower case, where its objects are wanted.
     pub(crate) fn class_name(&self, alloc: Global, name: &[u8]) -> Result<Option<Text>, Memory>
         requires { IsTrue (is_name name.now) }
-        ensures { IfOk result (λ found. found ≡ (if wants_class self.now (map to_ascii_lowercase name.now) then Some (map to_ascii_lowercase name.now) else None)) }
+        ensures { IfOk result
+            (λ found. found ≡ (if wants_class self.now (map to_ascii_lowercase name.now)
+            then Some (map to_ascii_lowercase name.now) else None)) }
     {
         if self.everything {
             return Ok(Some(lower_name(alloc, name)?));
@@ -80,7 +89,9 @@ impl Selection {
     /// The name of an attribute in lower case, where it is wanted.
     pub(crate) fn attribute_name(&self, alloc: Global, name: &[u8]) -> Result<Option<Text>, Memory>
         requires { IsTrue (is_name name.now) }
-        ensures { IfOk result (λ found. found ≡ (if wants_name self.now (map to_ascii_lowercase name.now) then Some (map to_ascii_lowercase name.now) else None)) }
+        ensures { IfOk result
+            (λ found. found ≡ (if wants_name self.now (map to_ascii_lowercase name.now)
+            then Some (map to_ascii_lowercase name.now) else None)) }
     {
         if self.everything {
             return Ok(Some(lower_name(alloc, name)?));
@@ -101,7 +112,8 @@ fn copy_of(text: Option<&Text>) -> Result<Option<Text>, Memory>
 
 // The text that is a name in lower case.
 fn find<'a>(texts: &'a [Text], name: &[u8]) -> Option<&'a Text>
-    ensures { option_copied result ≡ (if is_among (map to_ascii_lowercase name.now) texts.now then Some (map to_ascii_lowercase name.now) else None) }
+    ensures { option_copied result ≡ (if is_among (map to_ascii_lowercase name.now) texts.now
+        then Some (map to_ascii_lowercase name.now) else None) }
 {
     let mut left = texts;
     while let [text, rest @ ..] = left {

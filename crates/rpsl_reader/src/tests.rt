@@ -3,7 +3,8 @@ use geo_addr::Text;
 use std::alloc::Global;
 use std::test::Fail;
 
-// The items, one a line: an object with its line, and for each attribute its line, name and value; a note with its line.
+// The items, one a line: an object with its line, and for each attribute its line, name and value;
+// a note with its line.
 fn shown(alloc: Global, items: &[Item]) -> Result<String, Fail> {
     let mut text = String::new(alloc);
     for item in items {
@@ -130,7 +131,8 @@ fn every_cutting(rt: HostRuntime) -> Result<(), Fail> {
     Ok(())
 }
 
-// A line of a name, a colon and so many bytes in all, which an empty line and a short object follow.
+// A line of a name, a colon and so many bytes in all, which an empty
+// line and a short object follow.
 fn long_text(alloc: Global, name: &[u8], length: usize) -> Result<Vec<u8>, Fail> {
     let mut text = Vec::from_slice(alloc, name)?;
     let rest = vec![in alloc; b'x'; length.saturating_sub(name.len())]?;

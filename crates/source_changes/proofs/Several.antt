@@ -14,9 +14,11 @@ use Rattle.source_changes.proofs.Stays.{sources_stay}
 pub kept_by_one_more : KeptByOneMore
 kept_by_one_more before s c touched more h sound same kept a none =
     let parts = touched_parts touched more a none in
-    kept a parts.0 ∙ one_change s c a h (sources_stay s c h sound) ((order_does_not_matter (changes c s) more same).1 a ∙ parts.1)
+    kept a parts.0 ∙ one_change s c a h (sources_stay s c h sound)
+    ((order_does_not_matter (changes c s) more same).1 a ∙ parts.1)
 
-each_kept : (s : InForce) (cs : List Change) → AreSources s → AllByRecursion IsSound cs → IsKeptOutside (all_changes cs s) s (after_all cs s)
+each_kept : (s : InForce) (cs : List Change) → AreSources s → AllByRecursion IsSound cs
+    → IsKeptOutside (all_changes cs s) s (after_all cs s)
 each_kept s [] h sound a none = refl
 each_kept s (c ∷ cs) h sound a none =
     let next : AreSources (after c s) = sources_stay s c h sound.0 in

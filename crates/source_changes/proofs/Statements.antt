@@ -14,7 +14,8 @@ use Rattle.geo_terms.specs.declared.statement.Entry.{Entry}
 use Rattle.geo_terms.specs.declared.statement.Override.{Override}
 use Rattle.geo_terms.specs.declared.statement.Reference.{Reference}
 use Rattle.source_changes.specs.Laws.{LinesDoNotCount}
-use Rattle.source_changes.specs.SameStatement.{same_block, same_delegation, same_entry, same_override, same_range, same_reference, same_said}
+use Rattle.source_changes.specs.SameStatement.{same_block, same_delegation, same_entry}
+use Rattle.source_changes.specs.SameStatement.{same_override, same_range, same_reference, same_said}
 
 number_is : (m n : ℕ) → nat_eq m n ≡ true → m ≡ n
 number_is m n e = (unsigned_Decides m n).0 e
@@ -36,7 +37,9 @@ range_is x y e =
     λ i. record { first = first i; last = last i }
 
 range_itself : (x : Ends) → same_range x x ≡ true
-range_itself x = and_from (nat_eq x.first x.first) (nat_eq x.last x.last) (number_itself x.first) (number_itself x.last)
+range_itself x =
+    and_from (nat_eq x.first x.first) (nat_eq x.last x.last) (number_itself x.first)
+    (number_itself x.last)
 
 block_is : (x y : Prefix) → same_block x y ≡ true → x ≡ y
 block_is x y e =
@@ -46,7 +49,9 @@ block_is x y e =
     λ i. record { first = first i; len = len i }
 
 block_itself : (x : Prefix) → same_block x x ≡ true
-block_itself x = and_from (nat_eq x.first x.first) (nat_eq x.len x.len) (number_itself x.first) (number_itself x.len)
+block_itself x =
+    and_from (nat_eq x.first x.first) (nat_eq x.len x.len) (number_itself x.first)
+    (number_itself x.len)
 
 said_is : (x y : Said) → same_said x y ≡ true → x ≡ y
 said_is Nothing Nothing e = refl
@@ -61,23 +66,33 @@ said_itself (At p) = (places_are_told_apart p p).1 refl
 reference_is : (x y : Reference) → same_reference x y ≡ true → record x { line = y.line } ≡ y
 unfolding same_reference
 reference_is x y e =
-    let a = and_parts (same_range x.range y.range) (nat_eq x.modified y.modified && (same_text x.url y.url && same_text x.slot y.slot)) e in
-    let b = and_parts (nat_eq x.modified y.modified) (same_text x.url y.url && same_text x.slot y.slot) a.1 in
+    let a = and_parts (same_range x.range y.range)
+    (nat_eq x.modified y.modified && (same_text x.url y.url && same_text x.slot y.slot)) e in
+    let b = and_parts (nat_eq x.modified y.modified)
+    (same_text x.url y.url && same_text x.slot y.slot) a.1 in
     let c = and_parts (same_text x.url y.url) (same_text x.slot y.slot) b.1 in
     let range : x.range ≡ y.range = range_is x.range y.range a.0 in
     let modified : x.modified ≡ y.modified = number_is x.modified y.modified b.0 in
     let url : x.url ≡ y.url = text_is x.url y.url c.0 in
     let slot : x.slot ≡ y.slot = text_is x.slot y.slot c.1 in
-    λ i. record { slot = slot i; line = y.line; range = range i; modified = modified i; url = url i }
+    λ i. record {
+      slot = slot i;
+      line = y.line;
+      range = range i;
+      modified = modified i;
+      url = url i;
+    }
 
 reference_itself : (x : Reference) → same_reference x x ≡ true
 unfolding same_reference
 reference_itself x =
-    and_from _ _ (range_itself x.range) (and_from _ _ (number_itself x.modified) (and_from _ _ (text_itself x.url) (text_itself x.slot)))
+    and_from _ _ (range_itself x.range) (and_from _ _ (number_itself x.modified)
+    (and_from _ _ (text_itself x.url) (text_itself x.slot)))
 
 reference_same : (x y : Reference) → record x { line = y.line } ≡ y → same_reference x y ≡ true
 unfolding same_reference
-reference_same x y e = subst (λ (z : Reference). same_reference z y ≡ true) (sym e) (reference_itself y)
+reference_same x y e =
+    subst (λ (z : Reference). same_reference z y ≡ true) (sym e) (reference_itself y)
 
 entry_is : (x y : Entry) → same_entry x y ≡ true → record x { line = y.line } ≡ y
 unfolding same_entry
@@ -95,10 +110,12 @@ entry_same : (x y : Entry) → record x { line = y.line } ≡ y → same_entry x
 unfolding same_entry
 entry_same x y e = subst (λ (z : Entry). same_entry z y ≡ true) (sym e) (entry_itself y)
 
-delegation_is : (x y : DelegationParts) → same_delegation x y ≡ true → record x { line = y.line } ≡ y
+delegation_is : (x y : DelegationParts) → same_delegation x y ≡ true
+    → record x { line = y.line } ≡ y
 unfolding same_delegation
 delegation_is x y e =
-    let a = and_parts (same_range x.range y.range) (same_place x.place y.place && same_text x.slot y.slot) e in
+    let a = and_parts (same_range x.range y.range)
+    (same_place x.place y.place && same_text x.slot y.slot) e in
     let b = and_parts (same_place x.place y.place) (same_text x.slot y.slot) a.1 in
     let range : x.range ≡ y.range = range_is x.range y.range a.0 in
     let place : x.place ≡ y.place = (places_are_told_apart x.place y.place).0 b.0 in
@@ -107,11 +124,15 @@ delegation_is x y e =
 
 delegation_itself : (x : DelegationParts) → same_delegation x x ≡ true
 unfolding same_delegation
-delegation_itself x = and_from _ _ (range_itself x.range) (and_from _ _ ((places_are_told_apart x.place x.place).1 refl) (text_itself x.slot))
+delegation_itself x =
+    and_from _ _ (range_itself x.range)
+    (and_from _ _ ((places_are_told_apart x.place x.place).1 refl) (text_itself x.slot))
 
-delegation_same : (x y : DelegationParts) → record x { line = y.line } ≡ y → same_delegation x y ≡ true
+delegation_same : (x y : DelegationParts) → record x { line = y.line } ≡ y
+    → same_delegation x y ≡ true
 unfolding same_delegation
-delegation_same x y e = subst (λ (z : DelegationParts). same_delegation z y ≡ true) (sym e) (delegation_itself y)
+delegation_same x y e =
+    subst (λ (z : DelegationParts). same_delegation z y ≡ true) (sym e) (delegation_itself y)
 
 override_is : (x y : Override) → same_override x y ≡ true → record x { line = y.line } ≡ y
 unfolding same_override

@@ -7,22 +7,26 @@ use Rattle.geo_terms.specs.PlaceForm.{same_text}
 use Rattle.geo_terms.specs.Precedence.{text_cmp}
 use Rattle.geo_terms.specs.SlotOrder.{placed, removed}
 use Rattle.geo_terms.proofs.SlotLemmas.{placed_in_order, removed_in_order}
-use Rattle.source_changes.specs.Changes.{SetDump, SetFeed, SetStats, SetOverrides, DropDump, DropFeed, DropStats, DropOverrides}
+use Rattle.source_changes.specs.Changes.{SetDump, SetFeed, SetStats, SetOverrides, DropDump}
+use Rattle.source_changes.specs.Changes.{DropFeed, DropStats, DropOverrides}
 use Rattle.source_changes.specs.Keeping.{AreDelegations, AreEntries, AreOverrides}
 use Rattle.source_changes.specs.Laws.{SourcesStay}
 
 module _ {X : Type 0} (name : X → List ℕ) (P : X → Type 0) where
-  each_placed : (x : X) (xs : List X) → P x → AllByRecursion P xs → AllByRecursion P (placed name x xs)
+  each_placed : (x : X) (xs : List X) → P x → AllByRecursion P xs
+      → AllByRecursion P (placed name x xs)
   each_placed x [] p h = (p, tt)
   each_placed x (y ∷ ys) p h =
-      elim (text_cmp (name x) (name y)) as (λ o. AllByRecursion P (match_ordering o (x ∷ y ∷ ys) (x ∷ ys) (y ∷ placed name x ys))) [
+      elim (text_cmp (name x) (name y))
+      as (λ o. AllByRecursion P (match_ordering o (x ∷ y ∷ ys) (x ∷ ys) (y ∷ placed name x ys))) [
         | Less ↦ (p, h)
         | Equal ↦ (p, h.1)
         | Greater ↦ (h.0, each_placed x ys p h.1)
       ]
 
   all_placed : (x : X) (xs : List X) → P x → All P xs → All P (placed name x xs)
-  all_placed x xs p h = All-from_recursion P (placed name x xs) (each_placed x xs p (recursion_from_All P xs h))
+  all_placed x xs p h =
+      All-from_recursion P (placed name x xs) (each_placed x xs p (recursion_from_All P xs h))
 
   all_removed : (n : List ℕ) (xs : List X) → All P xs → All P (removed name n xs)
   all_removed n xs h = All-filter (λ x. not (same_text (name x) n)) P xs h

@@ -10,7 +10,8 @@ use Rattle.geo_terms.specs.declared.statement.Entry.{Entry}
 use Rattle.geo_terms.specs.declared.statement.Override.{Override}
 use Rattle.geo_terms.specs.declared.statement.Reference.{Reference}
 use Rattle.source_changes.specs.Changed.{changed}
-use Rattle.source_changes.specs.SameStatement.{same_delegation, same_entry, same_override, same_reference}
+use Rattle.source_changes.specs.SameStatement.{same_delegation, same_entry, same_override}
+use Rattle.source_changes.specs.SameStatement.{same_reference}
 use Rattle.source_changes.specs.Touched.{ground_of}
 
 -- a call that puts a source in its place, or takes one away by its slot or URL
@@ -61,15 +62,19 @@ delegation_changes old new = map (λ d. ground_of d.range) (changed same_delegat
 abbrev pub override_changes : (old new : List Override) → List Ends
 override_changes old new = map (λ o. ground_of o.range) (changed same_override old new)
 
--- the grounds that a call touches: those of the statements of the source in its place, before and after, that changed
+-- the grounds that a call touches: those of the statements of the source in its place,
+-- before and after, that changed
 abbrev pub changes : Change → InForce → List Ends
-changes (SetDump d) s = reference_changes (references_in (named (λ x. x.slot) d.slot s.dumps)) d.refs
+changes (SetDump d) s =
+    reference_changes (references_in (named (λ x. x.slot) d.slot s.dumps)) d.refs
 changes (SetFeed f) s = entry_changes (entries_in (named (λ x. x.url) f.url s.feeds)) f.entries
-changes (SetStats t) s = delegation_changes (delegations_in (named (λ x. x.slot) t.slot s.stats)) t.rows
+changes (SetStats t) s =
+    delegation_changes (delegations_in (named (λ x. x.slot) t.slot s.stats)) t.rows
 changes (SetOverrides o) s = override_changes (override_rows s) o.rows
 changes (DropDump slot) s = reference_changes (references_in (named (λ x. x.slot) slot s.dumps)) []
 changes (DropFeed url) s = entry_changes (entries_in (named (λ x. x.url) url s.feeds)) []
-changes (DropStats slot) s = delegation_changes (delegations_in (named (λ x. x.slot) slot s.stats)) []
+changes (DropStats slot) s =
+    delegation_changes (delegations_in (named (λ x. x.slot) slot s.stats)) []
 changes DropOverrides s = override_changes (override_rows s) []
 
 -- the sources after several calls in a row, and all that these touch

@@ -1,4 +1,5 @@
--- What sources in force keep, by the types of their statements and by the order in which they stand.
+-- What sources in force keep, by the types of their statements and by
+-- the order in which they stand.
 use Rattle.std.specs.Prelude.{◌≢◌, List, All, AllPairs, ⊤}
 use Rattle.geo_addr.specs.Ranges.{IsBlock}
 use Rattle.geo_terms.specs.DelegationForm.{DelegationParts, IsCountryAlone}
@@ -6,7 +7,8 @@ use Rattle.geo_terms.specs.SlotOrder.{AreInOrder}
 use Rattle.geo_terms.specs.Sources.{InForce, override_rows}
 use Rattle.geo_terms.specs.declared.statement.Entry.{Entry}
 use Rattle.geo_terms.specs.declared.statement.Override.{Override}
-use Rattle.source_changes.specs.Changes.{Change, SetDump, SetFeed, SetStats, SetOverrides, DropDump, DropFeed, DropStats, DropOverrides}
+use Rattle.source_changes.specs.Changes.{Change, SetDump, SetFeed, SetStats, SetOverrides, DropDump}
+use Rattle.source_changes.specs.Changes.{DropFeed, DropStats, DropOverrides}
 
 -- the entries of a feed: blocks, and no block twice
 pub record AreEntries (es : List Entry) : Type 0 where

@@ -22,13 +22,16 @@ same_said (At p) (At q) = same_place p q
 same_said _ _ = false
 
 unfoldable pub same_reference : Reference → Reference → Bool
-same_reference x y = same_range x.range y.range && (nat_eq x.modified y.modified && (same_text x.url y.url && same_text x.slot y.slot))
+same_reference x y =
+    same_range x.range y.range
+    && (nat_eq x.modified y.modified && (same_text x.url y.url && same_text x.slot y.slot))
 
 unfoldable pub same_entry : Entry → Entry → Bool
 same_entry x y = same_block x.block y.block && same_said x.said y.said
 
 unfoldable pub same_delegation : DelegationParts → DelegationParts → Bool
-same_delegation x y = same_range x.range y.range && (same_place x.place y.place && same_text x.slot y.slot)
+same_delegation x y =
+    same_range x.range y.range && (same_place x.place y.place && same_text x.slot y.slot)
 
 unfoldable pub same_override : Override → Override → Bool
 same_override x y = same_range x.range y.range && same_said x.said y.said

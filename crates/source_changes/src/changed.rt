@@ -1,5 +1,6 @@
 //! The grounds of the statements that changed.
-ghost use Rattle.std.specs.Prelude.{◌≡◌, ◌≤◌, ◌++◌, ◌-◌, true, All, IfOk, OnOk, map, length, take, drop};
+ghost use Rattle.std.specs.Prelude.{◌≡◌, ◌≤◌, ◌++◌, ◌-◌, true, All, IfOk, OnOk, map, length, take};
+ghost use Rattle.std.specs.Prelude.{drop};
 ghost use Rattle.std.specs.List.{AllZip};
 ghost use Rattle.std.specs.List.Sorted.{IsPermutation, IsSorted};
 ghost use Rattle.source_changes.specs.Changed.{changed};
@@ -15,14 +16,15 @@ use std::cmp::Ordering;
 
 /// The grounds of the statements of two lists that have no partner in the other one, in any order.
 ///
-/// What both lists begin with, what both end with, and what is the same at the same place between these is
-/// passed over first, so where a few lines of a long file changed nothing long is sorted.
+/// What both lists begin with, what both end with, and what is the same at the same place between
+/// these is passed over first, so where a few lines of a long file changed nothing long is sorted.
 pub fn changed_grounds<S: Compared>(
     alloc: Global,
     old: &[S],
     new: &[S],
 ) -> Result<Vec<Range>, Memory>
-    ensures { IfOk result (λ grounds. IsPermutation (map (λ x. ground_of (S.range x)) (changed S.same old.now new.now)) grounds.items) }
+    ensures { IfOk result (λ grounds. IsPermutation
+        (map (λ x. ground_of (S.range x)) (changed S.same old.now new.now)) grounds.items) }
 {
     let (old, new) = trimmed(old, new);
     let mut grounds = Vec::new(alloc);
@@ -52,7 +54,8 @@ pub fn keep_all<S: Statement>(statements: &[S])
 
 // Both lists without what they both begin with and without what they both end with.
 fn trimmed<'a, S: Compared>(old: &'a [S], new: &'a [S]) -> (&'a [S], &'a [S])
-    ensures { IsPermutation (map (λ x. ground_of (S.range x)) (changed S.same old.now new.now)) (map (λ x. ground_of (S.range x)) (changed S.same result.0.now result.1.now)) }
+    ensures { IsPermutation (map (λ x. ground_of (S.range x)) (changed S.same old.now new.now))
+        (map (λ x. ground_of (S.range x)) (changed S.same result.0.now result.1.now)) }
 {
     let start = common_start(old, new);
     let (_, old) = old.split_at(start);
@@ -82,7 +85,8 @@ fn common_start<S: Compared>(old: &[S], new: &[S]) -> usize
 fn common_end<S: Compared>(old: &[S], new: &[S]) -> usize
     ensures in_old { result ≤ length old.now }
     ensures in_new { result ≤ length new.now }
-    ensures same { AllZip (λ x y. S.same x y ≡ true) (drop (length old.now - result) old.now) (drop (length new.now - result) new.now) }
+    ensures same { AllZip (λ x y. S.same x y ≡ true) (drop (length old.now - result) old.now)
+        (drop (length new.now - result) new.now) }
 {
     let shorter = old.len().min(new.len());
     for i in 0..shorter {
@@ -118,7 +122,9 @@ fn unpaired<'a, S: Compared>(
     old: &'a [S],
     new: &'a [S],
 ) -> Result<(Vec<&'a S>, Vec<&'a S>), Memory>
-    ensures { IfOk result (λ left. IsPermutation (map (λ x. ground_of (S.range x)) (changed S.same old.entry.now new.entry.now)) (map (λ x. ground_of (S.range x)) (changed S.same (map (λ s. s.now) left.0.items) (map (λ s. s.now) left.1.items)))) }
+    ensures { IfOk result (λ left. IsPermutation (map (λ x. ground_of (S.range x))
+        (changed S.same old.entry.now new.entry.now)) (map (λ x. ground_of (S.range x))
+        (changed S.same (map (λ s. s.now) left.0.items) (map (λ s. s.now) left.1.items)))) }
 {
     let mut old_left = Vec::new(alloc);
     let mut new_left = Vec::new(alloc);
@@ -136,7 +142,8 @@ fn unpaired<'a, S: Compared>(
 
 /// Appends a borrow of each statement.
 pub fn push_borrows<'a, S>(borrows: &mut Vec<&'a S>, statements: &'a [S]) -> Result<(), Memory>
-    ensures { OnOk result (map (λ s. s.now) borrows.new.items ≡ map (λ s. s.now) borrows.old.items ++ statements.entry.now) }
+    ensures { OnOk result (map (λ s. s.now) borrows.new.items
+        ≡ map (λ s. s.now) borrows.old.items ++ statements.entry.now) }
 {
     borrows.reserve(statements.len())?;
     for statement in statements {
@@ -147,7 +154,8 @@ pub fn push_borrows<'a, S>(borrows: &mut Vec<&'a S>, statements: &'a [S]) -> Res
 
 // Puts statements in the order in which they are compared.
 fn sort_statements<S: Compared>(statements: &mut Vec<&S>)
-    ensures same { IsPermutation (map (λ s. s.now) statements.old.items) (map (λ s. s.now) statements.new.items) }
+    ensures same { IsPermutation (map (λ s. s.now) statements.old.items)
+        (map (λ s. s.now) statements.new.items) }
     ensures sorted { IsSorted (whole_cmp S.range S.rest) (map (λ s. s.now) statements.new.items) }
 {
     statements.sort_unstable_by(|x, y| compare_borrowed(x, y));
@@ -165,7 +173,9 @@ fn push_differing<S: Compared>(
     old: &[&S],
     new: &[&S],
 ) -> Result<(), Memory>
-    ensures { OnOk result (grounds.new.items ≡ grounds.old.items ++ map (λ x. ground_of (S.range x)) (differing (whole_cmp S.range S.rest) (map (λ s. s.now) old.entry.now) (map (λ s. s.now) new.entry.now))) }
+    ensures { OnOk result (grounds.new.items ≡ grounds.old.items
+        ++ map (λ x. ground_of (S.range x)) (differing (whole_cmp S.range S.rest)
+        (map (λ s. s.now) old.entry.now) (map (λ s. s.now) new.entry.now))) }
 {
     let mut i = 0;
     let mut j = 0;
@@ -191,7 +201,8 @@ fn push_differing<S: Compared>(
 }
 
 fn push_rest<S: Compared>(grounds: &mut Vec<Range>, statements: &[&S]) -> Result<(), Memory>
-    ensures { OnOk result (grounds.new.items ≡ grounds.old.items ++ map (λ x. ground_of (S.range x.now)) statements.entry.now) }
+    ensures { OnOk result (grounds.new.items
+        ≡ grounds.old.items ++ map (λ x. ground_of (S.range x.now)) statements.entry.now) }
 {
     for statement in statements {
         grounds.push(ground_of(statement.range()))?;
@@ -200,7 +211,8 @@ fn push_rest<S: Compared>(grounds: &mut Vec<Range>, statements: &[&S]) -> Result
 }
 
 fn push_all<S: Compared>(grounds: &mut Vec<Range>, statements: &[S]) -> Result<(), Memory>
-    ensures { OnOk result (grounds.new.items ≡ grounds.old.items ++ map (λ x. ground_of (S.range x)) statements.now) }
+    ensures { OnOk result
+        (grounds.new.items ≡ grounds.old.items ++ map (λ x. ground_of (S.range x)) statements.now) }
 {
     grounds.reserve(statements.len())?;
     for statement in statements {

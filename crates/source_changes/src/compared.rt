@@ -25,7 +25,8 @@ pub trait Compared: Statement {
 
 impl Compared for Reference {
     ghost use Rattle.source_changes.specs.SameStatement.{same_reference};
-    ghost use Rattle.source_changes.specs.Sorting.{reference_rest, reference_rest_total, reference_decides};
+    ghost use Rattle.source_changes.specs.Sorting.{reference_rest, reference_rest_total};
+    ghost use Rattle.source_changes.specs.Sorting.{reference_decides};
 
     ghost same = { same_reference };
 
@@ -63,7 +64,8 @@ impl Compared for Entry {
 
 impl Compared for Delegation {
     ghost use Rattle.source_changes.specs.SameStatement.{same_delegation};
-    ghost use Rattle.source_changes.specs.Sorting.{delegation_rest, delegation_rest_total, delegation_decides};
+    ghost use Rattle.source_changes.specs.Sorting.{delegation_rest, delegation_rest_total};
+    ghost use Rattle.source_changes.specs.Sorting.{delegation_decides};
 
     ghost same = { same_delegation };
 
@@ -81,7 +83,8 @@ impl Compared for Delegation {
 
 impl Compared for Override {
     ghost use Rattle.source_changes.specs.SameStatement.{same_override};
-    ghost use Rattle.source_changes.specs.Sorting.{override_rest, override_rest_total, override_decides};
+    ghost use Rattle.source_changes.specs.Sorting.{override_rest, override_rest_total};
+    ghost use Rattle.source_changes.specs.Sorting.{override_decides};
 
     ghost same = { same_override };
 

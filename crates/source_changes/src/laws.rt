@@ -1,5 +1,7 @@
 //! The laws of changes, over the definitions alone.
-ghost use Rattle.source_changes.specs.Laws.{GroundsHoldTheSame, KeptByAll, KeptByOneMore, LinesDoNotCount, OneChange, OrderDoesNotMatter, SourcesStay};
+ghost use Rattle.source_changes.specs.Laws.{GroundsHoldTheSame, KeptByAll, KeptByOneMore};
+ghost use Rattle.source_changes.specs.Laws.{LinesDoNotCount, OneChange, OrderDoesNotMatter};
+ghost use Rattle.source_changes.specs.Laws.{SourcesStay};
 
 /// What is said of an address changes by a call only where the call touches the address.
 pub fn one_change()

@@ -1,5 +1,5 @@
-//! What a call changes that sets or drops a source: the statements that came or went, and the law that what is
-//! said of an address changes only on their grounds.
+//! What a call changes that sets or drops a source: the statements that came or went, and the law
+//! that what is said of an address changes only on their grounds.
 #![tactic(auto)]
 
 mod changed;

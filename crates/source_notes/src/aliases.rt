@@ -15,7 +15,8 @@ use std::sync::Arc;
 
 /// Appends the notes on references that speak nowhere, dump by dump.
 pub fn push_dump_aliases(notes: &mut Vec<Note>, dumps: &[Arc<Dump>]) -> Result<(), Memory>
-    ensures { OnOk result (notes.new.items ≡ notes.old.items ++ flat_map (λ r. alias_note (Origin.Rpsl r.slot) r.range r.line) (flat_map (λ d. d.refs) (map arc_value dumps.now))) }
+    ensures { OnOk result (notes.new.items ≡ notes.old.items ++ flat_map (λ r. alias_note
+        (Origin.Rpsl r.slot) r.range r.line) (flat_map (λ d. d.refs) (map arc_value dumps.now))) }
 {
     for dump in dumps {
         note_references(notes, dump.refs.as_slice())?;
@@ -25,7 +26,9 @@ pub fn push_dump_aliases(notes: &mut Vec<Note>, dumps: &[Arc<Dump>]) -> Result<(
 
 /// Appends the notes on entries that speak nowhere, feed by feed.
 pub fn push_feed_aliases(notes: &mut Vec<Note>, feeds: &[Arc<Feed>]) -> Result<(), Memory>
-    ensures { OnOk result (notes.new.items ≡ notes.old.items ++ flat_map (λ f. flat_map (λ e. alias_note (Origin.Feed f.url) (range_of_block e.block) e.line) f.entries) (map arc_value feeds.now)) }
+    ensures { OnOk result (notes.new.items ≡ notes.old.items ++ flat_map (λ f.
+        flat_map (λ e. alias_note (Origin.Feed f.url) (range_of_block e.block) e.line) f.entries)
+        (map arc_value feeds.now)) }
 {
     for feed in feeds {
         note_entries(notes, feed)?;
@@ -35,7 +38,8 @@ pub fn push_feed_aliases(notes: &mut Vec<Note>, feeds: &[Arc<Feed>]) -> Result<(
 
 /// Appends the notes on delegations that speak nowhere, file by file.
 pub fn push_file_aliases(notes: &mut Vec<Note>, files: &[Arc<Stats>]) -> Result<(), Memory>
-    ensures { OnOk result (notes.new.items ≡ notes.old.items ++ flat_map (λ d. alias_note (Origin.Stats d.slot) d.range d.line) (flat_map (λ t. t.rows) (map arc_value files.now))) }
+    ensures { OnOk result (notes.new.items ≡ notes.old.items ++ flat_map (λ d. alias_note
+        (Origin.Stats d.slot) d.range d.line) (flat_map (λ t. t.rows) (map arc_value files.now))) }
 {
     for file in files {
         note_delegations(notes, file.rows.as_slice())?;
@@ -45,7 +49,8 @@ pub fn push_file_aliases(notes: &mut Vec<Note>, files: &[Arc<Stats>]) -> Result<
 
 // The notes on references of a dump.
 fn note_references(notes: &mut Vec<Note>, refs: &[Reference]) -> Result<(), Memory>
-    ensures { OnOk result (notes.new.items ≡ notes.old.items ++ flat_map (λ r. alias_note (Origin.Rpsl r.slot) r.range r.line) refs.now) }
+    ensures { OnOk result (notes.new.items ≡ notes.old.items
+        ++ flat_map (λ r. alias_note (Origin.Rpsl r.slot) r.range r.line) refs.now) }
 {
     for reference in refs {
         if lies_in_alias(reference.range()) {
@@ -58,13 +63,15 @@ fn note_references(notes: &mut Vec<Note>, refs: &[Reference]) -> Result<(), Memo
 
 // The notes on the entries of a feed.
 fn note_entries(notes: &mut Vec<Note>, feed: &Feed) -> Result<(), Memory>
-    ensures { OnOk result (notes.new.items ≡ notes.old.items ++ flat_map (λ e. alias_note (Origin.Feed feed.now.url) (range_of_block e.block) e.line) feed.now.entries) }
+    ensures { OnOk result (notes.new.items ≡ notes.old.items ++ flat_map (λ e.
+        alias_note (Origin.Feed feed.now.url) (range_of_block e.block) e.line) feed.now.entries) }
 {
     note_lines(notes, &feed.url, feed.entries.as_slice())
 }
 
 fn note_lines(notes: &mut Vec<Note>, url: &Text, entries: &[Entry]) -> Result<(), Memory>
-    ensures { OnOk result (notes.new.items ≡ notes.old.items ++ flat_map (λ e. alias_note (Origin.Feed url.now) (range_of_block e.block) e.line) entries.now) }
+    ensures { OnOk result (notes.new.items ≡ notes.old.items ++ flat_map
+        (λ e. alias_note (Origin.Feed url.now) (range_of_block e.block) e.line) entries.now) }
 {
     for entry in entries {
         if lies_in_alias(entry.range()) {
@@ -77,7 +84,8 @@ fn note_lines(notes: &mut Vec<Note>, url: &Text, entries: &[Entry]) -> Result<()
 
 // The notes on delegations of a statistics file.
 fn note_delegations(notes: &mut Vec<Note>, rows: &[Delegation]) -> Result<(), Memory>
-    ensures { OnOk result (notes.new.items ≡ notes.old.items ++ flat_map (λ d. alias_note (Origin.Stats d.slot) d.range d.line) rows.now) }
+    ensures { OnOk result (notes.new.items ≡ notes.old.items
+        ++ flat_map (λ d. alias_note (Origin.Stats d.slot) d.range d.line) rows.now) }
 {
     for row in rows {
         if lies_in_alias(row.range()) {
@@ -90,7 +98,8 @@ fn note_delegations(notes: &mut Vec<Note>, rows: &[Delegation]) -> Result<(), Me
 
 /// Appends the notes on rows of the overrides.
 pub fn note_overrides(notes: &mut Vec<Note>, rows: &[Override]) -> Result<(), Memory>
-    ensures { OnOk result (notes.new.items ≡ notes.old.items ++ flat_map (λ o. alias_note Origin.Overrides o.range o.line) rows.now) }
+    ensures { OnOk result (notes.new.items
+        ≡ notes.old.items ++ flat_map (λ o. alias_note Origin.Overrides o.range o.line) rows.now) }
 {
     for row in rows {
         if lies_in_alias(row.range()) {

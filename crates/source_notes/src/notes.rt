@@ -18,7 +18,8 @@ pub fn push_notes(notes: &mut Vec<Note>, more: &[Note]) -> Result<(), Memory>
 
 /// Appends the notes of dumps, dump by dump.
 pub fn push_dump_notes(notes: &mut Vec<Note>, dumps: &[Arc<Dump>]) -> Result<(), Memory>
-    ensures { OnOk result (notes.new.items ≡ notes.old.items ++ flat_map (λ d. d.notes) (map arc_value dumps.now)) }
+    ensures { OnOk result
+        (notes.new.items ≡ notes.old.items ++ flat_map (λ d. d.notes) (map arc_value dumps.now)) }
 {
     for dump in dumps {
         push_notes(notes, dump.notes.as_slice())?;
@@ -28,7 +29,8 @@ pub fn push_dump_notes(notes: &mut Vec<Note>, dumps: &[Arc<Dump>]) -> Result<(),
 
 /// Appends the notes of feeds, feed by feed.
 pub fn push_feed_notes(notes: &mut Vec<Note>, feeds: &[Arc<Feed>]) -> Result<(), Memory>
-    ensures { OnOk result (notes.new.items ≡ notes.old.items ++ flat_map (λ f. f.notes) (map arc_value feeds.now)) }
+    ensures { OnOk result
+        (notes.new.items ≡ notes.old.items ++ flat_map (λ f. f.notes) (map arc_value feeds.now)) }
 {
     for feed in feeds {
         push_notes(notes, feed.notes.as_slice())?;
@@ -38,7 +40,8 @@ pub fn push_feed_notes(notes: &mut Vec<Note>, feeds: &[Arc<Feed>]) -> Result<(),
 
 /// Appends the notes of statistics files, file by file.
 pub fn push_file_notes(notes: &mut Vec<Note>, files: &[Arc<Stats>]) -> Result<(), Memory>
-    ensures { OnOk result (notes.new.items ≡ notes.old.items ++ flat_map (λ t. t.notes) (map arc_value files.now)) }
+    ensures { OnOk result
+        (notes.new.items ≡ notes.old.items ++ flat_map (λ t. t.notes) (map arc_value files.now)) }
 {
     for file in files {
         push_notes(notes, file.notes.as_slice())?;

@@ -1,5 +1,6 @@
 -- The edges of ranges, gathered one range after another.
-use Rattle.std.proofs.Common.{◌≡◌, ℕ, ◌+◌, ◌<◌, ◌≤◌, ◌↔◌, ◌⊎◌, inl, inr, List, [], ◌∷◌, ◌++◌, length, get_or, take, arith, sym, ap, subst, ◌∙◌}
+use Rattle.std.proofs.Common.{◌≡◌, ℕ, ◌+◌, ◌<◌, ◌≤◌, ◌↔◌, ◌⊎◌, inl, inr, List, [], ◌∷◌, ◌++◌}
+use Rattle.std.proofs.Common.{length, get_or, take, arith, sym, ap, subst, ◌∙◌}
 use Rattle.std.specs.Prelude.{Any, Contains, IsPermutation, IsSorted, nat_eq}
 use Rattle.std.specs.Ordering.{nat_cmp}
 use Rattle.std.specs.List.Retain.{IsFiltered, DiffersFromLast}
@@ -9,7 +10,8 @@ use Rattle.std.proofs.lemmas.List.Filters.{dedup_is}
 use Rattle.std.proofs.lemmas.List.Kept.{Contains-dedup_nat, Contains-from_dedup}
 use Rattle.std.proofs.lemmas.List.Sorted.{Contains-permutation, IsPermutation-sym}
 use Rattle.std.proofs.lemmas.Map.Keys.{IsStrictlyIncreasing-dedup}
-use Rattle.std.proofs.lemmas.List.Elements.{Contains-append_left, Contains-push, Contains-push_cases}
+use Rattle.std.proofs.lemmas.List.Elements.{Contains-append_left, Contains-push}
+use Rattle.std.proofs.lemmas.List.Elements.{Contains-push_cases}
 use Rattle.geo_addr.specs.Ranges.{Ends, IsEdge, IsCut, IsWithin, AreCuts, ground_first}
 
 module _ {X : Type 0} (P : X → Type 0) where
@@ -31,7 +33,8 @@ module _ {X : Type 0} (P : X → Type 0) where
       ]
 
 -- a place that lies within a range, appended to what is there
-pub push_lying : (old new : List ℕ) (within : Ends) (p : ℕ) → IsWithin within p → ((c : ℕ) → Contains new c ↔ (Contains old c ⊎ (c ≡ p)))
+pub push_lying : (old new : List ℕ) (within : Ends) (p : ℕ) → IsWithin within p
+    → ((c : ℕ) → Contains new c ↔ (Contains old c ⊎ (c ≡ p)))
     → (c : ℕ) → Contains new c ↔ (Contains old c ⊎ ((c ≡ p) × IsWithin within c))
 push_lying old new within p lies pushed c = (
   λ has.
@@ -47,7 +50,10 @@ push_lying old new within p lies pushed c = (
 )
 
 -- both edges of a range
-pub push_both : (old mid new : List ℕ) (r within : Ends) (p q : ℕ) → p ≡ ground_first r → q ≡ r.last + 1 → ((c : ℕ) → Contains mid c ↔ (Contains old c ⊎ ((c ≡ p) × IsWithin within c))) → ((c : ℕ) → Contains new c ↔ (Contains mid c ⊎ ((c ≡ q) × IsWithin within c))) → (c : ℕ) → Contains new c ↔ (Contains old c ⊎ (IsEdge c r × IsWithin within c))
+pub push_both : (old mid new : List ℕ) (r within : Ends) (p q : ℕ) → p ≡ ground_first r
+    → q ≡ r.last + 1 → ((c : ℕ) → Contains mid c ↔ (Contains old c ⊎ ((c ≡ p) × IsWithin within c)))
+    → ((c : ℕ) → Contains new c ↔ (Contains mid c ⊎ ((c ≡ q) × IsWithin within c))) → (c : ℕ)
+    → Contains new c ↔ (Contains old c ⊎ (IsEdge c r × IsWithin within c))
 push_both old mid new r within p q p_is q_is first past c = (
   λ has.
       elim ((past c).0 has) [
@@ -70,7 +76,10 @@ push_both old mid new r within p q p_is q_is first past c = (
 )
 
 -- the first edge of a range whose other edge lies outside
-pub push_first : (old new : List ℕ) (r within : Ends) (p : ℕ) → p ≡ ground_first r → within.last ≤ r.last → ((c : ℕ) → Contains new c ↔ (Contains old c ⊎ ((c ≡ p) × IsWithin within c))) → (c : ℕ) → Contains new c ↔ (Contains old c ⊎ (IsEdge c r × IsWithin within c))
+pub push_first : (old new : List ℕ) (r within : Ends) (p : ℕ)
+    → p ≡ ground_first r → within.last ≤ r.last
+    → ((c : ℕ) → Contains new c ↔ (Contains old c ⊎ ((c ≡ p) × IsWithin within c))) → (c : ℕ)
+    → Contains new c ↔ (Contains old c ⊎ (IsEdge c r × IsWithin within c))
 push_first old new r within p p_is outside first c = (
   λ has.
       elim ((first c).0 has) [
@@ -89,13 +98,18 @@ push_first old new r within p p_is outside first c = (
 )
 
 -- the cut points of one range more
-pub cuts_more : (ranges : List Ends) (i : ℕ) (r : Ends) (old new : List ℕ) (within : Ends) → i < length ranges → r ≡ get_or ranges i r → AreCuts (take i ranges) within old → ((c : ℕ) → Contains new c ↔ (Contains old c ⊎ (IsEdge c r × IsWithin within c))) → AreCuts (take (i + 1) ranges) within new
+pub cuts_more : (ranges : List Ends) (i : ℕ) (r : Ends) (old new : List ℕ) (within : Ends)
+    → i < length ranges → r ≡ get_or ranges i r → AreCuts (take i ranges) within old
+    → ((c : ℕ) → Contains new c ↔ (Contains old c ⊎ (IsEdge c r × IsWithin within c)))
+    → AreCuts (take (i + 1) ranges) within new
 cuts_more ranges i r old new within inside r_is before step c =
     let P : List Ends → Type 0 = λ rs. IsCut rs c in
-    let is : take (i + 1) ranges ≡ take i ranges ++ r ∷ [] = take_more ranges i r inside ∙ ap (λ (x : Ends). take i ranges ++ x ∷ []) (sym r_is) in (
+    let is : take (i + 1) ranges ≡ take i ranges ++ r ∷ [] =
+    take_more ranges i r inside ∙ ap (λ (x : Ends). take i ranges ++ x ∷ []) (sym r_is) in (
       λ has.
           elim ((step c).0 has) [
-            | inl there ↦ let cut = (before c).0 there in (subst P (sym is) (Any-left (IsEdge c) (take i ranges) r cut.0), cut.1)
+            | inl there ↦ let cut = (before c).0 there in
+                (subst P (sym is) (Any-left (IsEdge c) (take i ranges) r cut.0), cut.1)
             | inr here ↦ (subst P (sym is) (Any-last (IsEdge c) (take i ranges) r here.0), here.1)
           ],
       λ cut.
@@ -106,23 +120,28 @@ cuts_more ranges i r old new within inside r_is before step c =
     )
 
 -- sorting, and dropping repeats, change no place
-pub places_stay : (places sorted kept : List ℕ) → IsPermutation places sorted → IsFiltered (DiffersFromLast nat_eq) [] sorted kept
+pub places_stay : (places sorted kept : List ℕ) → IsPermutation places sorted
+    → IsFiltered (DiffersFromLast nat_eq) [] sorted kept
     → (c : ℕ) → Contains kept c ↔ Contains places c
 places_stay places sorted kept moved filtered c =
     let is = dedup_is nat_eq sorted kept filtered in
     let P : List ℕ → Type 0 = λ xs. Contains xs c in (
-      λ has. Contains-permutation sorted places c (IsPermutation-sym places sorted moved) (Contains-from_dedup nat_eq sorted c (subst P is has)),
-      λ there. subst P (sym is) (Contains-dedup_nat sorted c (Contains-permutation places sorted c moved there)),
+      λ has. Contains-permutation sorted places c (IsPermutation-sym places sorted moved)
+          (Contains-from_dedup nat_eq sorted c (subst P is has)),
+      λ there. subst P (sym is)
+          (Contains-dedup_nat sorted c (Contains-permutation places sorted c moved there)),
     )
 
 -- and they leave the places ascending
-pub places_ascend : (sorted kept : List ℕ) → IsSorted nat_cmp sorted → IsFiltered (DiffersFromLast nat_eq) [] sorted kept → IsStrictlyIncreasing kept
+pub places_ascend : (sorted kept : List ℕ) → IsSorted nat_cmp sorted
+    → IsFiltered (DiffersFromLast nat_eq) [] sorted kept → IsStrictlyIncreasing kept
 places_ascend sorted kept is_sorted filtered =
     let is = dedup_is nat_eq sorted kept filtered in
     subst IsStrictlyIncreasing (sym is) (IsStrictlyIncreasing-dedup sorted is_sorted)
 
 -- cut points that are put in order are cut points
-pub cuts_stay : (ranges : List Ends) (within : Ends) (places kept : List ℕ) → ((c : ℕ) → Contains kept c ↔ Contains places c)
+pub cuts_stay : (ranges : List Ends) (within : Ends) (places kept : List ℕ)
+    → ((c : ℕ) → Contains kept c ↔ Contains places c)
     → AreCuts ranges within places → AreCuts ranges within kept
 cuts_stay ranges within places kept stay cuts c =
     (λ has. (cuts c).0 ((stay c).0 has), λ cut. (stay c).1 ((cuts c).1 cut))

@@ -1,5 +1,6 @@
 -- Multiples of powers of two.
-use Rattle.std.proofs.Common.{◌≡◌, ℕ, ◌+◌, ◌-◌, ◌*◌, ◌/◌, ◌%◌, ◌^◌, ◌<◌, ◌≤◌, inl, inr, arith, sym, ap, ◌∙◌}
+use Rattle.std.proofs.Common.{◌≡◌, ℕ, ◌+◌, ◌-◌, ◌*◌, ◌/◌, ◌%◌, ◌^◌, ◌<◌, ◌≤◌, inl, inr, arith, sym}
+use Rattle.std.proofs.Common.{ap, ◌∙◌}
 use Rattle.std.proofs.Math.Nat.{mul-le-mul_left, mod-add-div, add-mod_right, zero-mod}
 use Rattle.std.proofs.lemmas.Bool.{cases_lt}
 use Rattle.std.proofs.Math.Pow.{mod-mod-pow}
@@ -23,7 +24,8 @@ multiple_apart p a b first second below =
 pub multiple_lower : (n j k : ℕ) → k ≤ j → n % 2 ^ j ≡ 0 → n % 2 ^ k ≡ 0
 multiple_lower n j k less whole =
     let split : (j - k) + k ≡ j = omega arith in
-    sym (mod-mod-pow n (j - k) k) ∙ ap (λ e. n % 2 ^ e % 2 ^ k) split ∙ ap (λ m. m % 2 ^ k) whole ∙ zero-mod (2 ^ k)
+    sym (mod-mod-pow n (j - k) k) ∙ ap (λ e. n % 2 ^ e % 2 ^ k) split ∙ ap (λ m. m % 2 ^ k) whole
+    ∙ zero-mod (2 ^ k)
 
 -- the next multiple
 pub multiple_next : (n p : ℕ) → n % p ≡ 0 → (n + p) % p ≡ 0

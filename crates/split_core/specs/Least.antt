@@ -20,9 +20,11 @@ abbrev pub Ascend : ℕ → List Prefix → Type 0
 Ascend place [] = Unit {0}
 Ascend place (b ∷ bs) = (place ≤ b.first) × Ascend (past b) bs
 
--- aligned, ascending, disjoint blocks with exactly the range's addresses, and no list of blocks with these addresses is shorter
+-- aligned, ascending, disjoint blocks with exactly the range's addresses,
+-- and no list of blocks with these addresses is shorter
 pub record AreLeastFor (r : Ends) (bs : List Prefix) : Type 0 where
   pub aligned : All IsBlock bs
   pub ascending : Ascend r.first bs
   pub exact : HaveAddresses bs r
-  pub least : (others : List Prefix) → All IsBlock others → HaveAddresses others r → length bs ≤ length others
+  pub least : (others : List Prefix) → All IsBlock others → HaveAddresses others r
+      → length bs ≤ length others

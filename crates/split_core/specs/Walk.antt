@@ -1,5 +1,6 @@
 -- The blocks from a place on: each is the largest one that begins there and ends in time.
-use Rattle.std.specs.Prelude.{ℕ, zero, suc, ◌+◌, ◌-◌, ◌%◌, ◌^◌, Bool, ◌&&◌, Option, None, Some, List, [], ◌∷◌, nat_eq, nat_lt, nat_le, if◌then◌else◌}
+use Rattle.std.specs.Prelude.{ℕ, zero, suc, ◌+◌, ◌-◌, ◌%◌, ◌^◌, Bool, ◌&&◌, Option, None, Some}
+use Rattle.std.specs.Prelude.{List, [], ◌∷◌, nat_eq, nat_lt, nat_le, if◌then◌else◌}
 use Rattle.geo_addr.specs.Ranges.{Ends, Prefix}
 use Rattle.split_core.specs.Least.{past}
 
@@ -19,7 +20,9 @@ largest_block first end = record { first = first; len = 128 - largest 128 first 
 -- at most n blocks from this place to `end`
 unfoldable pub blocks_from : ℕ → ℕ → ℕ → List Prefix
 blocks_from zero first end = []
-blocks_from (suc n) first end = if nat_lt first end then largest_block first end ∷ blocks_from n (past (largest_block first end)) end else []
+blocks_from (suc n) first end =
+    if nat_lt first end
+    then largest_block first end ∷ blocks_from n (past (largest_block first end)) end else []
 
 -- all blocks from this place to `end`
 abbrev pub blocks_of : ℕ → ℕ → List Prefix

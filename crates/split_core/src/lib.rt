@@ -1,4 +1,5 @@
-//! Ranges split into the fewest blocks, and the places at which a list of ranges cuts the address space.
+//! Ranges split into the fewest blocks, and the places at which a list of
+//! ranges cuts the address space.
 #![tactic(auto)]
 
 mod places;

@@ -6,8 +6,8 @@ ghost use Rattle.geo_addr.specs.Ranges.{AreCuts, IsEdge, IsWithin};
 use geo_addr::{Memory, Range};
 use std::alloc::Global;
 
-/// Where the ground of a range begins, and the place past its end, for all the ranges, as far as these
-/// places lie within a range: ascending, each once.
+/// Where the ground of a range begins, and the place past its end, for all the ranges, as far as
+/// these places lie within a range: ascending, each once.
 pub fn cuts(alloc: Global, ranges: &[Range], within: Range) -> Result<Vec<u128>, Memory>
     ensures exact { IfOk result (λ v. AreCuts ranges.now within v.items) }
     ensures ascending { IfOk result (λ v. IsStrictlyIncreasing v.items) }
@@ -29,10 +29,11 @@ fn edges_within(alloc: Global, ranges: &[Range], within: Range) -> Result<Vec<u1
     Ok(places)
 }
 
-/// Appends the two edges of a range, as far as they lie within another, but not once more the place that is
-/// the last one already.
+/// Appends the two edges of a range, as far as they lie within another, but not once more the place
+/// that is the last one already.
 pub fn push_edges(places: &mut Vec<u128>, range: Range, within: Range) -> Result<(), Memory>
-    ensures { OnOk result ((c : ℕ) → Contains places.new.items c ↔ (Contains places.old.items c ⊎ (IsEdge c range × IsWithin within c))) }
+    ensures { OnOk result ((c : ℕ) → Contains places.new.items c
+        ↔ (Contains places.old.items c ⊎ (IsEdge c range × IsWithin within c))) }
 {
     push_within(places, range.ground_first(), within)?;
     // The place past the range lies within only if it does not overflow.
@@ -44,7 +45,8 @@ pub fn push_edges(places: &mut Vec<u128>, range: Range, within: Range) -> Result
 
 /// Appends a place that lies within a range.
 fn push_within(places: &mut Vec<u128>, place: u128, within: Range) -> Result<(), Memory>
-    ensures { OnOk result ((c : ℕ) → Contains places.new.items c ↔ (Contains places.old.items c ⊎ ((c ≡ place) × IsWithin within c))) }
+    ensures { OnOk result ((c : ℕ) → Contains places.new.items c
+        ↔ (Contains places.old.items c ⊎ ((c ≡ place) × IsWithin within c))) }
 {
     if within.first <= place && place <= within.last {
         push_new(places, place)?;
@@ -54,7 +56,8 @@ fn push_within(places: &mut Vec<u128>, place: u128, within: Range) -> Result<(),
 
 /// Appends a place, unless it is the last one already.
 fn push_new(places: &mut Vec<u128>, place: u128) -> Result<(), Memory>
-    ensures { OnOk result ((c : ℕ) → Contains places.new.items c ↔ (Contains places.old.items c ⊎ (c ≡ place))) }
+    ensures { OnOk result
+        ((c : ℕ) → Contains places.new.items c ↔ (Contains places.old.items c ⊎ (c ≡ place))) }
 {
     if !ends_with(places.as_slice(), place) {
         places.push(place)?;

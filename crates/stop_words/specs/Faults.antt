@@ -1,5 +1,6 @@
 -- What is true of a word of which a fault is said.
-use Rattle.std.specs.Prelude.{◌≡◌, ◌<◌, ◌≤◌, ℕ, ◌==◌, ◌^◌, Bool, true, false, List, [], ◌∷◌, codes, length, None, Some, Ok, Err, IsSomeAnd, IfOk}
+use Rattle.std.specs.Prelude.{◌≡◌, ◌<◌, ◌≤◌, ℕ, ◌==◌, ◌^◌, Bool, true, false, List, [], ◌∷◌, codes}
+use Rattle.std.specs.Prelude.{length, None, Some, Ok, Err, IsSomeAnd, IfOk}
 use Rattle.std.specs.List.{list_all, list_any}
 use Rattle.std.specs.Str.{is_utf8}
 use Rattle.geo_addr.specs.AddressTexts.{address_in}

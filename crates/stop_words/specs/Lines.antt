@@ -1,5 +1,6 @@
 -- The words that stand behind the first word of a line of a job.
-use Rattle.std.specs.Prelude.{ℕ, ◌&&◌, Bool, false, List, [], ◌∷◌, codes, Option, None, Some, if◌then◌else◌}
+use Rattle.std.specs.Prelude.{ℕ, ◌&&◌, Bool, false, List, [], ◌∷◌, codes, Option, None, Some}
+use Rattle.std.specs.Prelude.{if◌then◌else◌}
 use Rattle.geo_terms.specs.PlaceForm.{same_text}
 use Rattle.job_lines.specs.Words.{has_none}
 use Rattle.stop_words.specs.Shapes.{fits}
@@ -67,7 +68,8 @@ unfoldable pub line_operands : List ℕ → Option Operands
 line_operands word =
     if same_text word (codes "epoch") then Some (One shapes.Epoch)
     else (if same_text word (codes "type") then Some (One shapes.TypeName)
-    else (if same_text word (codes "pieces") then Some (One shapes.Pieces) else source_operands word))
+    else (if same_text word (codes "pieces") then Some (One shapes.Pieces)
+    else source_operands word))
 
 abbrev pub takes : Option Operands → List (List ℕ) → Bool
 takes None rest = false

@@ -1,5 +1,6 @@
 -- Where a line of a job may stand: what the lines before it have said.
-use Rattle.std.specs.Prelude.{ℕ, Bool, true, false, not, List, codes, Option, None, Some, if◌then◌else◌}
+use Rattle.std.specs.Prelude.{ℕ, Bool, true, false, not, List, codes, Option, None, Some}
+use Rattle.std.specs.Prelude.{if◌then◌else◌}
 use Rattle.geo_terms.specs.PlaceForm.{same_text}
 use Rattle.stop_words.specs.declared.place.Kind.{Kind}
 use Rattle.stop_words.specs.declared.place.Kind.TheVariants as kinds

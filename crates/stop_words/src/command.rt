@@ -27,7 +27,8 @@ pub enum CommandFault {
 
 /// Why the words behind the program's name are no command, or `None` where they are one.
 pub fn command_fault(alloc: Global, words: &[String]) -> Result<Option<CommandFault>, Memory>
-    ensures { IfOk result (λ fault. is_none fault ≡ is_some (command_of (map string_bytes words.now))) }
+    ensures { IfOk result
+        (λ fault. is_none fault ≡ is_some (command_of (map string_bytes words.now))) }
 {
     match words {
         [] => Ok(Some(CommandFault::Missing)),
@@ -100,7 +101,8 @@ fn with_three(
     b: &str,
     c: &str,
 ) -> Result<Option<CommandFault>, Memory>
-    ensures { IfOk result (λ fault. is_none fault ≡ is_some (with_three word.now a.now b.now c.now)) }
+    ensures { IfOk result
+        (λ fault. is_none fault ≡ is_some (with_three word.now a.now b.now c.now)) }
 {
     if word == "publish" {
         return publish_words(alloc, a, b, c);
@@ -114,7 +116,8 @@ fn publish_words(
     block: &str,
     file: &str,
 ) -> Result<Option<CommandFault>, Memory>
-    ensures { IfOk result (λ fault. is_none fault ≡ ((fits Shape.File job.now && fits Shape.Block block.now) && fits Shape.File file.now)) }
+    ensures { IfOk result (λ fault. is_none fault
+        ≡ ((fits Shape.File job.now && fits Shape.Block block.now) && fits Shape.File file.now)) }
 {
     match at_words(alloc, Shape::File, job, Shape::Block, block)? {
         Some(fault) => Ok(Some(fault)),

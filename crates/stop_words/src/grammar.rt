@@ -1,6 +1,7 @@
 //! What stands behind the first word of a line of a job.
 ghost use Rattle.std.specs.Prelude.{◌≡◌};
-ghost use Rattle.stop_words.specs.Lines.{gone_operand, kept_operands, line_operands, source_operands};
+ghost use Rattle.stop_words.specs.Lines.{gone_operand, kept_operands, line_operands};
+ghost use Rattle.stop_words.specs.Lines.{source_operands};
 
 use crate::shape::{Operands, Shape};
 
@@ -65,7 +66,8 @@ fn kept_operands(word: &[u8]) -> Option<Operands>
     None
 }
 
-/// What stands behind the kind of source that a line drops, where something does, or `None` where a word is no kind.
+/// What stands behind the kind of source that a line drops, where something does,
+/// or `None` where a word is no kind.
 #[tactic(auto, unfolding(crate::specs::Lines::gone_operand))]
 pub(crate) fn gone_operand(word: &[u8]) -> Option<Option<Shape>>
     ensures { result ≡ gone_operand word.now }

@@ -1,4 +1,5 @@
-//! What is said of a stop: one line with its place and what to do about it, for the person who ran the program.
+//! What is said of a stop: one line with its place and what to do about it,
+//! for the person who ran the program.
 #![tactic(auto)]
 
 mod causes;

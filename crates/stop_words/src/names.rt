@@ -3,7 +3,8 @@ ghost use Rattle.std.specs.Prelude.{◌≡◌, [], true, IfSome, is_none};
 ghost use Rattle.std.specs.List.{list_all};
 ghost use Rattle.std.specs.Str.{is_utf8};
 ghost use Rattle.geo_addr.specs.Lines.{pieces};
-ghost use Rattle.job_lines.specs.Names.{is_name, is_name_byte, is_part, is_slot, is_slot_byte, is_type_name, is_visible};
+ghost use Rattle.job_lines.specs.Names.{is_name, is_name_byte, is_part, is_slot, is_slot_byte};
+ghost use Rattle.job_lines.specs.Names.{is_type_name, is_visible};
 ghost use Rattle.stop_words.specs.Faults.{has_part, is_absolute, IsSo};
 
 use crate::fault::WordFault;

@@ -2,7 +2,8 @@
 ghost use Rattle.std.specs.Prelude.{◌≡◌, false, IfOk, is_none};
 ghost use Rattle.job_lines.specs.Forms.{form_of};
 ghost use Rattle.job_lines.specs.Words.{words};
-ghost use Rattle.stop_words.specs.Places.{fault_where, is_form_refusal, kind_of, nothing_seen, place_fault, seen_with, setting_fault};
+ghost use Rattle.stop_words.specs.Places.{fault_where, is_form_refusal, kind_of, nothing_seen};
+ghost use Rattle.stop_words.specs.Places.{place_fault, seen_with, setting_fault};
 
 use crate::line::{LineFault, line_fault};
 use crate::words::next_word;
@@ -127,7 +128,8 @@ pub fn kind_of(word: &[u8]) -> Kind
 
 /// Why a line is refused behind what was seen, or `None` where it is not.
 pub fn refusal_of(alloc: Global, seen: Seen, line: &[u8]) -> Result<Option<Refusal>, Memory>
-    ensures { IfOk result (λ refusal. is_form_refusal refusal ≡ is_none (form_of (words line.now))) }
+    ensures { IfOk result
+        (λ refusal. is_form_refusal refusal ≡ is_none (form_of (words line.now))) }
 {
     match line_fault(alloc, line)? {
         Some(fault) => Ok(Some(Refusal::Form(fault))),

@@ -18,8 +18,8 @@ pub(crate) fn act_at(job: &Job, line: u64) -> Option<&Act> {
     None
 }
 
-/// The line of the one step that reads or writes the file of this name. Of two such lines a stop line does not say
-/// which, so there is no answer.
+/// The line of the one step that reads or writes the file of this name. Of two such lines a stop
+/// line does not say which, so there is no answer.
 pub(crate) fn line_of(job: &Job, name: &str, done: Use) -> Option<u64> {
     let mut found = None;
     for step in job.steps.as_slice() {

@@ -24,10 +24,11 @@ pub struct Stopped<'a> {
     pub system: &'a str,
 }
 
-/// One line for the person who spoke these words: what stopped the command, in which line of the job, and what to do.
-/// It is empty where all was done.
+/// One line for the person who spoke these words: what stopped the command, in which line of the
+/// job, and what to do. It is empty where all was done.
 ///
-/// The job is read again, from a folder that may have changed by now: what is not found there is left out of the line.
+/// The job is read again, from a folder that may have changed by now:
+/// what is not found there is left out of the line.
 pub fn stop_text<F: Folder>(
     alloc: Global,
     words: &[String],

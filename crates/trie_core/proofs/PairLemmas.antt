@@ -1,5 +1,7 @@
 -- Lemmas on the test of two pairs that the store's set makes: it tells equal pairs from others.
-use Rattle.std.proofs.Common.{◌≡◌, ℕ, zero, suc, Bool, true, false, ◌||◌, true≢false, slice_get, Some, List, [], ◌∷◌, ◌++◌, Contains, nat_eq, ◌&&◌, inl, inr, if◌then◌else◌, refl, sym, ◌∙◌, ap, rules}
+use Rattle.std.proofs.Common.{◌≡◌, ℕ, zero, suc, Bool, true, false, ◌||◌, true≢false, slice_get}
+use Rattle.std.proofs.Common.{Some, List, [], ◌∷◌, ◌++◌, Contains, nat_eq, ◌&&◌, inl, inr}
+use Rattle.std.proofs.Common.{if◌then◌else◌, refl, sym, ◌∙◌, ap, rules}
 use Rattle.std.specs.List.{list_any}
 use Rattle.std.proofs.lemmas.Bool.{and_parts}
 use Rattle.std.proofs.lemmas.Map.Views.{Contains-from_any}
@@ -27,7 +29,8 @@ rec_itself (Node k) = let h : nat_eq k.0 k.0 ≡ true = search rules in h
 
 pub same_pair : (a b : Pair) → pair_impl.eq-value.it a b ≡ true → a ≡ b
 same_pair a b is =
-    let h : (rec_impl.eq-value.it a.left b.left && rec_impl.eq-value.it a.right b.right) ≡ true = is in
+    let h : (rec_impl.eq-value.it a.left b.left && rec_impl.eq-value.it a.right b.right) ≡ true =
+    is in
     let parts = and_parts _ _ h in
     let left = same_rec a.left b.left parts.0 in
     let right = same_rec a.right b.right parts.1 in
@@ -40,7 +43,8 @@ pair_itself a =
     both
 
 -- a test that passes at an element passes somewhere
-any_from_element : {X : Type 0} (test : X → Bool) (xs : List X) (k : ℕ) (x : X) → slice_get xs k ≡ Some x → test x ≡ true → list_any test xs ≡ true
+any_from_element : {X : Type 0} (test : X → Bool) (xs : List X) (k : ℕ) (x : X)
+    → slice_get xs k ≡ Some x → test x ≡ true → list_any test xs ≡ true
 any_from_element test [] k x at holds = absurd (cc)
 any_from_element test (y ∷ xs) zero x at holds =
     let same : y ≡ x = cc in
@@ -54,19 +58,29 @@ any_from_element test (y ∷ xs) (suc k) x at holds =
     or_true false = refl
 
 -- what the set's search finds is in the list
-pub Contains-from_search : (pairs : List Pair) (p : Pair) → list_any (pair_impl.eq-value.it p) pairs ≡ true → Contains pairs p
+pub Contains-from_search : (pairs : List Pair) (p : Pair)
+    → list_any (pair_impl.eq-value.it p) pairs ≡ true → Contains pairs p
 Contains-from_search pairs p found = Contains-from_any same_pair p pairs found
 
 -- and what is in the list it finds
-pub search_finds : (pairs : List Pair) (p : Pair) → Contains pairs p → list_any (pair_impl.eq-value.it p) pairs ≡ true
+pub search_finds : (pairs : List Pair) (p : Pair) → Contains pairs p
+    → list_any (pair_impl.eq-value.it p) pairs ≡ true
 search_finds pairs p has =
     let at = slice_get-Contains pairs p has in
     any_from_element (pair_impl.eq-value.it p) pairs at.0 p at.1 (pair_itself p)
 
 -- an insert into the set adds the pair where it is new
-pub IsAdded-insert_key : (pairs : List Pair) (p : Pair) → IsAdded pairs (insert_key pair_impl.eq-value.it pairs p) p
+pub IsAdded-insert_key : (pairs : List Pair) (p : Pair)
+    → IsAdded pairs (insert_key pair_impl.eq-value.it pairs p) p
 IsAdded-insert_key pairs p = by (list_any (pair_impl.eq-value.it p) pairs) refl
   where
-    by : (found : Bool) → list_any (pair_impl.eq-value.it p) pairs ≡ found → IsAdded pairs (insert_key pair_impl.eq-value.it pairs p) p
-    by true is = inl (Contains-from_search pairs p is, ap (λ (b : Bool). if b then pairs else pairs ++ p ∷ []) is)
-    by false is = inr ((λ has. true≢false (sym (search_finds pairs p has) ∙ is)), ap (λ (b : Bool). if b then pairs else pairs ++ p ∷ []) is)
+    by : (found : Bool) → list_any (pair_impl.eq-value.it p) pairs ≡ found
+        → IsAdded pairs (insert_key pair_impl.eq-value.it pairs p) p
+    by true is = inl (
+      Contains-from_search pairs p is,
+      ap (λ (b : Bool). if b then pairs else pairs ++ p ∷ []) is,
+    )
+    by false is = inr (
+      (λ has. true≢false (sym (search_finds pairs p has) ∙ is)),
+      ap (λ (b : Bool). if b then pairs else pairs ++ p ∷ []) is,
+    )

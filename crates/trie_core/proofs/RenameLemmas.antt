@@ -1,8 +1,10 @@
 -- Lemmas on a tree with its leaves renamed.
-use Rattle.std.proofs.Common.{◌≡◌, ℕ, zero, suc, ◌^◌, ◌<◌, ◌≤◌, inl, inr, Bool, true, false, List, [], ◌∷◌, length, Some, option_map, refl, sym, ◌∙◌, ap, subst, arith}
+use Rattle.std.proofs.Common.{◌≡◌, ℕ, zero, suc, ◌^◌, ◌<◌, ◌≤◌, inl, inr, Bool, true, false, List}
+use Rattle.std.proofs.Common.{[], ◌∷◌, length, Some, option_map, refl, sym, ◌∙◌, ap, subst, arith}
 use Rattle.geo_addr.specs.Bits.{bits_of, number_of}
 use Rattle.geo_addr.proofs.BitsLemmas.{OneListOfBits-each, length-bits_of}
-use Rattle.trie_core.specs.Tree.{Tree, leaf, node, height, look, IsReduced, HasLeaf, AllLeaves, map_tree, tree}
+use Rattle.trie_core.specs.Tree.{Tree, leaf, node, height, look, IsReduced, HasLeaf, AllLeaves}
+use Rattle.trie_core.specs.Tree.{map_tree, tree}
 use Rattle.trie_core.specs.Laws.{Renamed, IsReducedWithin, IsEquality}
 use Rattle.trie_core.proofs.TreeLemmas.{OnlyTree-holds}
 
@@ -25,12 +27,15 @@ module _ {A B : Type 0} (f : A → B) where
   look-map_tree (node l r) (true ∷ w) = look-map_tree r w
 
   -- a renamed tree that is a leaf was a leaf
-  pub leaf_before-map_tree : (t : Tree A) (b : B) → map_tree f t ≡ leaf b → (a : A) × (t ≡ leaf a) × (f a ≡ b)
+  pub leaf_before-map_tree : (t : Tree A) (b : B) → map_tree f t ≡ leaf b
+      → (a : A) × (t ≡ leaf a) × (f a ≡ b)
   leaf_before-map_tree (leaf a) b is = (a, refl, cc)
   leaf_before-map_tree (node l r) b is = absurd (cc)
 
   -- different names for different leaves keep a tree reduced
-  pub IsReduced-map_tree : (t : Tree A) → ((a b : A) → HasLeaf t a → HasLeaf t b → f a ≡ f b → a ≡ b) → IsReduced t → IsReduced (map_tree f t)
+  pub IsReduced-map_tree : (t : Tree A)
+      → ((a b : A) → HasLeaf t a → HasLeaf t b → f a ≡ f b → a ≡ b) → IsReduced t
+      → IsReduced (map_tree f t)
   IsReduced-map_tree (leaf a) apart reduced = tt
   IsReduced-map_tree (node l r) apart reduced = (
     λ b left right.
@@ -45,19 +50,24 @@ module _ {A B : Type 0} (f : A → B) where
   )
 
 pub Renamed-holds : (A B : Type 0) → Renamed A B
-Renamed-holds A B f n t apart t-ok =
-    ((omega (arith, height-map_tree f t, t-ok.0), IsReduced-map_tree f t apart t-ok.1), look-map_tree f t)
+Renamed-holds A B f n t apart t-ok = (
+  (omega (arith, height-map_tree f t, t-ok.0), IsReduced-map_tree f t apart t-ok.1),
+  look-map_tree f t,
+)
 
 -- a tree whose leaves were renamed is the tree of what its names answer
-pub map_tree-is_tree : {A B : Type 0} (f : A → B) (eq : B → B → Bool) → IsEquality eq → (wanted : ℕ → B) (n : ℕ) (t : Tree A)
+pub map_tree-is_tree : {A B : Type 0} (f : A → B) (eq : B → B → Bool) → IsEquality eq
+    → (wanted : ℕ → B) (n : ℕ) (t : Tree A)
     → ((a b : A) → HasLeaf t a → HasLeaf t b → f a ≡ f b → a ≡ b) → IsReducedWithin n t
-    → ((at : ℕ) → at < 2 ^ n → option_map f (look t (bits_of n at)) ≡ Some (wanted at)) → map_tree f t ≡ tree eq wanted n 0
+    → ((at : ℕ) → at < 2 ^ n → option_map f (look t (bits_of n at)) ≡ Some (wanted at))
+    → map_tree f t ≡ tree eq wanted n 0
 map_tree-is_tree {A} {B} f eq equality wanted n t apart t-ok answers =
     OnlyTree-holds eq equality wanted n (map_tree f t) (Renamed-holds A B f n t apart t-ok).0
     (λ at below. look-map_tree f t (bits_of n at) ∙ answers at below)
 
 -- each leaf of a tree is the answer at some address
-pub address_of_leaf : {A : Type 0} (n : ℕ) (t : Tree A) (a : A) → height t ≤ n → HasLeaf t a → (w : List Bool) × (length w ≡ n) × (look t w ≡ Some a)
+pub address_of_leaf : {A : Type 0} (n : ℕ) (t : Tree A) (a : A) → height t ≤ n → HasLeaf t a
+    → (w : List Bool) × (length w ≡ n) × (look t w ≡ Some a)
 address_of_leaf n (leaf b) a low is = (bits_of n 0, length-bits_of n 0, ap Some is)
 address_of_leaf zero (node l r) a low has = absurd (omega arith)
 address_of_leaf (suc n) (node l r) a low (inl left) =
@@ -69,9 +79,11 @@ address_of_leaf (suc n) (node l r) a low (inr right) =
 
 -- so what holds of each answer holds of each leaf
 pub leaf_from_answers : {A : Type 0} (P : A → Type 0) (n : ℕ) (t : Tree A) → height t ≤ n
-    → ((at : ℕ) (a : A) → at < 2 ^ n → look t (bits_of n at) ≡ Some a → P a) → (a : A) → HasLeaf t a → P a
+    → ((at : ℕ) (a : A) → at < 2 ^ n → look t (bits_of n at) ≡ Some a → P a)
+    → (a : A) → HasLeaf t a → P a
 leaf_from_answers P n t low answers a has =
     let found = address_of_leaf n t a low has in
     let one = OneListOfBits-each n in
     let w = found.0 in
-    answers (number_of w) a (one.below w found.1) (subst (λ v. look t v ≡ Some a) (sym (one.again w found.1)) found.2)
+    answers (number_of w) a (one.below w found.1)
+    (subst (λ v. look t v ≡ Some a) (sym (one.again w found.1)) found.2)

@@ -1,11 +1,16 @@
--- Lemmas on reduced trees: what a constant tree is, the three laws, and what a renaming of the leaves keeps.
-use Rattle.std.proofs.Common.{◌≡◌, ◌≢◌, ℕ, zero, suc, ◌+◌, ◌-◌, ◌^◌, ◌<◌, ◌≤◌, max, ◌⊎◌, inl, inr, Bool, true, false, true≢false, if◌then◌else◌, List, ◌∷◌, length, Some, refl, sym, ◌∙◌, ap, subst, nat_eq, arith, rules}
+-- Lemmas on reduced trees: what a constant tree is, the three laws,
+-- and what a renaming of the leaves keeps.
+use Rattle.std.proofs.Common.{◌≡◌, ◌≢◌, ℕ, zero, suc, ◌+◌, ◌-◌, ◌^◌, ◌<◌, ◌≤◌, max, ◌⊎◌, inl, inr}
+use Rattle.std.proofs.Common.{Bool, true, false, true≢false, if◌then◌else◌, List, ◌∷◌, length, Some}
+use Rattle.std.proofs.Common.{refl, sym, ◌∙◌, ap, subst, nat_eq, arith, rules}
 use Rattle.std.proofs.lemmas.Bool.{cases_lt}
 use Rattle.std.proofs.Math.Nat.{two-pow-succ}
 use Rattle.geo_addr.specs.Bits.{bits_of, number_of}
-use Rattle.geo_addr.proofs.BitsLemmas.{bits_of-lower, bits_of-upper, length-bits_of, OneListOfBits-each}
+use Rattle.geo_addr.proofs.BitsLemmas.{bits_of-lower, bits_of-upper, length-bits_of}
+use Rattle.geo_addr.proofs.BitsLemmas.{OneListOfBits-each}
 use Rattle.trie_core.specs.Tree.{Tree, leaf, node, height, look, IsReduced, join, tree}
-use Rattle.trie_core.specs.Laws.{IsReducedWithin, SameLookups, IsEquality, Answers, Canonical, TreeOfFunction, OnlyTree}
+use Rattle.trie_core.specs.Laws.{IsReducedWithin, SameLookups, IsEquality, Answers, Canonical}
+use Rattle.trie_core.specs.Laws.{TreeOfFunction, OnlyTree}
 
 -- the test of two numbers tells equal leaves from others
 pub nat_equality : IsEquality nat_eq
@@ -13,31 +18,45 @@ nat_equality x y = (λ e. search rules, λ e. search rules)
 
 module _ {A : Type 0} where
   -- a reduced tree that answers the same everywhere is that leaf
-  pub leaf_from_constant : (n : ℕ) (t : Tree A) (a : A) → height t ≤ n → IsReduced t → ((w : List Bool) → length w ≡ n → look t w ≡ Some a) → t ≡ leaf a
-  leaf_from_constant n (leaf b) a low reduced same = ap leaf (cc (same (bits_of n 0) (length-bits_of n 0)))
+  pub leaf_from_constant : (n : ℕ) (t : Tree A) (a : A) → height t ≤ n → IsReduced t
+      → ((w : List Bool) → length w ≡ n → look t w ≡ Some a) → t ≡ leaf a
+  leaf_from_constant n (leaf b) a low reduced same =
+      ap leaf (cc (same (bits_of n 0) (length-bits_of n 0)))
   leaf_from_constant zero (node l r) a low reduced same = absurd (omega arith)
   leaf_from_constant (suc n) (node l r) a low reduced same =
-      let left : l ≡ leaf a = leaf_from_constant n l a (omega arith) reduced.1 (λ w long. same (false ∷ w) (omega arith)) in
-      let right : r ≡ leaf a = leaf_from_constant n r a (omega arith) reduced.2 (λ w long. same (true ∷ w) (omega arith)) in
+      let left : l ≡ leaf a =
+      leaf_from_constant n l a (omega arith) reduced.1 (λ w long. same (false ∷ w) (omega arith)) in
+      let right : r ≡ leaf a =
+      leaf_from_constant n r a (omega arith) reduced.2 (λ w long. same (true ∷ w) (omega arith)) in
       absurd (reduced.0 a left right)
 
   -- equal lookups, equal trees
-  pub same_from_lookups : (n : ℕ) (s t : Tree A) → IsReducedWithin n s → IsReducedWithin n t → SameLookups n s t → s ≡ t
+  pub same_from_lookups : (n : ℕ) (s t : Tree A) → IsReducedWithin n s → IsReducedWithin n t
+      → SameLookups n s t → s ≡ t
   same_from_lookups n (leaf a) t s-ok t-ok same =
       sym (leaf_from_constant n t a t-ok.0 t-ok.1 (λ w long. sym (same w long)))
   same_from_lookups n (node l r) (leaf a) s-ok t-ok same =
       leaf_from_constant n (node l r) a s-ok.0 s-ok.1 same
   same_from_lookups zero (node l r) (node l' r') s-ok t-ok same = absurd (omega (arith, s-ok.0))
   same_from_lookups (suc n) (node l r) (node l' r') s-ok t-ok same =
-      let left : l ≡ l' = same_from_lookups n l l' (omega (arith, s-ok.0), s-ok.1.1) (omega (arith, t-ok.0), t-ok.1.1) (λ w long. same (false ∷ w) (omega arith)) in
-      let right : r ≡ r' = same_from_lookups n r r' (omega (arith, s-ok.0), s-ok.1.2) (omega (arith, t-ok.0), t-ok.1.2) (λ w long. same (true ∷ w) (omega arith)) in
+      let left : l ≡ l' = same_from_lookups n l l' (
+        omega (arith, s-ok.0),
+        s-ok.1.1,
+      ) (omega (arith, t-ok.0), t-ok.1.1) (λ w long. same (false ∷ w) (omega arith)) in
+      let right : r ≡ r' = same_from_lookups n r r' (
+        omega (arith, s-ok.0),
+        s-ok.1.2,
+      ) (omega (arith, t-ok.0), t-ok.1.2) (λ w long. same (true ∷ w) (omega arith)) in
       cc
 
   module _ (eq : A → A → Bool) (equality : IsEquality eq) where
     -- two leaves join to one leaf where they are equal, and to their node otherwise
-    pub join-leaves : (a b : A) → ((a ≡ b) × (join eq (leaf a) (leaf b) ≡ leaf a)) ⊎ ((a ≢ b) × (join eq (leaf a) (leaf b) ≡ node (leaf a) (leaf b)))
+    pub join-leaves : (a b : A) → ((a ≡ b) × (join eq (leaf a) (leaf b) ≡ leaf a))
+        ⊎ ((a ≢ b) × (join eq (leaf a) (leaf b) ≡ node (leaf a) (leaf b)))
     join-leaves a b =
-        elim (eq a b) as (λ v. eq a b ≡ v → ((a ≡ b) × ((if v then leaf a else node (leaf a) (leaf b)) ≡ leaf a)) ⊎ ((a ≢ b) × ((if v then leaf a else node (leaf a) (leaf b)) ≡ node (leaf a) (leaf b)))) [
+        elim (eq a b)
+        as (λ v. eq a b ≡ v → ((a ≡ b) × ((if v then leaf a else node (leaf a) (leaf b)) ≡ leaf a))
+        ⊎ ((a ≢ b) × ((if v then leaf a else node (leaf a) (leaf b)) ≡ node (leaf a) (leaf b)))) [
           | true ↦ λ is. inl ((equality a b).0 is, refl)
           | false ↦ λ is. inr ((λ same. true≢false (sym ((equality a b).1 same) ∙ is)), refl)
         ] refl
@@ -57,7 +76,8 @@ module _ {A : Type 0} where
     join-leaf a = elim (join-leaves a a) [ inl same ↦ same.1 | inr other ↦ absurd (other.0 refl) ]
 
     -- a join answers as the node does
-    pub look-join : (l r : Tree A) (b : Bool) (w : List Bool) → look (join eq l r) (b ∷ w) ≡ look (node l r) (b ∷ w)
+    pub look-join : (l r : Tree A) (b : Bool) (w : List Bool)
+        → look (join eq l r) (b ∷ w) ≡ look (node l r) (b ∷ w)
     look-join (leaf a) (leaf b) false w =
         elim (join-leaves a b) [
           | inl same ↦ ap (λ t. look t (false ∷ w)) same.1
@@ -97,31 +117,41 @@ module _ {A : Type 0} where
     IsReducedWithin-tree f zero first = (omega arith, tt)
     IsReducedWithin-tree f (suc n) first =
         let l = IsReducedWithin-tree f n first in
-        let r = IsReducedWithin-tree f n (first + 2 ^ n) in
-        (omega (arith, height-join (tree eq f n first) (tree eq f n (first + 2 ^ n)), l.0, r.0), IsReduced-join _ _ l.1 r.1)
+        let r = IsReducedWithin-tree f n (first + 2 ^ n) in (
+          omega (arith, height-join (tree eq f n first) (tree eq f n (first + 2 ^ n)), l.0, r.0),
+          IsReduced-join _ _ l.1 r.1,
+        )
 
     -- the tree of a function answers it, counted from the block's first address
-    pub look-tree : (f : ℕ → A) (n first a : ℕ) → a < 2 ^ n → look (tree eq f n first) (bits_of n a) ≡ Some (f (first + a))
+    pub look-tree : (f : ℕ → A) (n first a : ℕ) → a < 2 ^ n
+        → look (tree eq f n first) (bits_of n a) ≡ Some (f (first + a))
     unfolding tree
     look-tree f zero first a below = ap (λ b. Some (f b)) (omega arith)
     look-tree f (suc n) first a below =
         elim (cases_lt a (2 ^ n)) [
           | inl low ↦
-              ap (look (tree eq f (suc n) first)) (bits_of-lower n a low) ∙ look-join (tree eq f n first) (tree eq f n (first + 2 ^ n)) false (bits_of n a) ∙ look-tree f n first a low
+              ap (look (tree eq f (suc n) first)) (bits_of-lower n a low)
+              ∙ look-join (tree eq f n first) (tree eq f n (first + 2 ^ n)) false (bits_of n a)
+              ∙ look-tree f n first a low
           | inr high ↦
               let rest : ℕ = a - 2 ^ n in
               let less : rest < 2 ^ n = omega (arith, two-pow-succ n) in
               let is : a ≡ 2 ^ n + rest = omega arith in
               let place : first + 2 ^ n + rest ≡ first + a = omega arith in
-              ap (λ b. look (tree eq f (suc n) first) (bits_of (suc n) b)) is ∙ ap (look (tree eq f (suc n) first)) (bits_of-upper n rest less) ∙ look-join (tree eq f n first) (tree eq f n (first + 2 ^ n)) true (bits_of n rest) ∙ look-tree f n (first + 2 ^ n) rest less ∙ ap (λ b. Some (f b)) place
+              ap (λ b. look (tree eq f (suc n) first) (bits_of (suc n) b)) is
+              ∙ ap (look (tree eq f (suc n) first)) (bits_of-upper n rest less)
+              ∙ look-join (tree eq f n first) (tree eq f n (first + 2 ^ n)) true (bits_of n rest)
+              ∙ look-tree f n (first + 2 ^ n) rest less ∙ ap (λ b. Some (f b)) place
         ]
 
   -- equal answers at each address, equal lookups
-  pub SameLookups-from_answers : (n : ℕ) (f : ℕ → A) (s t : Tree A) → Answers n f s → Answers n f t → SameLookups n s t
+  pub SameLookups-from_answers : (n : ℕ) (f : ℕ → A) (s t : Tree A) → Answers n f s → Answers n f t
+      → SameLookups n s t
   SameLookups-from_answers n f s t s-answers t-answers w long =
       let one = OneListOfBits-each n in
       let same : look s (bits_of n (number_of w)) ≡ look t (bits_of n (number_of w)) =
-      s-answers (number_of w) (one.below w long) ∙ sym (t-answers (number_of w) (one.below w long)) in
+      s-answers (number_of w) (one.below w long)
+      ∙ sym (t-answers (number_of w) (one.below w long)) in
       subst (λ v. look s v ≡ look t v) (one.again w long) same
 
   -- the three laws
@@ -129,9 +159,13 @@ module _ {A : Type 0} where
   Canonical-holds = same_from_lookups
 
   pub TreeOfFunction-holds : TreeOfFunction A
-  TreeOfFunction-holds eq equality f n = (IsReducedWithin-tree eq equality f n 0, λ a below. look-tree eq equality f n 0 a below ∙ ap (λ b. Some (f b)) (omega arith))
+  TreeOfFunction-holds eq equality f n = (
+    IsReducedWithin-tree eq equality f n 0,
+    λ a below. look-tree eq equality f n 0 a below ∙ ap (λ b. Some (f b)) (omega arith),
+  )
 
   pub OnlyTree-holds : OnlyTree A
   OnlyTree-holds eq equality f n t t-ok answers =
       let law = TreeOfFunction-holds eq equality f n in
-      same_from_lookups n t (tree eq f n 0) t-ok law.0 (SameLookups-from_answers n f t (tree eq f n 0) answers law.1)
+      same_from_lookups n t (tree eq f n 0) t-ok law.0
+      (SameLookups-from_answers n f t (tree eq f n 0) answers law.1)

@@ -1,5 +1,6 @@
 -- The tree below a block of addresses, and a tree that is put in its place.
-use Rattle.std.specs.Prelude.{◌≡◌, ◌≢◌, ℕ, ◌+◌, ◌^◌, Bool, true, false, List, [], ◌∷◌, ◌++◌, length, take, Option}
+use Rattle.std.specs.Prelude.{◌≡◌, ◌≢◌, ℕ, ◌+◌, ◌^◌, Bool, true, false, List, [], ◌∷◌, ◌++◌, length}
+use Rattle.std.specs.Prelude.{take, Option}
 use Rattle.geo_addr.specs.Bits.{bits_of}
 use Rattle.geo_addr.specs.Ranges.{Prefix}
 use Rattle.trie_core.specs.declared.node.Rec.{Rec}
@@ -47,11 +48,13 @@ BelowAnswers A = (t : Tree A) (way w : List Bool) → look (sub t way) w ≡ loo
 -- behind the way of a graft its tree answers, and elsewhere the old one
 abbrev pub GraftAnswers : Type 0 → Type 0
 GraftAnswers A = (eq : A → A → Bool) → IsEquality eq → (t s : Tree A) (way w : List Bool)
-    → (look (graft eq t way s) (way ++ w) ≡ look s w) × (DoPart way w → look (graft eq t way s) w ≡ look t w)
+    → (look (graft eq t way s) (way ++ w) ≡ look s w)
+    × (DoPart way w → look (graft eq t way s) w ≡ look t w)
 
 -- after the tree below one way is grafted at another one that parts from it, both ways answer alike
 abbrev pub CopyAnswersAlike : Type 0 → Type 0
-CopyAnswersAlike A = (eq : A → A → Bool) → IsEquality eq → (t : Tree A) (from to w : List Bool) → DoPart to from
+CopyAnswersAlike A =
+    (eq : A → A → Bool) → IsEquality eq → (t : Tree A) (from to w : List Bool) → DoPart to from
     → look (graft eq t to (sub t from)) (to ++ w) ≡ look (graft eq t to (sub t from)) (from ++ w)
 
 -- a record of the store means this tree
@@ -60,4 +63,5 @@ HoldsTree pairs t = (rec : Rec) × IsOf pairs rec × (meaning pairs rec ≡ t)
 
 -- the store is full, and no root of it means this tree
 abbrev pub IsFullWithoutTree : List Pair → Tree ℕ → Type 0
-IsFullWithoutTree pairs t = (length pairs + 1 ≡ 2 ^ 32) × ((root : Root) → IsRootOf pairs root → tree_of pairs root ≢ t)
+IsFullWithoutTree pairs t =
+    (length pairs + 1 ≡ 2 ^ 32) × ((root : Root) → IsRootOf pairs root → tree_of pairs root ≢ t)

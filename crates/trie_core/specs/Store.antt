@@ -1,5 +1,7 @@
--- What the records of a store mean. A store is the list of its pairs, and each pair is the two children of a node.
-use Rattle.std.specs.Prelude.{◌≡◌, ◌≢◌, ℕ, ◌^◌, ◌<◌, ◌≤◌, List, [], ◌∷◌, ◌++◌, length, slice_get, slice_index_or, Option, Some, Contains, ◌⊎◌}
+-- What the records of a store mean. A store is the list of its pairs,
+-- and each pair is the two children of a node.
+use Rattle.std.specs.Prelude.{◌≡◌, ◌≢◌, ℕ, ◌^◌, ◌<◌, ◌≤◌, List, [], ◌∷◌, ◌++◌, length, slice_get}
+use Rattle.std.specs.Prelude.{slice_index_or, Option, Some, Contains, ◌⊎◌}
 use Rattle.geo_addr.specs.Bits.{bits_of}
 use Rattle.trie_core.specs.declared.node.NodeId.{NodeId}
 use Rattle.trie_core.specs.declared.node.Rec.{Rec}
@@ -20,7 +22,8 @@ tree_at trees (Node id) = slice_index_or trees id.0 (leaf 0)
 -- the trees of more nodes, each from the trees of those before it
 unfoldable pub trees_from : List (Tree ℕ) → List Pair → List (Tree ℕ)
 trees_from trees [] = trees
-trees_from trees (p ∷ ps) = trees_from (trees ++ node (tree_at trees p.left) (tree_at trees p.right) ∷ []) ps
+trees_from trees (p ∷ ps) =
+    trees_from (trees ++ node (tree_at trees p.left) (tree_at trees p.right) ∷ []) ps
 
 -- the tree that a record of a store means
 unfoldable pub meaning : List Pair → Rec → Tree ℕ
@@ -55,11 +58,14 @@ IsOf pairs rec = IsBelow (length pairs) rec
 abbrev pub IsRootOf : List Pair → Root → Type 0
 IsRootOf pairs root = IsOf pairs (record_of root)
 
--- what holds of every store: children come before their node, no node has two equal leaves, no two nodes have the same children, and no leaf is deeper than an address has bits
+-- what holds of every store: children come before their node, no node has two equal leaves,
+-- no two nodes have the same children, and no leaf is deeper than an address has bits
 pub record IsSound (pairs : List Pair) : Type 0 where
   pub few : length pairs < 2 ^ 32
-  pub earlier : (k : ℕ) (p : Pair) → slice_get pairs k ≡ Some p → IsBelow k p.left × IsBelow k p.right
-  pub unlike : (k : ℕ) (p : Pair) → slice_get pairs k ≡ Some p → (a : ℕ) → p.left ≡ Leaf a → p.right ≢ Leaf a
+  pub earlier : (k : ℕ) (p : Pair) → slice_get pairs k ≡ Some p
+      → IsBelow k p.left × IsBelow k p.right
+  pub unlike : (k : ℕ) (p : Pair) → slice_get pairs k ≡ Some p → (a : ℕ) → p.left ≡ Leaf a
+      → p.right ≢ Leaf a
   pub once : (i j : ℕ) (p : Pair) → slice_get pairs i ≡ Some p → slice_get pairs j ≡ Some p → i ≡ j
   pub low : (rec : Rec) → IsOf pairs rec → height (meaning pairs rec) ≤ 128
 
@@ -73,12 +79,17 @@ IsKept old new = (rec : Rec) → IsOf old rec → IsOf new rec × (meaning new r
 
 -- a node with these children is neither one leaf nor held
 abbrev pub NeedsNew : List Pair → Rec → Rec → Type 0
-NeedsNew pairs left right = ((k : ℕ) → left ≡ Leaf k → right ≢ Leaf k) × (Contains pairs (record { left = left; right = right }) → ⊥)
+NeedsNew pairs left right =
+    ((k : ℕ) → left ≡ Leaf k → right ≢ Leaf k)
+    × (Contains pairs (record { left = left; right = right }) → ⊥)
 
 -- a pair was in the list, which stayed, or was not and went last
 abbrev pub IsAdded : List Pair → List Pair → Pair → Type 0
-IsAdded old new pair = (Contains old pair × (new ≡ old)) ⊎ ((Contains old pair → ⊥) × (new ≡ old ++ pair ∷ []))
+IsAdded old new pair =
+    (Contains old pair × (new ≡ old)) ⊎ ((Contains old pair → ⊥) × (new ≡ old ++ pair ∷ []))
 
 -- each node that the new store has and the old one had not stands under the record
 abbrev pub AddedUnder : List Pair → List Pair → Rec → Type 0
-AddedUnder old new rec = (id : NodeId) → length old ≤ id.0 → id.0 < length new → IsPartOf (meaning new (Node id)) (meaning new rec)
+AddedUnder old new rec =
+    (id : NodeId) → length old ≤ id.0 → id.0 < length new
+    → IsPartOf (meaning new (Node id)) (meaning new rec)

@@ -1,5 +1,7 @@
--- Trees whose branches are the bits of an address and whose leaves are answers (MaxMind DB 2.0, "Binary Search Tree Section"), whatever the answers are.
-use Rattle.std.specs.Prelude.{◌≡◌, ◌≢◌, ◌⊎◌, ℕ, zero, suc, ◌+◌, ◌^◌, max, Bool, true, false, ◌&&◌, if◌then◌else◌, List, [], ◌∷◌, Option, Some, None}
+-- Trees whose branches are the bits of an address and whose leaves are answers (MaxMind DB 2.0,
+-- "Binary Search Tree Section"), whatever the answers are.
+use Rattle.std.specs.Prelude.{◌≡◌, ◌≢◌, ◌⊎◌, ℕ, zero, suc, ◌+◌, ◌^◌, max, Bool, true, false, ◌&&◌}
+use Rattle.std.specs.Prelude.{if◌then◌else◌, List, [], ◌∷◌, Option, Some, None}
 
 pub data Tree (A : Type 0) : Type 0 where
   leaf : A → Tree A

@@ -1,8 +1,11 @@
 //! A store of the nodes under some roots alone.
-ghost use Rattle.std.specs.Prelude.{◌≡◌, ◌≤◌, ◌<◌, ◌^◌, [], ◌∷◌, ◌++◌, List, length, slice_get, Some, IfOk, OnOk, IfSome};
+ghost use Rattle.std.specs.Prelude.{◌≡◌, ◌≤◌, ◌<◌, ◌^◌, [], ◌∷◌, ◌++◌, List, length, slice_get};
+ghost use Rattle.std.specs.Prelude.{Some, IfOk, OnOk, IfSome};
 ghost use Rattle.trie_core.specs.declared.node.Root.{Root};
-ghost use Rattle.trie_core.specs.Store.{meaning, tree_of, IsOf, IsRootOf, IsKept, AddedUnder, IsSound};
-ghost use Rattle.trie_core.specs.Compact.{AreRootsOf, trees_of_roots, HoldsExactly, AreTaken, AreRootsTaken, IsNumbered};
+ghost use Rattle.trie_core.specs.Store.{meaning, tree_of, IsOf, IsRootOf, IsKept, AddedUnder};
+ghost use Rattle.trie_core.specs.Store.{IsSound};
+ghost use Rattle.trie_core.specs.Compact.{AreRootsOf, trees_of_roots, HoldsExactly, AreTaken};
+ghost use Rattle.trie_core.specs.Compact.{AreRootsTaken, IsNumbered};
 
 use crate::near::Near;
 use crate::node::{NodeId, Pair, Rec, Root};
@@ -11,7 +14,8 @@ use geo_addr::Memory;
 use indexmap::IndexSet;
 use std::alloc::Global;
 
-/// The nodes that were taken along, in the order in which they came, and their pairs in the new store.
+/// The nodes that were taken along, in the order in which they came,
+/// and their pairs in the new store.
 #[derive(Drop)]
 struct Taken {
     nodes: IndexSet<NodeId, Near>,
@@ -19,16 +23,18 @@ struct Taken {
 }
 
 impl Store {
-    /// A store of exactly the different nodes under these roots, and its roots that mean what these mean,
-    /// in the same order.
+    /// A store of exactly the different nodes under these roots, and its roots that mean what these
+    /// mean, in the same order.
     ///
-    /// The work follows the nodes under the roots and not the size of this store. It counts no step.
+    /// The work follows the nodes under the roots and not the size of this store.
+    /// It counts no step.
     pub fn compact(&self, alloc: Global, roots: &[Root]) -> Result<(Store, Vec<Root>), Memory>
         requires { AreRootsOf self.now roots.now }
         ensures of { IfOk result (λ made. AreRootsOf made.0 made.1.items) }
         ensures meaning { IfOk result
             (λ made. trees_of_roots made.0 made.1.items ≡ trees_of_roots self.now roots.now) }
-        ensures exact { IfOk result (λ made. HoldsExactly made.0 (trees_of_roots self.now roots.now)) }
+        ensures exact { IfOk result
+            (λ made. HoldsExactly made.0 (trees_of_roots self.now roots.now)) }
         ensures few { IfOk result (λ made. length made.0 ≤ length self.now) }
         ensures sound { IfOk result (λ made. IsSound made.0) }
     {
@@ -48,7 +54,8 @@ impl Store {
         ensures taken { OnOk result (AreTaken self.now taken.new.nodes.keys taken.new.pairs.keys) }
         ensures roots { OnOk result ((roots : List Root)
             → AreRootsTaken self.now taken.old.nodes.keys taken.old.pairs.keys roots made.old.items
-            → AreRootsTaken self.now taken.new.nodes.keys taken.new.pairs.keys (roots ++ root ∷ []) made.new.items) }
+            → AreRootsTaken self.now taken.new.nodes.keys taken.new.pairs.keys
+            (roots ++ root ∷ []) made.new.items) }
     {
         let rec = self.rec_of(root);
         let rec = self.take(rec, taken)?;
@@ -56,8 +63,8 @@ impl Store {
         Ok(())
     }
 
-    // The record of the new store that means what the record of this one means. No tree is higher than
-    // 128, so the recursion stays shallow.
+    // The record of the new store that means what the record of this one means. No tree is higher
+    // than 128, so the recursion stays shallow.
     fn take(&self, rec: Rec, taken: &mut Taken) -> Result<Rec, Memory>
         requires of { IsOf self.now rec }
         requires taken { AreTaken self.now taken.old.nodes.keys taken.old.pairs.keys }
@@ -107,7 +114,8 @@ impl Taken {
     // The number of a node with this pair, which goes into the new store where it is not yet there.
     fn add(&mut self, id: NodeId, pair: Pair) -> Result<u32, Memory>
         requires { length self.old.nodes.keys < 2 ^ 32 }
-        ensures { IfOk result (IsNumbered self.old.nodes.keys self.new.nodes.keys self.old.pairs.keys self.new.pairs.keys id pair) }
+        ensures { IfOk result (IsNumbered self.old.nodes.keys self.new.nodes.keys
+            self.old.pairs.keys self.new.pairs.keys id pair) }
     {
         let (index, is_new) = self.nodes.insert_full(id)?;
         if is_new {

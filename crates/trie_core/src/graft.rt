@@ -1,9 +1,11 @@
 //! The tree below a block of addresses, and a tree that is put in a block's place.
-ghost use Rattle.std.specs.Prelude.{◌≡◌, ℕ, ◌+◌, ◌-◌, ◌^◌, ◌<◌, ◌≤◌, ◌↔◌, length, nat_eq, take, IfOk, IsErrOf};
+ghost use Rattle.std.specs.Prelude.{◌≡◌, ℕ, ◌+◌, ◌-◌, ◌^◌, ◌<◌, ◌≤◌, ◌↔◌, length, nat_eq, take};
+ghost use Rattle.std.specs.Prelude.{IfOk, IsErrOf};
 ghost use Rattle.geo_addr.specs.Bits.{bits_of};
 ghost use Rattle.geo_addr.specs.Ranges.{IsWithin, range_of_block};
 ghost use Rattle.trie_core.specs.Tree.{height, look};
-ghost use Rattle.trie_core.specs.Store.{meaning, tree_of, leaf_at, record_of, IsOf, IsRootOf, GrowsBy, IsKept, AddedUnder, IsSound};
+ghost use Rattle.trie_core.specs.Store.{meaning, tree_of, leaf_at, record_of, IsOf, IsRootOf};
+ghost use Rattle.trie_core.specs.Store.{GrowsBy, IsKept, AddedUnder, IsSound};
 ghost use Rattle.trie_core.specs.Graft.{way_of, sub, graft, HoldsTree, IsFullWithoutTree};
 
 use crate::fault::StoreFault;
@@ -14,14 +16,15 @@ use geo_outside::Steps;
 use std::sync::ledger::Ledger;
 
 impl Store {
-    /// The record to which the walk of the block's bits leads from the root, or the leaf that it meets
-    /// before. It takes no memory.
+    /// The record to which the walk of the block's bits leads from the root, or the leaf that it
+    /// meets before. It takes no memory.
     pub fn sub(&self, root: Root, block: Block) -> Rec
         requires { IsRootOf self.now root }
         ensures of { IsOf self.now result }
         ensures meaning { meaning self.now result ≡ sub (tree_of self.now root) (way_of block) }
         ensures lookups { (a : ℕ) → IsWithin (range_of_block block) a
-            → look (meaning self.now result) (bits_of (128 - block.len) a) ≡ leaf_at self.now root a }
+            → look (meaning self.now result) (bits_of (128 - block.len) a)
+            ≡ leaf_at self.now root a }
         ensures low { height (meaning self.now result) + block.len ≤ 128 }
         ensures sound { IsSound self.now }
     {
@@ -40,8 +43,8 @@ impl Store {
         rec
     }
 
-    /// A root that answers inside the block as the record does by the bits after the block's length, and
-    /// elsewhere as the given root.
+    /// A root that answers inside the block as the record does by the bits after the block's
+    /// length, and elsewhere as the given root.
     ///
     /// A refusal may leave nodes that were made on the way.
     pub fn graft<L: Ledger>(
@@ -59,7 +62,8 @@ impl Store {
             ≡ graft nat_eq (tree_of self.old root) (way_of block) (meaning self.old rec)) }
         ensures inside { IfOk result (λ r. (a : ℕ) → IsWithin (range_of_block block) a
             → leaf_at self.new r a ≡ look (meaning self.old rec) (bits_of (128 - block.len) a)) }
-        ensures elsewhere { IfOk result (λ r. (a : ℕ) → a < 2 ^ 128 → (IsWithin (range_of_block block) a → ⊥)
+        ensures elsewhere { IfOk result
+            (λ r. (a : ℕ) → a < 2 ^ 128 → (IsWithin (range_of_block block) a → ⊥)
             → leaf_at self.new r a ≡ leaf_at self.old root a) }
         ensures ticks { steps.old ≤ steps.new }
         ensures few_ticks { steps.new ≤ steps.old + block.len }
@@ -76,8 +80,8 @@ impl Store {
         Ok(Root(grafted))
     }
 
-    // The record of a block of 2 ^ bits addresses with the subtree in the place of the block of 2 ^ below
-    // addresses that begins at `at`.
+    // The record of a block of 2 ^ bits addresses with the subtree in the place of the block of
+    // 2 ^ below addresses that begins at `at`.
     fn graft_at<L: Ledger>(
         &mut self,
         rec: Rec,
@@ -96,7 +100,8 @@ impl Store {
         requires subtree_low { height (meaning self.old subtree) ≤ below }
         ensures of { IfOk result (IsOf self.new) }
         ensures meaning { IfOk result (λ r. meaning self.new r
-            ≡ graft nat_eq (meaning self.old rec) (take (bits - below) (bits_of bits at)) (meaning self.old subtree)) }
+            ≡ graft nat_eq (meaning self.old rec) (take (bits - below) (bits_of bits at))
+            (meaning self.old subtree)) }
         ensures low { IfOk result (λ r. height (meaning self.new r) ≤ bits) }
         ensures ticks { steps.old ≤ steps.new }
         ensures few_ticks { steps.new + below ≤ steps.old + bits }
@@ -104,7 +109,8 @@ impl Store {
         ensures kept { IsKept self.old self.new }
         ensures under { IfOk result (AddedUnder self.old self.new) }
         ensures full { IsErrOf result StoreFault.Full → (length self.new + 1 ≡ 2 ^ 32)
-            × (HoldsTree self.new (graft nat_eq (meaning self.old rec) (take (bits - below) (bits_of bits at)) (meaning self.old subtree)) → ⊥) }
+            × (HoldsTree self.new (graft nat_eq (meaning self.old rec)
+            (take (bits - below) (bits_of bits at)) (meaning self.old subtree)) → ⊥) }
         ensures memory { IsErrOf result StoreFault.Memory → length self.new + 1 < 2 ^ 32 }
         ensures sound { IsSound self.new }
     {

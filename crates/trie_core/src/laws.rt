@@ -1,9 +1,11 @@
-//! The laws that the store of nodes rests on, as functions that do nothing: what each ensures is the law.
+//! The laws that the store of nodes rests on, as functions that do nothing:
+//! what each ensures is the law.
 ghost use Rattle.std.specs.Prelude.{List};
 ghost use Rattle.trie_core.specs.declared.node.Pair.{Pair};
 ghost use Rattle.trie_core.specs.Store.{IsSound};
 ghost use Rattle.trie_core.specs.Graft.{BelowAnswers, CopyAnswersAlike, GraftAnswers};
-ghost use Rattle.trie_core.specs.Laws.{Canonical, MeansFunction, OneRecord, OnlyTree, Renamed, TreeOfFunction};
+ghost use Rattle.trie_core.specs.Laws.{Canonical, MeansFunction, OneRecord, OnlyTree, Renamed};
+ghost use Rattle.trie_core.specs.Laws.{TreeOfFunction};
 
 /// Equal lookups, equal trees: two reduced trees with no leaf below depth n that answer alike along
 /// every list of n bits are the same tree.
@@ -21,8 +23,8 @@ pub fn only_tree_of_function<A>()
     ensures { OnlyTree A }
 {}
 
-/// New names for the leaves of a reduced tree, different ones for different leaves, leave it reduced,
-/// and it answers the new name of what it answered.
+/// New names for the leaves of a reduced tree, different ones for different leaves, leave it
+/// reduced, and it answers the new name of what it answered.
 pub fn renamed_tree_is_reduced<A, B>()
     ensures { Renamed A B }
 {}
@@ -42,12 +44,14 @@ pub fn tree_below_answers<A>()
     ensures { BelowAnswers A }
 {}
 
-/// Behind its way the tree of a graft answers, and along every list that parts from the way the old tree.
+/// Behind its way the tree of a graft answers, and along every list that
+/// parts from the way the old tree.
 pub fn graft_answers<A>()
     ensures { GraftAnswers A }
 {}
 
-/// After the tree below one way is grafted at another one, which parts from it, both ways answer alike.
+/// After the tree below one way is grafted at another one, which parts from it,
+/// both ways answer alike.
 pub fn copy_answers_alike<A>()
     ensures { CopyAnswersAlike A }
 {}

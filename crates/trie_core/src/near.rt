@@ -9,9 +9,10 @@ pub type Near = BuildHasherDefault<NearHasher>;
 
 /// A hasher of the numbers of nodes, and of the pairs of a store.
 ///
-/// Nodes of near numbers come to one group of the table, and so do pairs of leaf 0 and a node of such a
-/// number: a way down to a single address is a chain of them, whose nodes are made and asked for one
-/// after the other. At most two pairs belong to a number, so no groups fill by that. All other pairs are mixed.
+/// Nodes of near numbers come to one group of the table, and so do pairs of leaf 0 and a node of
+/// such a number: a way down to a single address is a chain of them, whose nodes are made and asked
+/// for one after the other. At most two pairs belong to a number, so no groups fill by that.
+/// All other pairs are mixed.
 #[derive(Clone, Copy, Default)]
 pub struct NearHasher {
     earlier: u64,
@@ -57,8 +58,8 @@ fn mixed(a: u64, b: u64) -> u64
     (sum ^ sum >> 32).wrapping_mul(0xd6e8_feb8_6659_fd93)
 }
 
-// The hash that comes to the group of the number. The table takes the group from the low bits, and tells
-// the keys of a group by the high ones.
+// The hash that comes to the group of the number. The table takes the group from the low bits, and
+// tells the keys of a group by the high ones.
 fn beside(number: u64, mixed: u64) -> u64
     ensures { result ≡ near.beside number mixed }
 {

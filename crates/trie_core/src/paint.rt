@@ -1,9 +1,13 @@
 //! Painting ranges of addresses with leaves.
-ghost use Rattle.std.specs.Prelude.{◌≡◌, ℕ, ◌+◌, ◌-◌, ◌*◌, ◌^◌, ◌<◌, ◌≤◌, ◌↔◌, length, Some, IfOk, IsErrOf, IsTrue};
+ghost use Rattle.std.specs.Prelude.{◌≡◌, ℕ, ◌+◌, ◌-◌, ◌*◌, ◌^◌, ◌<◌, ◌≤◌, ◌↔◌, length, Some, IfOk};
+ghost use Rattle.std.specs.Prelude.{IsErrOf, IsTrue};
 ghost use Rattle.geo_addr.specs.Ranges.{IsWithin};
 ghost use Rattle.trie_core.specs.Tree.{height};
-ghost use Rattle.trie_core.specs.Store.{meaning, leaf_at, record_of, IsOf, IsRootOf, GrowsBy, IsKept, AddedUnder, IsSound};
-ghost use Rattle.trie_core.specs.Paint.{IsAscending, leaf_in, over, IsPainted, HoldsPainted, IsFullWithout, one_part, paint_cost, AllTouch, IsFront, IsBack, IsHalved};
+ghost use Rattle.trie_core.specs.Store.{meaning, leaf_at, record_of, IsOf, IsRootOf, GrowsBy};
+ghost use Rattle.trie_core.specs.Store.{IsKept, AddedUnder, IsSound};
+ghost use Rattle.trie_core.specs.Paint.{IsAscending, leaf_in, over, IsPainted, HoldsPainted};
+ghost use Rattle.trie_core.specs.Paint.{IsFullWithout, one_part, paint_cost, AllTouch, IsFront};
+ghost use Rattle.trie_core.specs.Paint.{IsBack, IsHalved};
 
 use crate::fault::StoreFault;
 use crate::node::{Rec, Root};
@@ -77,7 +81,8 @@ impl Store {
         Ok(Root(rec))
     }
 
-    // The record of the block of 2 ^ bits addresses from first to last with the parts painted on it.
+    // The record of the block of 2 ^ bits addresses from first to
+    // last with the parts painted on it.
     fn paint_block<L: Ledger>(
         &mut self,
         rec: Rec,

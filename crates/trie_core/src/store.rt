@@ -1,7 +1,11 @@
 //! The store of nodes, each pair of children once.
-ghost use Rattle.std.specs.Prelude.{◌≡◌, ◌≢◌, ℕ, MatchOption, ◌+◌, ◌-◌, ◌^◌, ◌<◌, ◌≤◌, ◌↔◌, [], length, nat_eq, None, Some, slice_get, Contains, IfOk, OnErr, IsErrOf, IsTrue};
+ghost use Rattle.std.specs.Prelude.{◌≡◌, ◌≢◌, ℕ, MatchOption, ◌+◌, ◌-◌, ◌^◌, ◌<◌, ◌≤◌, ◌↔◌, []};
+ghost use Rattle.std.specs.Prelude.{length, nat_eq, None, Some, slice_get, Contains, IfOk, OnErr};
+ghost use Rattle.std.specs.Prelude.{IsErrOf, IsTrue};
 ghost use Rattle.trie_core.specs.Tree.{leaf, node, height, join};
-ghost use Rattle.trie_core.specs.Store.{meaning, tree_of, leaf_at, record_of, pair_of, node_number, IsOf, IsRootOf, GrowsBy, IsKept, NeedsNew, AddedUnder, IsAdded, IsSound};
+ghost use Rattle.trie_core.specs.Store.{meaning, tree_of, leaf_at, record_of, pair_of, node_number};
+ghost use Rattle.trie_core.specs.Store.{IsOf, IsRootOf, GrowsBy, IsKept, NeedsNew, AddedUnder};
+ghost use Rattle.trie_core.specs.Store.{IsAdded, IsSound};
 
 use crate::fault::StoreFault;
 use crate::near::Near;
@@ -16,11 +20,11 @@ use std::sync::ledger::Ledger;
 /// The most nodes that a store holds: one less than there are node numbers.
 const MOST_NODES: usize = 0xffff_ffff;
 
-/// A store of nodes, in which no two nodes have the same children, so that one record stands for each
-/// tree (`laws::equal_leaves_equal_records`).
+/// A store of nodes, in which no two nodes have the same children, so that one record stands for
+/// each tree (`laws::equal_leaves_equal_records`).
 ///
-/// Contracts see the list of the nodes' children, by the number of the node. The caller hands in only
-/// records and roots of this store: those that it gave, before or after whatever refusals.
+/// Contracts see the list of the nodes' children, by the number of the node. The caller hands in
+/// only records and roots of this store: those that it gave, before or after whatever refusals.
 #[derive(Drop)]
 pub struct Store {
     pub(crate) pairs: IndexSet<Pair, Near>,
@@ -56,7 +60,8 @@ impl Store {
         Root(Rec::Leaf(0))
     }
 
-    /// The record of a node with these children, or the leaf where both are that leaf. It ticks once.
+    /// The record of a node with these children, or the leaf where both are that leaf.
+    /// It ticks once.
     pub fn mk<L: Ledger>(
         &mut self,
         left: Rec,
@@ -133,8 +138,8 @@ impl Store {
         (pair.left, pair.right)
     }
 
-    /// The node with this number. The numbers of a store go from 0 up to its length, and children have
-    /// smaller ones than their node.
+    /// The node with this number. The numbers of a store go from 0 up to its length, and children
+    /// have smaller ones than their node.
     pub fn node(&self, number: u32) -> NodeId
         requires { number < length self.now }
         ensures number { node_number result ≡ number }

@@ -29,8 +29,8 @@ fn painted_in_both_orders<L: Ledger>(
     Ok((one_then_two, two_then_one))
 }
 
-/// The leaves of these addresses after leaf 1 was painted on the first four addresses, and leaf 2 over
-/// the third and up to the tenth.
+/// The leaves of these addresses after leaf 1 was painted on the first four addresses, and leaf 2
+/// over the third and up to the tenth.
 fn painted_over<L: Ledger>(
     alloc: Global,
     blank: Blank,
@@ -98,8 +98,8 @@ fn small_network(first: u32) -> Range {
     }
 }
 
-/// The length and the root of a store that is made compact after small networks, each with its leaf, were
-/// painted on it, and the first one painted over with leaf 0.
+/// The length and the root of a store that is made compact after small networks, each with its
+/// leaf, were painted on it, and the first one painted over with leaf 0.
 fn compacted<L: Ledger>(
     alloc: Global,
     blank: Blank,

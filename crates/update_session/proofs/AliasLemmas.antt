@@ -1,5 +1,6 @@
 -- The blocks that carry IPv4 addresses, by their bits.
-use Rattle.std.proofs.Common.{◌≡◌, ℕ, ◌+◌, ◌-◌, ◌*◌, ◌/◌, ◌%◌, ◌^◌, ◌<◌, ◌≤◌, Bool, true, false, ◌||◌, cond, List, Option, refl, sym, ap, ◌∙◌, subst, arith}
+use Rattle.std.proofs.Common.{◌≡◌, ℕ, ◌+◌, ◌-◌, ◌*◌, ◌/◌, ◌%◌, ◌^◌, ◌<◌, ◌≤◌, Bool, true, false}
+use Rattle.std.proofs.Common.{◌||◌, cond, List, Option, refl, sym, ap, ◌∙◌, subst, arith}
 use Rattle.std.specs.Prelude.{Result, Ok, Err, IfOk}
 use Rattle.std.proofs.lemmas.Bool.Decides.{nat_tests}
 use Rattle.geo_addr.specs.Bits.{bits_of}
@@ -33,13 +34,19 @@ mapped_within : (a : ℕ) → is_mapped a ≡ true → IsWithin (range_of_block 
 mapped_within a is = (grind (arith, nat_tests), grind (arith, nat_tests))
 
 mapped_outside : (a : ℕ) → is_mapped a ≡ false → IsWithin (range_of_block mapped_block) a → ⊥
-mapped_outside a none within = let low : 0xffff * 2 ^ 32 ≤ a = within.0 in let high : a ≤ 0xffff * 2 ^ 32 + (2 ^ 32 - 1) = within.1 in grind (arith, nat_tests)
+mapped_outside a none within =
+    let low : 0xffff * 2 ^ 32 ≤ a = within.0 in
+    let high : a ≤ 0xffff * 2 ^ 32 + (2 ^ 32 - 1) = within.1 in
+    grind (arith, nat_tests)
 
 six_within : (a : ℕ) → is_six_to_four a ≡ true → IsWithin (range_of_block six_to_four_block) a
 six_within a is = (grind (arith, nat_tests), grind (arith, nat_tests))
 
 six_outside : (a : ℕ) → is_six_to_four a ≡ false → IsWithin (range_of_block six_to_four_block) a → ⊥
-six_outside a none within = let low : 0x2002 * 2 ^ 112 ≤ a = within.0 in let high : a ≤ 0x2002 * 2 ^ 112 + (2 ^ 112 - 1) = within.1 in grind (arith, nat_tests)
+six_outside a none within =
+    let low : 0x2002 * 2 ^ 112 ≤ a = within.0 in
+    let high : a ≤ 0x2002 * 2 ^ 112 + (2 ^ 112 - 1) = within.1 in
+    grind (arith, nat_tests)
 
 -- ---- homes
 
@@ -69,7 +76,9 @@ unfolding is_alias
 own_is_none a none none' = ap (λ b. b || is_mapped a) none ∙ none'
 
 -- each address is of one of three kinds
-by_kind : (a : ℕ) (P : Type 0) → (is_six_to_four a ≡ true → P) → (is_six_to_four a ≡ false → is_mapped a ≡ true → P) → (is_six_to_four a ≡ false → is_mapped a ≡ false → P) → P
+by_kind : (a : ℕ) (P : Type 0)
+    → (is_six_to_four a ≡ true → P) → (is_six_to_four a ≡ false → is_mapped a ≡ true → P)
+    → (is_six_to_four a ≡ false → is_mapped a ≡ false → P) → P
 by_kind a P six mapped own = by (is_six_to_four a) (is_mapped a) refl refl
   where
     by : (x y : Bool) → is_six_to_four a ≡ x → is_mapped a ≡ y → P
@@ -101,22 +110,30 @@ bits_of-low n a = ap (bits_of n) split ∙ bits_of-add_multiple n (a % 2 ^ n) (a
     split = omega arith
 
 -- a tree of 32 bits at the bits of an address behind 2002::/16
-six_look : (t : Tree ℕ) (a : ℕ) → height t + 96 ≤ 128 → look t (bits_of 112 a) ≡ look t (bits_of 32 (a / 2 ^ 80 % 2 ^ 32))
+six_look : (t : Tree ℕ) (a : ℕ) → height t + 96 ≤ 128
+    → look t (bits_of 112 a) ≡ look t (bits_of 32 (a / 2 ^ 80 % 2 ^ 32))
 six_look t a low =
     ap (look t) (bits_of-append 32 80 a)
-    ∙ look-more t (bits_of 32 (a / 2 ^ 80)) (bits_of 80 a) (omega (arith, length-bits_of 32 (a / 2 ^ 80)))
+    ∙ look-more t (bits_of 32 (a / 2 ^ 80)) (bits_of 80 a)
+    (omega (arith, length-bits_of 32 (a / 2 ^ 80)))
     ∙ ap (look t) (bits_of-low 32 (a / 2 ^ 80))
 
 -- after both grafts each address has the leaf of its home
 pub leaf_of_home : (old mid new : List Pair) (root mapped both : Root) (v4 : Rec) (a : ℕ)
     → IsOf old v4 → IsKept old mid → height (meaning old v4) + 96 ≤ 128
-    → ((b : ℕ) → IsWithin (range_of_block v4_block) b → look (meaning old v4) (bits_of 32 b) ≡ leaf_at old root b)
-    → ((b : ℕ) → IsWithin (range_of_block mapped_block) b → leaf_at mid mapped b ≡ look (meaning old v4) (bits_of 32 b))
-    → ((b : ℕ) → b < 2 ^ 128 → (IsWithin (range_of_block mapped_block) b → ⊥) → leaf_at mid mapped b ≡ leaf_at old root b)
-    → ((b : ℕ) → IsWithin (range_of_block six_to_four_block) b → leaf_at new both b ≡ look (meaning mid v4) (bits_of 112 b))
-    → ((b : ℕ) → b < 2 ^ 128 → (IsWithin (range_of_block six_to_four_block) b → ⊥) → leaf_at new both b ≡ leaf_at mid mapped b)
+    → ((b : ℕ) → IsWithin (range_of_block v4_block) b
+    → look (meaning old v4) (bits_of 32 b) ≡ leaf_at old root b)
+    → ((b : ℕ) → IsWithin (range_of_block mapped_block) b
+    → leaf_at mid mapped b ≡ look (meaning old v4) (bits_of 32 b))
+    → ((b : ℕ) → b < 2 ^ 128 → (IsWithin (range_of_block mapped_block) b → ⊥)
+    → leaf_at mid mapped b ≡ leaf_at old root b)
+    → ((b : ℕ) → IsWithin (range_of_block six_to_four_block) b
+    → leaf_at new both b ≡ look (meaning mid v4) (bits_of 112 b))
+    → ((b : ℕ) → b < 2 ^ 128 → (IsWithin (range_of_block six_to_four_block) b → ⊥)
+    → leaf_at new both b ≡ leaf_at mid mapped b)
     → a < 2 ^ 128 → leaf_at new both a ≡ leaf_at old root (home a)
-leaf_of_home old mid new root mapped both v4 a of kept low sub inside elsewhere inside' elsewhere' below =
+leaf_of_home old mid new root mapped both v4 a of kept low sub inside elsewhere inside'
+    elsewhere' below =
     by_kind a (leaf_at new both a ≡ leaf_at old root (home a))
     (λ six. inside' a (six_within a six)
     ∙ ap (λ (t : Tree ℕ). look t (bits_of 112 a)) (kept v4 of).1
@@ -134,17 +151,28 @@ leaf_of_home old mid new root mapped both v4 a of kept low sub inside elsewhere 
 
 -- ---- answers
 
--- a root that has each address's home's leaf answers every record, where the old one answers what is said outside the blocks
-AnswersAll-homes : (s : InForce) (old new : List Pair) (places : List PlaceParts) (root r : Root) → AnswersSpoken old places root s
-    → ((a : ℕ) → a < 2 ^ 128 → leaf_at new r a ≡ leaf_at old root (home a)) → AnswersAll new places r s
+-- a root that has each address's home's leaf answers every record,
+-- where the old one answers what is said outside the blocks
+AnswersAll-homes : (s : InForce) (old new : List Pair) (places : List PlaceParts) (root r : Root)
+    → AnswersSpoken old places root s
+    → ((a : ℕ) → a < 2 ^ 128 → leaf_at new r a ≡ leaf_at old root (home a))
+    → AnswersAll new places r s
 AnswersAll-homes s old new places root r spoken homes a below =
     let at_home = spoken (home a) (home_below a below) (home_is_none a) in
-    record { leaf = at_home.leaf; is = homes a below ∙ at_home.is; few = at_home.few; place = at_home.place }
+    record {
+      leaf = at_home.leaf;
+      is = homes a below ∙ at_home.is;
+      few = at_home.few;
+      place = at_home.place;
+    }
 
 -- and so where it was made
-pub AnswersAll-made : (s : InForce) (old new : List Pair) (places : List PlaceParts) (root : Root) (made : Result Root EmitFault) → AnswersSpoken old places root s
-    → IfOk made (λ r. (a : ℕ) → a < 2 ^ 128 → leaf_at new r a ≡ leaf_at old root (home a)) → IfOk made (λ r. AnswersAll new places r s)
-AnswersAll-made s old new places root (Ok r) spoken homes = AnswersAll-homes s old new places root r spoken homes
+pub AnswersAll-made : (s : InForce) (old new : List Pair) (places : List PlaceParts) (root : Root)
+    (made : Result Root EmitFault) → AnswersSpoken old places root s
+    → IfOk made (λ r. (a : ℕ) → a < 2 ^ 128 → leaf_at new r a ≡ leaf_at old root (home a))
+    → IfOk made (λ r. AnswersAll new places r s)
+AnswersAll-made s old new places root (Ok r) spoken homes =
+    AnswersAll-homes s old new places root r spoken homes
 AnswersAll-made s old new places root (Err fault) spoken homes = tt
 
 -- an address outside the blocks is its own home
@@ -158,7 +186,10 @@ own_home a none = by (is_six_to_four a) (is_mapped a) refl refl none
     by false false is is' none = home_own a is is'
 
 -- off the touched grounds, outside the blocks, the root answers what is said now
-pub spoken_from_base : (pairs : List Pair) (places : List PlaceParts) (root : Root) (base s : InForce) (a : ℕ) → Answers pairs places root (spoken_at base (home a)) a
-    → is_alias a ≡ false → spoken_at base a ≡ spoken_at s a → Answers pairs places root (spoken_at s a) a
+pub spoken_from_base : (pairs : List Pair) (places : List PlaceParts) (root : Root)
+    (base s : InForce) (a : ℕ) → Answers pairs places root (spoken_at base (home a)) a
+    → is_alias a ≡ false → spoken_at base a ≡ spoken_at s a
+    → Answers pairs places root (spoken_at s a) a
 spoken_from_base pairs places root base s a h none same =
-    subst (λ (wanted : Option PlaceParts). Answers pairs places root wanted a) (ap (spoken_at base) (own_home a none) ∙ same) h
+    subst (λ (wanted : Option PlaceParts). Answers pairs places root wanted a)
+    (ap (spoken_at base) (own_home a none) ∙ same) h

@@ -1,5 +1,6 @@
 -- There are no more segments than the touch.
-use Rattle.std.proofs.Common.{◌≡◌, ℕ, ◌*◌, zero, suc, ◌+◌, ◌≤◌, Bool, true, false, cond, eqb, List, [], ◌∷◌, length, Contains, refl, sym, ap, ◌∙◌, inl, inr, arith}
+use Rattle.std.proofs.Common.{◌≡◌, ℕ, ◌*◌, zero, suc, ◌+◌, ◌≤◌, Bool, true, false, cond, eqb, List}
+use Rattle.std.proofs.Common.{[], ◌∷◌, length, Contains, refl, sym, ap, ◌∙◌, inl, inr, arith}
 use Rattle.std.specs.List.{All, filter, flat_map, count_by}
 use Rattle.std.specs.List.Sorted.{IsPermutation, IsStrictlyIncreasing}
 use Rattle.std.proofs.lemmas.Bool.Decides.{Decides-eqb}
@@ -25,9 +26,14 @@ taken x (y ∷ ys) = cond (eqb x y) ys (y ∷ taken x ys)
 
 length-taken : (x : ℕ) (ys : List ℕ) → Among x ys → length ys ≡ suc (length (taken x ys))
 length-taken x [] is = absurd is
-length-taken x (y ∷ ys) (inl e) = let same : eqb x y ≡ true = (Decides-eqb x y).1 (sym e) in rw same refl
+length-taken x (y ∷ ys) (inl e) =
+    let same : eqb x y ≡ true = (Decides-eqb x y).1 (sym e) in
+    rw same refl
 length-taken x (y ∷ ys) (inr later) =
-    elim (eqb x y) as (λ b. suc (length ys) ≡ suc (length (cond b ys (y ∷ taken x ys)))) [ true ↦ refl | false ↦ ap suc (length-taken x ys later) ]
+    elim (eqb x y) as (λ b. suc (length ys) ≡ suc (length (cond b ys (y ∷ taken x ys)))) [
+      | true ↦ refl
+      | false ↦ ap suc (length-taken x ys later)
+    ]
 
 among-taken : (x z : ℕ) (ys : List ℕ) → Among z ys → (x ≡ z → ⊥) → Among z (taken x ys)
 among-taken x z [] is other = absurd is
@@ -37,15 +43,20 @@ among-taken x z (y ∷ ys) (inl e) other = by (eqb x y) refl
     by true same = absurd (other ((Decides-eqb x y).0 same ∙ e))
     by false apart = inl e
 among-taken x z (y ∷ ys) (inr later) other =
-    elim (eqb x y) as (λ b. Among z (cond b ys (y ∷ taken x ys))) [ true ↦ later | false ↦ inr (among-taken x z ys later other) ]
+    elim (eqb x y) as (λ b. Among z (cond b ys (y ∷ taken x ys))) [
+      | true ↦ later
+      | false ↦ inr (among-taken x z ys later other)
+    ]
 
 -- different members of a list are no more than the list has
-different_are_few : (low : ℕ) (xs ys : List ℕ) → Up low xs → ((c : ℕ) → Among c xs → Among c ys) → length xs ≤ length ys
+different_are_few : (low : ℕ) (xs ys : List ℕ) → Up low xs
+    → ((c : ℕ) → Among c xs → Among c ys) → length xs ≤ length ys
 different_are_few low [] ys up all = omega arith
 different_are_few low (x ∷ xs) ys up all =
     let one : length ys ≡ suc (length (taken x ys)) = length-taken x ys (all x (inl refl)) in
     let rest : length xs ≤ length (taken x ys) =
-    different_are_few (x + 1) xs (taken x ys) up.1 (λ c is. among-taken x c ys (all c (inr is)) (λ e. let above : x + 1 ≤ c = up_above (x + 1) c xs up.1 is in omega arith)) in
+    different_are_few (x + 1) xs (taken x ys) up.1 (λ c is. among-taken x c ys (all c (inr is))
+    (λ e. let above : x + 1 ≤ c = up_above (x + 1) c xs up.1 is in omega arith)) in
     omega arith
 
 weaker : (low high : ℕ) (xs : List ℕ) → low ≤ high → Up high xs → Up low xs
@@ -65,7 +76,8 @@ kept : (p : ℕ → Bool) (c : ℕ) (xs : List ℕ) → Among c (filter p xs) �
 kept p c [] is = absurd is
 kept p c (x ∷ xs) is = by (kept p c xs) (p x) refl is
   where
-    by : (Among c (filter p xs) → Among c xs × (p c ≡ true)) → (b : Bool) → p x ≡ b → Among c (cond b (x ∷ filter p xs) (filter p xs)) → Among c (x ∷ xs) × (p c ≡ true)
+    by : (Among c (filter p xs) → Among c xs × (p c ≡ true)) → (b : Bool) → p x ≡ b
+        → Among c (cond b (x ∷ filter p xs) (filter p xs)) → Among c (x ∷ xs) × (p c ≡ true)
     by rest true passes (inl e) = (inl e, sym (ap p e) ∙ passes)
     by rest true passes (inr later) = let more = rest later in (inr more.0, more.1)
     by rest false fails is = let more = rest is in (inr more.0, more.1)
@@ -84,25 +96,37 @@ among_from_in c (x ∷ xs) (inr later) = inr (among_from_in c xs later)
 among_edges : (c : ℕ) (rs : List Ends) → IsCut rs c → Among c (flat_map edges_of rs)
 among_edges c [] (k, x, below, is, e) = absurd (omega (arith, below))
 among_edges c (r ∷ rs) (zero, x, below, is, inl e) = inl (ap ground_first is ∙ sym e)
-among_edges c (r ∷ rs) (zero, x, below, is, inr e) = inr (inl (ap (λ (y : Ends). y.last + 1) is ∙ sym e))
-among_edges c (r ∷ rs) (suc k, x, below, is, e) = inr (inr (among_edges c rs (k, x, omega (arith, below), is, e)))
+among_edges c (r ∷ rs) (zero, x, below, is, inr e) =
+    inr (inl (ap (λ (y : Ends). y.last + 1) is ∙ sym e))
+among_edges c (r ∷ rs) (suc k, x, below, is, e) =
+    inr (inr (among_edges c rs (k, x, omega (arith, below), is, e)))
 
 -- the cut points that a test passes are no more than the different edges that it passes
-few_cuts : (p : ℕ → Bool) (rs : List Ends) (cuts : List ℕ) → IsStrictlyIncreasing cuts → ((c : ℕ) → Contains cuts c → IsCut rs c) → count_by p cuts ≤ length (filter p (edges rs))
+few_cuts : (p : ℕ → Bool) (rs : List Ends) (cuts : List ℕ) → IsStrictlyIncreasing cuts
+    → ((c : ℕ) → Contains cuts c → IsCut rs c) → count_by p cuts ≤ length (filter p (edges rs))
 few_cuts p rs cuts up are =
     let few : length (filter p cuts) ≤ length (filter p (edges rs)) =
-    different_are_few 0 (filter p cuts) (filter p (edges rs)) (up-filter p 0 cuts (up_from cuts up)) (λ c is. among_filter p c (edges rs) (edge c (kept p c cuts is).0) (kept p c cuts is).1) in
+    different_are_few 0 (filter p cuts) (filter p (edges rs)) (up-filter p 0 cuts (up_from cuts up))
+    (λ c is. among_filter p c (edges rs) (edge c (kept p c cuts is).0) (kept p c cuts is).1) in
     omega (arith, few, length-filter p cuts)
   where
     edge : (c : ℕ) → Among c cuts → Among c (edges rs)
-    edge c is = among_from_in c (edges rs) (In-each_once-new eqb Decides-eqb c [] (flat_map edges_of rs) (in_from_among c (flat_map edges_of rs) (among_edges c rs (are c (contains_from_among c cuts is)))))
+    edge c is =
+        among_from_in c
+        (edges rs) (In-each_once-new eqb Decides-eqb c [] (flat_map edges_of rs) (in_from_among c
+        (flat_map edges_of rs) (among_edges c rs (are c (contains_from_among c cuts is)))))
 
 -- of all of a segment of the sources the same is said, and there are few segments
-pub AreSteady-from_segments : (s : InForce) (touched out : List Ends) → AreSourceSegments s touched out → All (λ r. (a : ℕ) → IsWithin r a → spoken_at s a ≡ spoken_at s r.first) out → AreSteady s touched out
+pub AreSteady-from_segments : (s : InForce) (touched out : List Ends)
+    → AreSourceSegments s touched out
+    → All (λ r. (a : ℕ) → IsWithin r a → spoken_at s a ≡ spoken_at s r.first) out
+    → AreSteady s touched out
 unfolding touch
 AreSteady-from_segments s touched out segments steady =
-    let few : count_by (is_touched touched) segments.places ≤ length (filter (is_touched touched) (edges (statement_ranges s))) =
-    few_cuts (is_touched touched) (statement_ranges s) segments.places segments.cuts.ascending (λ c is. ((segments.cuts.exact c).0 is).0) in
+    let few : count_by (is_touched touched) segments.places
+    ≤ length (filter (is_touched touched) (edges (statement_ranges s))) =
+    few_cuts (is_touched touched) (statement_ranges s) segments.places segments.cuts.ascending
+    (λ c is. ((segments.cuts.exact c).0 is).0) in
     record {
       ranges = segments.ranges;
       apart = segments.apart;
@@ -117,13 +141,17 @@ length-edges [] = refl
 length-edges (r ∷ rs) = omega (arith, length-edges rs)
 
 -- the bound grows with the numbers of changed statements and of those in force alone
-pub bound_by_statements : (touched : List Ends) (s : InForce) → bound touched s ≤ 256 * (length touched + 2 * length (statement_ranges s) + 1)
+pub bound_by_statements : (touched : List Ends) (s : InForce)
+    → bound touched s ≤ 256 * (length touched + 2 * length (statement_ranges s) + 1)
 unfolding bound few_places touch
 bound_by_statements touched s =
     let rs : List Ends = statement_ranges s in
-    let kept_are : length (filter (is_touched touched) (edges rs)) ≡ count_by (is_touched touched) (edges rs) = length-filter (is_touched touched) (edges rs) in
-    let few_kept : count_by (is_touched touched) (edges rs) ≤ length (edges rs) = count_by-le-length (is_touched touched) (edges rs) in
-    let few_edges : length (edges rs) ≤ length (flat_map edges_of rs) = omega (arith, length-each_once eqb [] (flat_map edges_of rs)) in
+    let kept_are : length (filter (is_touched touched) (edges rs))
+    ≡ count_by (is_touched touched) (edges rs) = length-filter (is_touched touched) (edges rs) in
+    let few_kept : count_by (is_touched touched) (edges rs) ≤ length (edges rs) =
+    count_by-le-length (is_touched touched) (edges rs) in
+    let few_edges : length (edges rs) ≤ length (flat_map edges_of rs) =
+    omega (arith, length-each_once eqb [] (flat_map edges_of rs)) in
     let two_each : length (flat_map edges_of rs) ≡ 2 * length rs = length-edges rs in
     omega arith
 
@@ -132,17 +160,22 @@ filter-same : (p q : ℕ → Bool) → ((c : ℕ) → p c ≡ q c) → (xs : Lis
 filter-same p q same [] = refl
 filter-same p q same (x ∷ xs) = rw (same x, filter-same p q same xs) refl
 
-touch-moved : OrderDoesNotMatter → (xs ys all : List Ends) → IsPermutation xs ys → touch ys all ≡ touch xs all
+touch-moved : OrderDoesNotMatter → (xs ys all : List Ends) → IsPermutation xs ys
+    → touch ys all ≡ touch xs all
 unfolding touch
 touch-moved order xs ys all moved =
     let both = order xs ys moved in
-    let kept : filter (is_touched ys) (edges all) ≡ filter (is_touched xs) (edges all) = filter-same (is_touched ys) (is_touched xs) (λ c. sym (both.1 c)) (edges all) in
+    let kept : filter (is_touched ys) (edges all) ≡ filter (is_touched xs) (edges all) =
+    filter-same (is_touched ys) (is_touched xs) (λ c. sym (both.1 c)) (edges all) in
     omega (arith, both.0, ap length kept)
 
-pub few_places-moved : OrderDoesNotMatter → (xs ys : List Ends) (s : InForce) → IsPermutation xs ys → few_places ys s ≡ few_places xs s
+pub few_places-moved : OrderDoesNotMatter → (xs ys : List Ends) (s : InForce) → IsPermutation xs ys
+    → few_places ys s ≡ few_places xs s
 unfolding few_places
-few_places-moved order xs ys s moved = ap (λ n. n + 1) (touch-moved order xs ys (statement_ranges s) moved)
+few_places-moved order xs ys s moved =
+    ap (λ n. n + 1) (touch-moved order xs ys (statement_ranges s) moved)
 
-pub bound-moved : OrderDoesNotMatter → (xs ys : List Ends) (s : InForce) → IsPermutation xs ys → bound ys s ≡ bound xs s
+pub bound-moved : OrderDoesNotMatter → (xs ys : List Ends) (s : InForce) → IsPermutation xs ys
+    → bound ys s ≡ bound xs s
 unfolding bound
 bound-moved order xs ys s moved = ap (λ n. 256 * n) (few_places-moved order xs ys s moved)

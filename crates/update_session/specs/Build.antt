@@ -1,4 +1,5 @@
--- How the tree is painted anew: the touched grounds are cut, each segment gets its place's number, and all are painted.
+-- How the tree is painted anew: the touched grounds are cut, each segment gets its place's number,
+-- and all are painted.
 use Rattle.std.specs.Prelude.{◌≡◌, ℕ, ◌<◌, ◌≤◌, IsTrue, List, length, Option, All, Any}
 use Rattle.std.specs.List.{AllAdjacentBelow}
 use Rattle.std.specs.Borrow.{Bor}
@@ -13,7 +14,8 @@ use Rattle.source_changes.specs.Touched.{is_touched}
 use Rattle.trie_core.specs.declared.paint.Part.{Part}
 use Rattle.update_session.specs.Touch.{touch}
 
--- ascending ranges that have the touched addresses and no others, of all of each the same is said, and there are no more of them than the touch
+-- ascending ranges that have the touched addresses and no others, of all of each the same is said,
+-- and there are no more of them than the touch
 pub record AreSteady (s : InForce) (touched out : List Ends) : Type 0 where
   pub ranges : All IsRange out
   pub apart : AllAdjacentBelow (λ r t. r.last < t.first) out (length out)
@@ -24,7 +26,8 @@ pub record AreSteady (s : InForce) (touched out : List Ends) : Type 0 where
 
 -- the leaf of a part is the number of what is said of its first address
 abbrev pub HasNumber : InForce → List PlaceParts → Part → Type 0
-HasNumber s places p = (p.leaf ≤ length places) × (place_at places p.leaf ≡ spoken_at s p.range.first)
+HasNumber s places p =
+    (p.leaf ≤ length places) × (place_at places p.leaf ≡ spoken_at s p.range.first)
 
 -- what is said of a segment: what is said of its first address
 abbrev pub IsSaid : InForce → Ends → Option (Bor PlaceParts) → Type 0

@@ -21,7 +21,8 @@ pub record IsNew (epoch : ℕ) (name : List ℕ) (new : Held) : Type 0 where
   pub marks : new.marks ≡ []
   pub root : RootMeans new no_sources
 
--- after a call that sets or drops a source: the grounds that it touched have come to the list, in some order
+-- after a call that sets or drops a source: the grounds that it touched have come to the list,
+-- in some order
 pub record HasChanged (change : Change) (old new : Held) : Type 0 where
   pub state : new.state ≡ record old.state { sources = after change old.state.sources }
   pub more : List Ends
@@ -32,14 +33,16 @@ pub record HasChanged (change : Change) (old new : Held) : Type 0 where
   pub root : new.root ≡ old.root
   pub marks : new.marks ≡ old.marks
 
--- after an emit, whatever its answer: nodes and places were kept, and no more have come than the touch allows
+-- after an emit, whatever its answer: nodes and places were kept,
+-- and no more have come than the touch allows
 pub record HasGrown (old new : Held) : Type 0 where
   pub state : new.state ≡ old.state
   pub store : GrowsBy old.store new.store (bound old.touched old.state.sources)
   pub places : PlacesGrowBy old.places new.places (few_places old.touched old.state.sources)
   pub marks : new.marks ≡ old.marks
 
--- after an emit that was not refused: the root answers the record of the sources in force, and nothing is touched
+-- after an emit that was not refused: the root answers the record of the sources in force,
+-- and nothing is touched
 pub record HasEmitted (old new : Held) : Type 0 where
   pub root : RootMeans new old.state.sources
   pub touched : new.touched ≡ []
@@ -57,15 +60,24 @@ IsSpent s =
 
 -- the mark of a session, as it is now
 abbrev pub mark_of : List ℕ → Held → Mark
-mark_of name session = record { name = name; sources = session.state.sources; root = session.root; touched = session.touched }
+mark_of name session = record {
+  name = name;
+  sources = session.state.sources;
+  root = session.root;
+  touched = session.touched;
+}
 
--- after a call that marks the session: the mark has come, in the place of the one with its name, and nothing else has changed
+-- after a call that marks the session: the mark has come, in the place of the one with its name,
+-- and nothing else has changed
 abbrev pub HasMarked : (name : List ℕ) (old new : Held) → Type 0
-HasMarked name old new = new ≡ record old { marks = with_one (λ m. m.name) (mark_of name old) old.marks }
+HasMarked name old new =
+    new ≡ record old { marks = with_one (λ m. m.name) (mark_of name old) old.marks }
 
--- after one that goes back to a mark: sources, root and touched grounds are the mark's, and nothing else has changed
+-- after one that goes back to a mark: sources, root and touched grounds are the mark's,
+-- and nothing else has changed
 abbrev pub HasGoneBack : (name : List ℕ) (old new : Held) → Type 0
-HasGoneBack name old new = (m : Mark) × (named (λ x. x.name) name old.marks ≡ Some m) × (new ≡ gone_back m old)
+HasGoneBack name old new =
+    (m : Mark) × (named (λ x. x.name) name old.marks ≡ Some m) × (new ≡ gone_back m old)
 
 -- a mark stayed, with a root in the new store that means what the old one meant in the old store
 pub record HasStayed (old new : Held) (m m' : Mark) : Type 0 where
@@ -74,11 +86,14 @@ pub record HasStayed (old new : Held) (m m' : Mark) : Type 0 where
   pub touched : m'.touched ≡ m.touched
   pub root : (s : InForce) → RootMeans (gone_back m old) s → RootMeans (gone_back m' new) s
 
--- after one that gives up nodes: roots mean what they meant, and the store has the nodes of their trees alone, each once
+-- after one that gives up nodes: roots mean what they meant,
+-- and the store has the nodes of their trees alone, each once
 pub record HasCompacted (old new : Held) : Type 0 where
   pub state : new.state ≡ old.state
   pub places : new.places ≡ old.places
   pub touched : new.touched ≡ old.touched
   pub root : (s : InForce) → RootMeans old s → RootMeans new s
   pub marks : AllZip (HasStayed old new) old.marks new.marks
-  pub store : (base : InForce) (bases : List InForce) → RootMeans old base → AllZip (λ m s. RootMeans (gone_back m old) s) old.marks bases → length new.store ≡ nodes_under (base ∷ bases)
+  pub store : (base : InForce) (bases : List InForce)
+      → RootMeans old base → AllZip (λ m s. RootMeans (gone_back m old) s) old.marks bases
+      → length new.store ≡ nodes_under (base ∷ bases)

@@ -15,7 +15,8 @@ use Rattle.trie_core.specs.Store.{leaf_at, IsRootOf}
 use Rattle.update_session.specs.declared.marks.Mark.{Mark}
 use Rattle.update_session.specs.State.{State}
 
--- what a session holds: what its file depends on; the store of nodes, and the places that leaves are the numbers of; the root of the last emit, the grounds that were touched since, and the marks
+-- what a session holds: what its file depends on; the store of nodes, and the places that leaves
+-- are the numbers of; the root of the last emit, the grounds that were touched since, and the marks
 pub record Held : Type 0 where
   pub state : State
   pub store : List Pair
@@ -25,7 +26,8 @@ pub record Held : Type 0 where
   pub marks : List Mark
 
 -- the root's leaf at an address is the number of this place
-pub record Answers (pairs : List Pair) (places : List PlaceParts) (root : Root) (wanted : Option PlaceParts) (a : ℕ) : Type 0 where
+pub record Answers (pairs : List Pair) (places : List PlaceParts) (root : Root)
+    (wanted : Option PlaceParts) (a : ℕ) : Type 0 where
   pub leaf : ℕ
   pub is : leaf_at pairs root a ≡ Some leaf
   pub few : leaf ≤ length places
@@ -37,25 +39,31 @@ AnswersAll pairs places root s = (a : ℕ) → a < 2 ^ 128 → Answers pairs pla
 
 -- outside the blocks that carry IPv4 addresses it is the number of what is said of the address
 abbrev pub AnswersSpoken : List Pair → List PlaceParts → Root → InForce → Type 0
-AnswersSpoken pairs places root s = (a : ℕ) → a < 2 ^ 128 → is_alias a ≡ false → Answers pairs places root (spoken_at s a) a
+AnswersSpoken pairs places root s =
+    (a : ℕ) → a < 2 ^ 128 → is_alias a ≡ false → Answers pairs places root (spoken_at s a) a
 
 -- the root answers the record of sources that said the same off the touched grounds
-pub record HasBase (pairs : List Pair) (places : List PlaceParts) (root : Root) (touched : List Ends) (s : InForce) : Type 0 where
+pub record HasBase (pairs : List Pair) (places : List PlaceParts) (root : Root)
+    (touched : List Ends) (s : InForce) : Type 0 where
   pub base : InForce
   pub answers : AnswersAll pairs places root base
   pub kept : IsKeptOutside touched base s
 
--- what holds of the sources, the root and the touched grounds of a session, and of those of each of its marks
-pub record IsBased (s : InForce) (pairs : List Pair) (places : List PlaceParts) (root : Root) (touched : List Ends) : Type 0 where
+-- what holds of the sources, the root and the touched grounds of a session,
+-- and of those of each of its marks
+pub record IsBased (s : InForce) (pairs : List Pair) (places : List PlaceParts) (root : Root)
+    (touched : List Ends) : Type 0 where
   pub sources : AreSources s
   pub of : IsRootOf pairs root
   pub base : HasBase pairs places root touched s
 
 abbrev pub AreBased : List Pair → List PlaceParts → List Mark → Type 0
-AreBased pairs places marks = AllByRecursion (λ m. IsBased m.sources pairs places m.root m.touched) marks
+AreBased pairs places marks =
+    AllByRecursion (λ m. IsBased m.sources pairs places m.root m.touched) marks
 
 -- what holds of every session
-pub record IsSession (s : InForce) (pairs : List Pair) (places : List PlaceParts) (root : Root) (touched : List Ends) (kept : List Mark) : Type 0 where
+pub record IsSession (s : InForce) (pairs : List Pair) (places : List PlaceParts) (root : Root)
+    (touched : List Ends) (kept : List Mark) : Type 0 where
   pub now : IsBased s pairs places root touched
   pub marks : AreBased pairs places kept
 
@@ -70,4 +78,8 @@ GrowsBy old new n = (more : List PlaceParts) × (new ≡ old ++ more) × (length
 
 -- the session as it goes back to a mark
 abbrev pub gone_back : Mark → Held → Held
-gone_back m session = record session { state = record session.state { sources = m.sources }; root = m.root; touched = m.touched }
+gone_back m session = record session {
+  state = record session.state { sources = m.sources };
+  root = m.root;
+  touched = m.touched;
+}

@@ -1,5 +1,6 @@
 -- What a session stands for, and the file that it emits.
-use Rattle.std.specs.Prelude.{◌+◌, ℕ, ◌^◌, nat_le, Bool, List, length, map, Option, option_map, option_and_then}
+use Rattle.std.specs.Prelude.{◌+◌, ℕ, ◌^◌, nat_le, Bool, List, length, map, Option, option_map}
+use Rattle.std.specs.Prelude.{option_and_then}
 use Rattle.geo_terms.specs.Sources.{InForce, no_sources}
 use Rattle.mmdb_tree.specs.Nodes.{smallest, record_size}
 use Rattle.least_nodes.specs.Together.{nodes_of}
@@ -39,7 +40,12 @@ is_too_large s = nat_le (2 ^ 32) (node_count s + 16 + section_length s)
 unfoldable pub file_of : State → Option FileValue
 file_of s =
     option_and_then
-    (λ bits. option_map (λ bytes. record { bytes = bytes; nodes = node_count s; section = section_length s; bits = record_size bits }) (fresh s.sources s.epoch s.name))
+    (λ bits. option_map (λ bytes. record {
+      bytes = bytes;
+      nodes = node_count s;
+      section = section_length s;
+      bits = record_size bits;
+    }) (fresh s.sources s.epoch s.name))
     (smallest (node_count s + 16 + section_length s))
 
 -- a file that was written, as its definition

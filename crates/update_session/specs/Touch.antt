@@ -10,7 +10,8 @@ use Rattle.source_changes.specs.Touched.{is_touched}
 abbrev pub edges : List Ends → List ℕ
 edges ranges = each_once nat_eq [] (flat_map edges_of ranges)
 
--- the touch of an emit for which these grounds have changed, where statements with those ranges are in force: how many grounds, and how many different edges of the statements in force lie on them
+-- the touch of an emit for which these grounds have changed, where statements with those ranges are
+-- in force: how many grounds, and how many different edges of the statements in force lie on them
 unfoldable pub touch : (changed all : List Ends) → ℕ
 touch changed all = length changed + length (filter (is_touched changed) (edges all))
 

@@ -37,7 +37,8 @@ pub(crate) fn with_aliases<L: Ledger>(
 ) -> Result<Root, EmitFault>
     requires { IsRootOf store.old root }
     ensures of { IfOk result (IsRootOf store.new) }
-    ensures homes { IfOk result (λ r. (a : ℕ) → a < 2 ^ 128 → leaf_at store.new r a ≡ leaf_at store.old root (home a)) }
+    ensures homes { IfOk result
+        (λ r. (a : ℕ) → a < 2 ^ 128 → leaf_at store.new r a ≡ leaf_at store.old root (home a)) }
     ensures ticks { steps.old ≤ steps.new }
     ensures few_ticks { steps.new ≤ steps.old + 112 }
     ensures grows { GrowsBy store.old store.new (steps.new - steps.old) }
@@ -63,7 +64,8 @@ fn graft<L: Ledger>(
     ensures of { IfOk result (IsRootOf store.new) }
     ensures inside { IfOk result (λ r. (a : ℕ) → IsWithin (range_of_block block) a
         → leaf_at store.new r a ≡ look (meaning store.old rec) (bits_of (128 - block.len) a)) }
-    ensures elsewhere { IfOk result (λ r. (a : ℕ) → a < 2 ^ 128 → (IsWithin (range_of_block block) a → ⊥)
+    ensures elsewhere { IfOk result
+        (λ r. (a : ℕ) → a < 2 ^ 128 → (IsWithin (range_of_block block) a → ⊥)
         → leaf_at store.new r a ≡ leaf_at store.old root a) }
     ensures ticks { steps.old ≤ steps.new }
     ensures few_ticks { steps.new ≤ steps.old + block.len }

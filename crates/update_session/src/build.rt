@@ -1,6 +1,8 @@
-//! The kept tree, painted anew: the touched grounds are cut into segments, what is said of each gets its
-//! number, all segments are painted in one pass, and the blocks that carry IPv4 addresses follow.
-ghost use Rattle.std.specs.Prelude.{◌≡◌, ℕ, ◌+◌, ◌-◌, ◌*◌, ◌^◌, ◌<◌, ◌≤◌, ◌⊎◌, [], length, map, All, IfOk, Ok, Some, Err};
+//! The kept tree, painted anew: the touched grounds are cut into segments, what is said of each
+//! gets its number, all segments are painted in one pass, and the blocks
+//! that carry IPv4 addresses follow.
+ghost use Rattle.std.specs.Prelude.{◌≡◌, ℕ, ◌+◌, ◌-◌, ◌*◌, ◌^◌, ◌<◌, ◌≤◌, ◌⊎◌, [], length, map};
+ghost use Rattle.std.specs.Prelude.{All, IfOk, Ok, Some, Err};
 ghost use Rattle.std.specs.List.{AllZip};
 ghost use Rattle.geo_terms.specs.Cuts.{statement_ranges};
 ghost use Rattle.geo_terms.specs.Numbers.{place_at};
@@ -24,11 +26,11 @@ use std::sync::ledger::Ledger;
 use std::thread::Threads;
 use trie_core::{Part, Root, Store, StoreFault};
 
-/// The root that at each address has the number of the address's record, where the given one has those of
-/// sources that said the same off the touched grounds.
+/// The root that at each address has the number of the address's record, where the given one has
+/// those of sources that said the same off the touched grounds.
 ///
-/// Where nothing is touched it is the given root. A refusal may leave nodes and places that were made on
-/// the way.
+/// Where nothing is touched it is the given root. A refusal may leave nodes and places that were
+/// made on the way.
 #[tactic(auto, unfolding(crate::specs::Touch::bound, crate::specs::Touch::few_places))]
 pub(crate) fn repaint<R: Threads + Sync, G: Gate, L: Ledger>(
     forks: &Forks<R, G>,
@@ -47,8 +49,10 @@ pub(crate) fn repaint<R: Threads + Sync, G: Gate, L: Ledger>(
     ensures few_ticks { steps.new ≤ steps.old + bound touched.now sources.now }
     ensures grows { GrowsBy store.old store.new (steps.new - steps.old) }
     ensures places { PlacesGrowBy places.old places.new (few_places touched.now sources.now) }
-    ensures full { result ≡ Err EmitFault.TooLarge → (length store.new + 1 ≡ 2 ^ 32) ⊎ (length places.new + 1 ≡ 2 ^ 32) }
-    ensures idle { touched.now ≡ [] → (result ≡ Ok root) × (store.new ≡ store.old) × (places.new ≡ places.old) × (steps.new ≡ steps.old) }
+    ensures full { result ≡ Err EmitFault.TooLarge
+        → (length store.new + 1 ≡ 2 ^ 32) ⊎ (length places.new + 1 ≡ 2 ^ 32) }
+    ensures idle { touched.now ≡ [] → (result ≡ Ok root) × (store.new ≡ store.old)
+        × (places.new ≡ places.old) × (steps.new ≡ steps.old) }
 {
     if touched.is_empty() {
         return Ok(root);
@@ -108,7 +112,8 @@ fn part_of(range: Range, said: Option<&Place>, places: &mut Places) -> Result<Pa
 
 // The number of a place.
 fn number_of(places: &mut Places, place: &Place) -> Result<u32, EmitFault>
-    ensures held { IfOk result (λ number. (number ≤ length places.new) × (place_at places.new number ≡ Some place.now)) }
+    ensures held { IfOk result
+        (λ number. (number ≤ length places.new) × (place_at places.new number ≡ Some place.now)) }
     ensures places { PlacesGrowBy places.old places.new 1 }
     ensures full { result ≡ Err EmitFault.TooLarge → length places.new + 1 ≡ 2 ^ 32 }
 {

@@ -17,8 +17,8 @@ impl Session {
     ghost use Rattle.std.specs.Prelude.{◌≡◌, length, IfOk, OnOk, OnErr};
     ghost use Rattle.update_session.specs.Calls.{HasCompacted};
 
-    /// Gives up the nodes to which neither the root nor a mark leads, and says how many are left. All roots
-    /// mean what they meant, so later files are the same. No step is taken.
+    /// Gives up the nodes to which neither the root nor a mark leads, and says how many are left.
+    /// All roots mean what they meant, so later files are the same. No step is taken.
     pub fn compact(&mut self) -> Result<u64, Memory>
         ensures count { IfOk result (λ count. length self.new.store ≡ count) }
         ensures ok { OnOk result (HasCompacted self.old self.new) }
@@ -49,10 +49,13 @@ fn without_stale(
 ) -> Result<(Store, Vec<Root>), Memory>
     requires of { AreRootsOf store.now roots.now }
     ensures of { IfOk result (λ made. AreRootsOf made.0 made.1.items) }
-    ensures trees { IfOk result (λ made. trees_of_roots made.0 made.1.items ≡ trees_of_roots store.now roots.now) }
+    ensures trees { IfOk result
+        (λ made. trees_of_roots made.0 made.1.items ≡ trees_of_roots store.now roots.now) }
 
-    // It has as many nodes as the trees of the sources have different ones whose records the roots answer.
-    ensures nodes { IfOk result (λ made. (bases : List InForce) → AllZip (AnswersAll store.now places.now) roots.now bases
+    // It has as many nodes as the trees of the sources have different ones
+    // whose records the roots answer.
+    ensures nodes { IfOk result
+        (λ made. (bases : List InForce) → AllZip (AnswersAll store.now places.now) roots.now bases
         → length made.0 ≡ nodes_under bases) }
 {
     let _ = store.len();

@@ -6,8 +6,8 @@ use thiserror::Error;
 /// Why no file was emitted.
 #[derive(Clone, Copy, Debug, PartialEq, Eq, Error)]
 pub enum EmitFault {
-    /// Records of 32 bits do not hold the nodes and the data section, or the emit could touch 2^32 - 1
-    /// nodes or more.
+    /// Records of 32 bits do not hold the nodes and the data section, or the emit could touch
+    /// 2^32 - 1 nodes or more.
     #[error("the sources are too many for one file")]
     TooLarge = 1,
     #[error("out of memory")]

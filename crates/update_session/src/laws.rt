@@ -14,9 +14,11 @@ pub fn too_large_means_no_file()
     ensures { (s : State) → IsTrue (is_too_large s) ↔ (file_of s ≡ None) }
 {}
 
-/// The bound of an emit grows with the number of statements that have changed and of those in force alone.
+/// The bound of an emit grows with the number of statements that have
+/// changed and of those in force alone.
 pub fn bound_by_statements()
-    ensures { (touched : List Ends) (s : InForce) → bound touched s ≤ 256 * (length touched + 2 * length (statement_ranges s) + 1) }
+    ensures { (touched : List Ends) (s : InForce)
+        → bound touched s ≤ 256 * (length touched + 2 * length (statement_ranges s) + 1) }
 {}
 
 /// Where a session stands after a call follows from where it stood before and from the call alone.
@@ -26,8 +28,8 @@ pub fn standing_stays()
     order_does_not_matter();
 }
 
-/// Going back to a mark gives what was in force, and touched, when the session was marked: so an emit gives
-/// the file of an emit there, and takes no step where nothing was touched then.
+/// Going back to a mark gives what was in force, and touched, when the session was marked: so an
+/// emit gives the file of an emit there, and takes no step where nothing was touched then.
 pub fn back_as_marked()
     ensures { BackAsMarked }
 {}

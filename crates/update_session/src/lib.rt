@@ -1,4 +1,5 @@
-//! A session: sources in force, and the file that is emitted for them, by what changed since the last one.
+//! A session: sources in force, and the file that is emitted for them,
+//! by what changed since the last one.
 #![tactic(auto)]
 
 mod alias;

@@ -11,8 +11,8 @@ impl Session {
     ghost use Rattle.update_session.specs.Calls.{HasGoneBack, HasMarked};
     ghost use Rattle.update_session.specs.declared.fault.BackFault.{BackFault};
 
-    /// Marks the sources in force, to go back to them, and with them what the next emit rests on. A mark of
-    /// the same name is replaced.
+    /// Marks the sources in force, to go back to them, and with them what the next emit rests on. A
+    /// mark of the same name is replaced.
     ///
     /// The sources are shared: a mark costs their number and that of the touched grounds.
     pub fn mark(&mut self, name: &str) -> Result<(), Memory>
@@ -25,11 +25,12 @@ impl Session {
         Ok(())
     }
 
-    /// Goes back to a mark, which stays: its sources are in force again, and the next emit rests on what an
-    /// emit would have rested on then. Nodes and places stay as they are.
+    /// Goes back to a mark, which stays: its sources are in force again, and the next emit rests on
+    /// what an emit would have rested on then. Nodes and places stay as they are.
     pub fn back(&mut self, name: &str) -> Result<(), BackFault>
         ensures ok { OnOk result (HasGoneBack name.now self.old self.new) }
-        ensures absent { result ≡ Err BackFault.NotThere ↔ (named (λ m. m.name) name.now self.old.marks ≡ None) }
+        ensures absent { result ≡ Err BackFault.NotThere
+            ↔ (named (λ m. m.name) name.now self.old.marks ≡ None) }
         ensures err { OnErr result (self.new ≡ self.old) }
     {
         let Some(mark) = find_mark(self.marks.as_slice(), name) else {

@@ -27,7 +27,8 @@ pub(crate) fn make_mark(
     root: Root,
     touched: &[Range],
 ) -> Result<Mark, Memory>
-    ensures { IfOk result (λ mark. mark ≡ record { name = name.now; sources = sources.now; root = root; touched = touched.now }) }
+    ensures { IfOk result (λ mark. mark
+        ≡ record { name = name.now; sources = sources.now; root = root; touched = touched.now }) }
 {
     let name = Text::of(alloc, name)?;
     let sources = sources.snapshot()?;

@@ -16,8 +16,8 @@ use std::sync::ledger::Ledger;
 use std::thread::Threads;
 use trie_core::{Root, Store};
 
-/// Sources in force, what the metadata of their files tells, the tree of the last emit with what was
-/// touched since, and the marks to which it can go back.
+/// Sources in force, what the metadata of their files tells, the tree of the last emit with what
+/// was touched since, and the marks to which it can go back.
 ///
 /// After any refusal the session stands for the same sources as before the call.
 #[derive(Drop)]
@@ -47,11 +47,13 @@ impl Model for Session {
       marks = s.marks.items;
     } };
 
-    ghost invariant = { λ s. (length s.meta.name ≤ 64) × IsSession s.sources s.store s.places s.root s.touched.items s.marks.items };
+    ghost invariant = { λ s. (length s.meta.name ≤ 64)
+        × IsSession s.sources s.store s.places s.root s.touched.items s.marks.items };
 }
 
 impl Session {
-    ghost use Rattle.std.specs.Prelude.{◌≡◌, ◌⊎◌, ◌≤◌, ◌<◌, ◌+◌, ◌^◌, ℕ, List, Option, [], length, IfOk, OnOk, OnErr, IsTrue, Some, Ok, Err, option_map};
+    ghost use Rattle.std.specs.Prelude.{◌≡◌, ◌⊎◌, ◌≤◌, ◌<◌, ◌+◌, ◌^◌, ℕ, List, Option, [], length};
+    ghost use Rattle.std.specs.Prelude.{IfOk, OnOk, OnErr, IsTrue, Some, Ok, Err, option_map};
     ghost use Rattle.geo_addr.specs.Bits.{bits_of};
     ghost use Rattle.geo_terms.specs.PlaceForm.{PlaceParts};
     ghost use Rattle.geo_terms.specs.Precedence.{reasons_at, record_at};
@@ -112,9 +114,9 @@ impl Session {
 
     /// The file of a fresh build of the sources in force.
     ///
-    /// What was touched since the last emit is painted into its tree, so the work of an emit follows what
-    /// changed. What is said of the segments is looked up by pieces side by side. Nodes and places that a
-    /// refused emit made stay.
+    /// What was touched since the last emit is painted into its tree, so the work of an emit
+    /// follows what changed. What is said of the segments is looked up by pieces side by side.
+    /// Nodes and places that a refused emit made stay.
     #[tactic(auto, unfolding(crate::specs::Touch::bound))]
     pub fn emit<R: Threads + Sync, G: Gate, L: Ledger>(
         &mut self,
@@ -123,12 +125,15 @@ impl Session {
     ) -> Result<Emitted, EmitFault>
         ensures file { IfOk result (λ file. file_of self.old.state ≡ Some (value_of file)) }
 
-        // Whoever follows the public standard through the bytes comes to the value of the address's record.
+        // Whoever follows the public standard through the bytes comes to the
+        // value of the address's record.
         ensures walked { IfOk result (λ file. (a : ℕ) → a < 2 ^ 128
-            → walk file.bytes.items (bits_of 128 a) ≡ Ok (option_map place_value (record_at self.old.state.sources a))) }
+            → walk file.bytes.items (bits_of 128 a)
+            ≡ Ok (option_map place_value (record_at self.old.state.sources a))) }
 
         // No list of nodes that answers the record at every address is shorter.
-        ensures fewest { IfOk result (λ file. (nodes : List (Member (Option PlaceParts) × Member (Option PlaceParts)))
+        ensures fewest { IfOk result
+            (λ file. (nodes : List (Member (Option PlaceParts) × Member (Option PlaceParts)))
             → Finds 128 nodes (record_at self.old.state.sources) → file.nodes ≤ length nodes) }
 
         // The count is the one that whoever opens the bytes reads in them.
@@ -209,14 +214,15 @@ impl Session {
         ensures of { IsRootOf self.now.store result }
 
         // Its tree, with the places that the leaves number, is that of those sources.
-        ensures tree { (s : InForce) → RootMeans self.now s → place_tree self.now.places self.now.store result ≡ record_tree s }
+        ensures tree { (s : InForce) → RootMeans self.now s
+            → place_tree self.now.places self.now.store result ≡ record_tree s }
     {
         means_records(&self.store, self.root, &self.places);
         self.root
     }
 
-    /// The grounds of the statements that came or went since, in any order: each ground as often as there is
-    /// such a statement.
+    /// The grounds of the statements that came or went since, in any order: each ground as often as
+    /// there is such a statement.
     pub fn touched(&self) -> &[Range]
         ensures { result.now ≡ self.now.touched }
     {

@@ -1,7 +1,8 @@
 //! The calls that set and drop sources.
 //!
-//! Each takes its memory before it changes anything: a drop looks whether the source is there, and each finds the statements that come and go, makes room for
-//! their grounds, and only then changes the sources.
+//! Each takes its memory before it changes anything: a drop looks whether the source is there, and
+//! each finds the statements that come and go, makes room for their grounds,
+//! and only then changes the sources.
 
 use crate::replaced::{
     add, delegations_of, entries_of, has_dump, has_file, make_room, references_of, rows_of,
@@ -16,7 +17,9 @@ use source_changes::{changed_grounds, keep_all};
 impl Session {
     ghost use Rattle.std.specs.Prelude.{◌≡◌, ◌↔◌, IsSome, None, OnOk, OnErr, Err};
     ghost use Rattle.authority.specs.declared.fault.DropFault.{DropFault};
-    ghost use Rattle.source_changes.specs.Changes.{SetDump, SetFeed, SetOverrides, SetStats, DropDump, DropFeed, DropOverrides, DropStats, named};
+    ghost use Rattle.source_changes.specs.Changes.{SetDump, SetFeed, SetOverrides, SetStats};
+    ghost use Rattle.source_changes.specs.Changes.{DropDump, DropFeed, DropOverrides, DropStats};
+    ghost use Rattle.source_changes.specs.Changes.{named};
     ghost use Rattle.update_session.specs.Calls.{HasChanged};
 
     /// Puts a registry dump in the place of the one with the same slot, which is dropped.
@@ -38,8 +41,10 @@ impl Session {
     /// Takes the dump of a slot out of force.
     pub fn drop_rpsl(&mut self, slot: &str) -> Result<(), DropFault>
         ensures ok { OnOk result (HasChanged (DropDump slot.now) self.old self.new) }
-        ensures there { OnOk result (IsSome (named (λ x. x.slot) slot.now self.old.state.sources.dumps)) }
-        ensures absent { result ≡ Err DropFault.NotThere ↔ (named (λ x. x.slot) slot.now self.old.state.sources.dumps ≡ None) }
+        ensures there { OnOk result
+            (IsSome (named (λ x. x.slot) slot.now self.old.state.sources.dumps)) }
+        ensures absent { result ≡ Err DropFault.NotThere
+            ↔ (named (λ x. x.slot) slot.now self.old.state.sources.dumps ≡ None) }
         ensures err { OnErr result (self.new ≡ self.old) }
     {
         kept_by_one_more();
@@ -75,8 +80,10 @@ impl Session {
     /// Takes the feed of a URL out of force.
     pub fn drop_feed(&mut self, url: &str) -> Result<(), DropFault>
         ensures ok { OnOk result (HasChanged (DropFeed url.now) self.old self.new) }
-        ensures there { OnOk result (IsSome (named (λ x. x.url) url.now self.old.state.sources.feeds)) }
-        ensures absent { result ≡ Err DropFault.NotThere ↔ (named (λ x. x.url) url.now self.old.state.sources.feeds ≡ None) }
+        ensures there { OnOk result
+            (IsSome (named (λ x. x.url) url.now self.old.state.sources.feeds)) }
+        ensures absent { result ≡ Err DropFault.NotThere
+            ↔ (named (λ x. x.url) url.now self.old.state.sources.feeds ≡ None) }
         ensures err { OnErr result (self.new ≡ self.old) }
     {
         kept_by_one_more();
@@ -112,8 +119,10 @@ impl Session {
     /// Takes the statistics file of a slot out of force.
     pub fn drop_stats(&mut self, slot: &str) -> Result<(), DropFault>
         ensures ok { OnOk result (HasChanged (DropStats slot.now) self.old self.new) }
-        ensures there { OnOk result (IsSome (named (λ x. x.slot) slot.now self.old.state.sources.stats)) }
-        ensures absent { result ≡ Err DropFault.NotThere ↔ (named (λ x. x.slot) slot.now self.old.state.sources.stats ≡ None) }
+        ensures there { OnOk result
+            (IsSome (named (λ x. x.slot) slot.now self.old.state.sources.stats)) }
+        ensures absent { result ≡ Err DropFault.NotThere
+            ↔ (named (λ x. x.slot) slot.now self.old.state.sources.stats ≡ None) }
         ensures err { OnErr result (self.new ≡ self.old) }
     {
         kept_by_one_more();
@@ -148,7 +157,8 @@ impl Session {
     pub fn drop_overrides(&mut self) -> Result<(), DropFault>
         ensures ok { OnOk result (HasChanged DropOverrides self.old self.new) }
         ensures there { OnOk result (IsSome self.old.state.sources.overrides) }
-        ensures absent { result ≡ Err DropFault.NotThere ↔ (self.old.state.sources.overrides ≡ None) }
+        ensures absent { result ≡ Err DropFault.NotThere
+            ↔ (self.old.state.sources.overrides ≡ None) }
         ensures err { OnErr result (self.new ≡ self.old) }
     {
         kept_by_one_more();

@@ -1,4 +1,5 @@
-//! What sources that are set are asked: their segments, what is said of each, and what becomes of a feed's lines.
+//! What sources that are set are asked: their segments, what is said of each,
+//! and what becomes of a feed's lines.
 
 use crate::case::Question;
 use crate::fault::Fault;

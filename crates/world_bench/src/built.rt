@@ -1,5 +1,5 @@
-//! The tree of sources that are set, and what is made of it: the least lines of all IPv4 addresses, or the counts of all
-//! countries.
+//! The tree of sources that are set, and what is made of it: the least lines of all IPv4 addresses,
+//! or the counts of all countries.
 
 use crate::asked::told;
 use crate::case::Product;
@@ -15,7 +15,8 @@ use std::sync::ledger::Ledger;
 use std::thread::Threads;
 use update_session::Session;
 
-/// Builds the tree, makes the product of it, and prints how many nodes, lines or countries there are.
+/// Builds the tree, makes the product of it, and prints how many nodes,
+/// lines or countries there are.
 pub(crate) fn build<R: Threads + Sync + Print, G: Gate, L: Ledger>(
     forks: &Forks<R, G>,
     product: Product,

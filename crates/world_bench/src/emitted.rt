@@ -1,4 +1,5 @@
-//! The file of sources that are set, and what is done behind it: marks, or changes that are chosen, built or emitted.
+//! The file of sources that are set, and what is done behind it:
+//! marks, or changes that are chosen, built or emitted.
 
 use crate::asked::{choices_in, told};
 use crate::case::Sequel;
@@ -83,7 +84,8 @@ fn mark_often(alloc: Global, times: u32, session: &mut Session) -> Result<(), Fa
     Ok(())
 }
 
-// Finds and chooses the segments of what is touched so many times, and prints how many have a place.
+// Finds and chooses the segments of what is touched so many times,
+// and prints how many have a place.
 fn choose_often<R: Print>(rt: &R, times: u32, session: &Session) -> Result<(), Fault> {
     let mut count = 0;
     for _ in 0..times {

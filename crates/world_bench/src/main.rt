@@ -1,6 +1,7 @@
-//! Cases over the sources of a job, to be timed from outside: the first word picks a case, the second is the job, and
-//! the third is how often the last part of the case is done, or the URL of a feed.
-//! What a case prints is counts and no times, so that its output is the same wherever it runs.
+//! Cases over the sources of a job, to be timed from outside: the first word picks a case, the
+//! second is the job, and the third is how often the last part of the case is done, or the URL of a
+//! feed. What a case prints is counts and no times, so that its
+//! output is the same wherever it runs.
 #![tactic(auto)]
 
 ghost use Rattle.std.specs.Prelude.{◌≡◌, ◌<◌};

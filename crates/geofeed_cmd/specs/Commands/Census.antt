@@ -12,8 +12,8 @@ use Rattle.update_session.specs.Standing.{emitted}
 abbrev pub country_by : InForce → ℕ → Option (List ℕ)
 country_by s a = option_map (λ (p : PlaceParts). p.country) (record_at s a)
 
--- the last move shows the counts of all addresses by the sources then in force; their tree is built,
--- so for the bound of steps and the want of numbers it is an emit
+-- the last move shows the counts of all addresses by the sources then in force; their tree is
+-- built, so for the bound of steps and the want of numbers it is an emit
 abbrev pub counting : World → Effect
 counting world = record {
   name = [];

@@ -9,8 +9,8 @@ use Rattle.job_run.specs.declared.apart.Apart.{Apart}
 use Rattle.job_run.specs.World.{World}
 use Rattle.generated.specs.Feeds.{feed}
 
--- the files that are read: one object that refers to the feed, one delegation of its range, and two feeds, of which the
--- second is the first but for the country of its first line
+-- the files that are read: one object that refers to the feed, one delegation of its range, and two
+-- feeds, of which the second is the first but for the country of its first line
 unfoldable pub dump_file : Apart
 dump_file = record {
   name = codes "gen.db";
@@ -40,16 +40,18 @@ unfoldable pub stats_step : Step
 stats_step = record { line = 3; act = Stats (codes "gen") (codes "gen.txt") }
 
 unfoldable pub first_step : Step
-first_step = record { line = 4; act = Feed (codes "https://gen.example/feed.csv") (codes "first.csv") }
+first_step =
+    record { line = 4; act = Feed (codes "https://gen.example/feed.csv") (codes "first.csv") }
 
 unfoldable pub second_step : Step
-second_step = record { line = 6; act = Feed (codes "https://gen.example/feed.csv") (codes "second.csv") }
+second_step =
+    record { line = 6; act = Feed (codes "https://gen.example/feed.csv") (codes "second.csv") }
 
 abbrev pub emit_step : (line : ℕ) → (file : List ℕ) → Step
 emit_step line file = record { line = line; act = Emit file }
 
--- the dump, the statistics and the first feed are set, and the file is written; the second feed is set in the place of
--- the first, and the file is written again
+-- the dump, the statistics and the first feed are set, and the file is written; the second feed is
+-- set in the place of the first, and the file is written again
 unfoldable pub gen_steps : (file : List ℕ) → List Step
 gen_steps file =
     dump_step ∷ stats_step ∷ first_step ∷ emit_step 5 file ∷ second_step ∷ emit_step 7 file ∷ []

@@ -36,18 +36,26 @@ pub record IsDone (command : Option Command) (first : Told) (old new : Seen) : T
   pub files : new.told ≡ Some last.told
   pub printed : Prints old.written new.written last.text
   pub steps : new.steps ≤ old.steps + last.session.spent
-  pub published : (move : Move) (world : World) → Reaches command first move world → Publishes move world.session.state
+  pub published : (move : Move) (world : World) → Reaches command first move world
+      → Publishes move world.session.state
 
--- what was printed at a stop in a move: the text before it, and then the stop line, or a part of the move's own text where the sink failed
+-- what was printed at a stop in a move: the text before it, and then the stop line,
+-- or a part of the move's own text where the sink failed
 abbrev pub Leaves : Stop → Move → World → (old new : Seen) → Type 0
-Leaves (stops.Blocked why) move world old new = EndsWith old new world.text (stop_line (stops.Blocked why) (line_of move) (effect move world).name)
-Leaves stops.ReadFailed move world old new = EndsWith old new world.text (stop_line stops.ReadFailed (line_of move) (effect move world).name)
-Leaves stops.PutFailed move world old new = EndsWith old new world.text (stop_line stops.PutFailed (line_of move) (effect move world).name)
-Leaves stops.SinkFailed move world old new = PrintsPart old.written new.written world.text (effect move world).text
+Leaves (stops.Blocked why) move world old new =
+    EndsWith old new world.text
+    (stop_line (stops.Blocked why) (line_of move) (effect move world).name)
+Leaves stops.ReadFailed move world old new =
+    EndsWith old new world.text (stop_line stops.ReadFailed (line_of move) (effect move world).name)
+Leaves stops.PutFailed move world old new =
+    EndsWith old new world.text (stop_line stops.PutFailed (line_of move) (effect move world).name)
+Leaves stops.SinkFailed move world old new =
+    PrintsPart old.written new.written world.text (effect move world).text
 Leaves stops.Memory move world old new = Prints old.written new.written world.text
 
 -- a command stopped at a move that it reached
-pub record StopsIn (why : Stop) (command : Option Command) (first : Told) (old new : Seen) : Type 0 where
+pub record StopsIn (why : Stop) (command : Option Command) (first : Told)
+    (old new : Seen) : Type 0 where
   pub move : Move
   pub world : World
   pub there : Reaches command first move world
@@ -56,7 +64,8 @@ pub record StopsIn (why : Stop) (command : Option Command) (first : Told) (old n
   pub steps : new.steps ≤ old.steps + (effect move world).session.spent
 
 -- the put of a move failed: a put failed in this call
-pub record IsUnput (command : Option Command) (first : Told) (old new : Seen) (puts puts_now : ℕ) : Type 0 where
+pub record IsUnput (command : Option Command) (first : Told) (old new : Seen)
+    (puts puts_now : ℕ) : Type 0 where
   pub rose : Rose puts puts_now
   pub at : StopsIn stops.PutFailed command first old new
 
@@ -87,20 +96,33 @@ pub record IsUnchanged (first : Told) (old new : Seen) : Type 0 where
   pub steps : new.steps ≤ old.steps
 
 -- what there is at each status; the counts are those of puts that failed
-abbrev pub Comes : Status → (command : Option Command) → (first : Told) → (old new : Seen) → (puts puts_now : ℕ) → Type 0
+abbrev pub Comes : Status
+    → (command : Option Command) → (first : Told) → (old new : Seen) → (puts puts_now : ℕ) → Type 0
 Comes statuses.Done command first old new puts puts_now = IsDone command first old new
-Comes statuses.Memory command first old new puts puts_now = IsUnchanged first old new ⊎ StopsIn stops.Memory command first old new
-Comes statuses.Words command first old new puts puts_now = ComesTo (ending first command) statuses.Words old new
-Comes statuses.ReadFault command first old new puts puts_now = IsUnread command first old new ⊎ StopsIn stops.ReadFailed command first old new
-Comes statuses.Missing command first old new puts puts_now = ComesTo (ending first command) statuses.Missing old new
-Comes statuses.WriteFault command first old new puts puts_now = IsUnput command first old new puts puts_now ⊎ IsUnprintedAt command first old new
-Comes statuses.Job command first old new puts puts_now = ComesTo (ending first command) statuses.Job old new
-Comes statuses.Source command first old new puts puts_now = ComesTo (ending first command) statuses.Source old new
-Comes statuses.TooLarge command first old new puts puts_now = ComesTo (ending first command) statuses.TooLarge old new ⊎ IsSpentAt command first old new
-Comes statuses.File command first old new puts puts_now = ComesTo (ending first command) statuses.File old new
-Comes statuses.Drop command first old new puts puts_now = ComesTo (ending first command) statuses.Drop old new
-Comes statuses.Mark command first old new puts puts_now = ComesTo (ending first command) statuses.Mark old new
-Comes statuses.Absent command first old new puts puts_now = ComesTo (ending first command) statuses.Absent old new
+Comes statuses.Memory command first old new puts puts_now =
+    IsUnchanged first old new ⊎ StopsIn stops.Memory command first old new
+Comes statuses.Words command first old new puts puts_now =
+    ComesTo (ending first command) statuses.Words old new
+Comes statuses.ReadFault command first old new puts puts_now =
+    IsUnread command first old new ⊎ StopsIn stops.ReadFailed command first old new
+Comes statuses.Missing command first old new puts puts_now =
+    ComesTo (ending first command) statuses.Missing old new
+Comes statuses.WriteFault command first old new puts puts_now =
+    IsUnput command first old new puts puts_now ⊎ IsUnprintedAt command first old new
+Comes statuses.Job command first old new puts puts_now =
+    ComesTo (ending first command) statuses.Job old new
+Comes statuses.Source command first old new puts puts_now =
+    ComesTo (ending first command) statuses.Source old new
+Comes statuses.TooLarge command first old new puts puts_now =
+    ComesTo (ending first command) statuses.TooLarge old new ⊎ IsSpentAt command first old new
+Comes statuses.File command first old new puts puts_now =
+    ComesTo (ending first command) statuses.File old new
+Comes statuses.Drop command first old new puts puts_now =
+    ComesTo (ending first command) statuses.Drop old new
+Comes statuses.Mark command first old new puts puts_now =
+    ComesTo (ending first command) statuses.Mark old new
+Comes statuses.Absent command first old new puts puts_now =
+    ComesTo (ending first command) statuses.Absent old new
 
 -- the emits that a command reaches may take so many steps that they are not counted
 pub record SpendsAll (command : Option Command) (first : Told) : Type 0 where
@@ -109,7 +131,8 @@ pub record SpendsAll (command : Option Command) (first : Told) : Type 0 where
   pub there : Reaches command first move world
   pub spent : IsSpent move world
 
--- the answers that every other one yields to: what failed outside, want of memory, and too large for want of a count of the steps
+-- the answers that every other one yields to: what failed outside, want of memory,
+-- and too large for want of a count of the steps
 pub data Prevails (command : Option Command) (first : Told) : Status → Type 0 where
   read : Prevails command first statuses.ReadFault
   write : Prevails command first statuses.WriteFault
@@ -118,10 +141,11 @@ pub data Prevails (command : Option Command) (first : Told) : Status → Type 0 
 
 -- the answer is that of the ending, or the ending yields to it
 abbrev pub IsAnswer : (command : Option Command) → (first : Told) → (answer : Status) → Type 0
-IsAnswer command first answer = ((ending first command).status ≡ answer) ⊎ Prevails command first answer
+IsAnswer command first answer =
+    ((ending first command).status ≡ answer) ⊎ Prevails command first answer
 
--- how the command `gen` may end: its files are there and within their limits, what it writes is never too large, and
--- nothing is dropped or gone back to
+-- how the command `gen` may end: its files are there and within their limits, what it writes is
+-- never too large, and nothing is dropped or gone back to
 abbrev pub EndsGenerated : Status → Type 0
 EndsGenerated statuses.Done = Unit {0}
 EndsGenerated statuses.Memory = Unit {0}

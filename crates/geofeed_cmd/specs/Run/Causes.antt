@@ -10,18 +10,22 @@ use Rattle.job_run.specs.declared.stop.Cause.{Cause}
 use Rattle.job_run.specs.declared.stop.Cause.TheVariants as causes
 use Rattle.command_words.specs.Commands.{Command, lookup}
 use Rattle.job_run.specs.Course.{IsAt}
-use Rattle.geofeed_cmd.specs.Run.Plans.{Reaches, file_first, is_command, job_of, longest_file, plan_of, planned}
+use Rattle.geofeed_cmd.specs.Run.Plans.{Reaches, file_first, is_command, job_of, longest_file}
+use Rattle.geofeed_cmd.specs.Run.Plans.{plan_of, planned}
 use Rattle.job_lines.specs.Job.{job}
 use Rattle.file_lookup.specs.Lookup.{answer}
 use Rattle.job_run.specs.Acts.{Move, blocked}
 use Rattle.job_run.specs.World.{World}
 
--- the command has a plan, and no move that it reaches is blocked. Of a job: it is held and accepted, the files that it sets are there and within their limits, and the file that it emits is not too large. Of a lookup: the file is held and within its limit, and no fault stands in the way
+-- the command has a plan, and no move that it reaches is blocked. Of a job: it is held and
+-- accepted, the files that it sets are there and within their limits, and the file that it emits is
+-- not too large. Of a lookup: the file is held and within its limit, and no fault stands in the way
 pub record IsFree (command : Option Command) (first : Told) : Type 0 where
   pub moves : List Move
   pub start : World
   pub plan : plan_of first command ≡ planned moves start
-  pub free : (count : ℕ) (move : Move) (world : World) → IsAt moves start count move world → blocked move world ≡ None
+  pub free : (count : ℕ) (move : Move) (world : World) → IsAt moves start count move world
+      → blocked move world ≡ None
 
 -- the file that the command reads first is not there
 pub record IsAbsent (command : Option Command) (first : Told) : Type 0 where
@@ -75,10 +79,13 @@ Causes statuses.Done command first = IsFree command first
 Causes statuses.Memory command first = ⊥
 Causes statuses.Words command first = is_command command ≡ false
 Causes statuses.ReadFault command first = ⊥
-Causes statuses.Missing command first = IsAbsent command first ⊎ IsBlockedFor causes.Missing command first
+Causes statuses.Missing command first =
+    IsAbsent command first ⊎ IsBlockedFor causes.Missing command first
 Causes statuses.WriteFault command first = ⊥
 Causes statuses.Job command first = IsNoJob command first
-Causes statuses.Source command first = IsOverLimit command first ⊎ (IsBlockedFor causes.TooLong command first ⊎ IsBlockedFor causes.TooMany command first)
+Causes statuses.Source command first =
+    IsOverLimit command first
+    ⊎ (IsBlockedFor causes.TooLong command first ⊎ IsBlockedFor causes.TooMany command first)
 Causes statuses.TooLarge command first = IsBlockedFor causes.TooLarge command first
 Causes statuses.File command first = IsDamaged command first
 Causes statuses.Drop command first = IsBlockedFor causes.NotThere command first

@@ -7,9 +7,10 @@ use Rattle.job_run.specs.Seen.{Seen}
 abbrev pub RanOut : Type 0
 RanOut = Unit {0}
 
--- the text is printed, and behind it the stop line: all of it; or a part of it, where the sink failed;
--- or nothing of it, where memory ran out
-abbrev pub Closes : (old new : Option (List ℕ)) → (faults faults_now : ℕ) → (text line : List ℕ) → Type 0
+-- the text is printed, and behind it the stop line: all of it; or a part of it, where the sink
+-- failed; or nothing of it, where memory ran out
+abbrev pub Closes : (old new : Option (List ℕ))
+    → (faults faults_now : ℕ) → (text line : List ℕ) → Type 0
 Closes old new faults faults_now text line =
     (before : List ℕ) → old ≡ Some before
     → (new ≡ Some (before ++ (text ++ line)))

@@ -10,8 +10,8 @@ use Rattle.geofeed_cmd.specs.declared.status.Status.TheVariants as statuses
 use Rattle.geofeed_cmd.specs.Run.Lines.{status_of, stop_line}
 use Rattle.geofeed_cmd.specs.Run.Plans.{Plan, refused, planned, plan_of}
 
--- how a command comes out: its status, what the folder tells then, the text that is printed, the stop
--- line behind it, and how many steps may be taken
+-- how a command comes out: its status, what the folder tells then, the text that is printed, the
+-- stop line behind it, and how many steps may be taken
 pub record Ending : Type 0 where
   pub status : Status
   pub told : Told

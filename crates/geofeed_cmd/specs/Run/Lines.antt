@@ -5,9 +5,11 @@ use Rattle.job_lines.specs.declared.fault.JobFault.TheVariants as job_faults
 use Rattle.geofeed_cmd.specs.declared.status.Status.{Status}
 use Rattle.geofeed_cmd.specs.declared.status.Status.TheVariants as statuses
 use Rattle.job_run.specs.declared.stop.Cause.{Cause}
-use Rattle.job_run.specs.declared.stop.Cause.TheVariants.{Words, Missing, Job, TooLong, TooMany, NotThere, NoMark, NoFeed, TooLarge, File}
+use Rattle.job_run.specs.declared.stop.Cause.TheVariants.{Words, Missing, Job, TooLong, TooMany}
+use Rattle.job_run.specs.declared.stop.Cause.TheVariants.{NotThere, NoMark, NoFeed, TooLarge, File}
 use Rattle.job_run.specs.declared.stop.Stop.{Stop}
-use Rattle.job_run.specs.declared.stop.Stop.TheVariants.{Blocked, ReadFailed, PutFailed, SinkFailed, Memory}
+use Rattle.job_run.specs.declared.stop.Stop.TheVariants.{Blocked, ReadFailed, PutFailed, SinkFailed}
+use Rattle.job_run.specs.declared.stop.Stop.TheVariants.{Memory}
 use Rattle.file_lookup.specs.Lookup.{file_line}
 
 abbrev pub cause_status : Cause → Status
@@ -43,7 +45,8 @@ stop_line (Blocked Words) line name = codes "stop words\n"
 stop_line (Blocked Missing) line name = codes "stop missing " ++ (name ++ codes "\n")
 stop_line (Blocked (Job fault)) line name = job_line fault
 stop_line (Blocked TooLong) line name = codes "stop source " ++ (decimal line ++ codes " bytes\n")
-stop_line (Blocked TooMany) line name = codes "stop source " ++ (decimal line ++ codes " statements\n")
+stop_line (Blocked TooMany) line name =
+    codes "stop source " ++ (decimal line ++ codes " statements\n")
 stop_line (Blocked NotThere) line name = codes "stop drop " ++ (decimal line ++ codes "\n")
 stop_line (Blocked NoMark) line name = codes "stop back " ++ (decimal line ++ codes "\n")
 stop_line (Blocked NoFeed) line name = codes "stop absent " ++ (name ++ codes "\n")

@@ -17,17 +17,25 @@ use Rattle.file_lookup.specs.Lookup.{answer_text, fault_of}
 
 -- a lookup leaves the files as they are
 abbrev pub unchanged : Told → Status → (text line : List ℕ) → Ending
-unchanged first status text line = record { status = status; told = first; text = text; line = line; spent = 0 }
+unchanged first status text line =
+    record { status = status; told = first; text = text; line = line; spent = 0 }
 
--- The file is not there, or is over its limit, or the walk through it meets a fault, or leads to a value or to none.
+-- The file is not there, or is over its limit, or the walk through it meets a fault,
+-- or leads to a value or to none.
 pub record EndsByCases (first : Told) (name : List ℕ) (address : ℕ) : Type 0 where
-  pub missing : map.get first.held name ≡ None → ending first (Some (lookup name address)) ≡ unchanged first statuses.Missing [] (stop_line (Blocked Missing) 0 name)
+  pub missing : map.get first.held name ≡ None → ending first (Some (lookup name address))
+      ≡ unchanged first statuses.Missing [] (stop_line (Blocked Missing) 0 name)
   pub long : (file : List ℕ) → map.get first.held name ≡ Some file → longest_file < length file
-      → ending first (Some (lookup name address)) ≡ unchanged first statuses.Source [] (stop_line (Blocked TooLong) 0 name)
-  pub damaged : (file : List ℕ) (barrier : Barrier) → map.get first.held name ≡ Some file → length file ≤ longest_file → walk file (bits_of 128 address) ≡ Err barrier
-      → ending first (Some (lookup name address)) ≡ unchanged first statuses.File [] (stop_line (Blocked (File (fault_of barrier))) 0 name)
-  pub answered : (file : List ℕ) (found : Option Tree) → map.get first.held name ≡ Some file → length file ≤ longest_file → walk file (bits_of 128 address) ≡ Ok found
-      → ending first (Some (lookup name address)) ≡ unchanged first statuses.Done (answer_text found) []
+      → ending first (Some (lookup name address))
+      ≡ unchanged first statuses.Source [] (stop_line (Blocked TooLong) 0 name)
+  pub damaged : (file : List ℕ) (barrier : Barrier) → map.get first.held name ≡ Some file
+      → length file ≤ longest_file → walk file (bits_of 128 address) ≡ Err barrier
+      → ending first (Some (lookup name address))
+      ≡ unchanged first statuses.File [] (stop_line (Blocked (File (fault_of barrier))) 0 name)
+  pub answered : (file : List ℕ) (found : Option Tree) → map.get first.held name ≡ Some file
+      → length file ≤ longest_file → walk file (bits_of 128 address) ≡ Ok found
+      → ending first (Some (lookup name address))
+      ≡ unchanged first statuses.Done (answer_text found) []
 
 abbrev pub LookupEndsByCases : Type 0
 LookupEndsByCases = (first : Told) (name : List ℕ) (address : ℕ) → EndsByCases first name address

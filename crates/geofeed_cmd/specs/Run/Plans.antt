@@ -1,5 +1,6 @@
 -- What a command is to do where the folder first tells this.
-use Rattle.std.specs.Prelude.{◌≡◌, ℕ, ◌+◌, Bool, true, false, List, [], ◌∷◌, ◌++◌, Option, Some, None, Result, Ok, Err}
+use Rattle.std.specs.Prelude.{◌≡◌, ℕ, ◌+◌, Bool, true, false, List, [], ◌∷◌, ◌++◌, Option, Some}
+use Rattle.std.specs.Prelude.{None, Result, Ok, Err}
 use Rattle.std.specs.FinMap as map
 use Rattle.geo_outside.specs.Files.{Told}
 use Rattle.update_session.specs.Standing.{begun_standing}
@@ -16,15 +17,16 @@ use Rattle.job_run.specs.Course.{IsAt}
 use Rattle.job_run.specs.Moves.{moves_of, read_rooms, source_moves}
 use Rattle.job_run.specs.Sources.{unreadable}
 use Rattle.job_run.specs.World.{World, printing}
-use Rattle.command_words.specs.Commands.{Command, build, lookup, explain, gen, publish, check, census}
+use Rattle.command_words.specs.Commands.{Command, build, lookup, explain, gen, publish, check}
+use Rattle.command_words.specs.Commands.{census}
 use Rattle.publish_move.specs.Publishing.{publishing}
 use Rattle.geofeed_cmd.specs.Commands.Census.{counting}
 use Rattle.geofeed_cmd.specs.Commands.Check.{checking}
 use Rattle.geofeed_cmd.specs.Commands.Explain.{explaining}
 use Rattle.geofeed_cmd.specs.Commands.Gen.{gen_start, gen_steps}
 
--- a command is refused at once, with the name that its stop line gives, or it makes these moves from
--- this world on
+-- a command is refused at once, with the name that its stop line gives, or it makes these moves
+-- from this world on
 pub data Plan : Type 0 where
   refused : Cause → (name : List ℕ) → Plan
   planned : List Move → World → Plan
@@ -187,7 +189,8 @@ room_of first (Some (check name url)) = job_room (held_job (map.get first.held n
 room_of first (Some (census name)) = job_room (held_job (map.get first.held name))
 
 -- a command reaches this move in this world: all moves before it can be made
-pub record Reaches (command : Option Command) (first : Told) (move : Move) (world : World) : Type 0 where
+pub record Reaches (command : Option Command) (first : Told) (move : Move)
+    (world : World) : Type 0 where
   pub moves : List Move
   pub start : World
   pub count : ℕ

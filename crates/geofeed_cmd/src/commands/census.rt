@@ -1,5 +1,6 @@
 //! `census JOB`: prints how many addresses each country has by a job.
-ghost use Rattle.std.specs.Prelude.{◌≡◌, ◌⊎◌, ◌≤◌, ◌≢◌, ◌+◌, [], ◌∷◌, ◌++◌, IfErr, IfOk, OnOk, Option, Some};
+ghost use Rattle.std.specs.Prelude.{◌≡◌, ◌⊎◌, ◌≤◌, ◌≢◌, ◌+◌, [], ◌∷◌, ◌++◌, IfErr, IfOk, OnOk};
+ghost use Rattle.std.specs.Prelude.{Option, Some};
 ghost use Rattle.geo_outside.specs.Count.{Rose};
 ghost use Rattle.geo_outside.specs.Files.{Told};
 ghost use Rattle.geo_terms.specs.Sources.{InForce};
@@ -151,7 +152,8 @@ fn counts_of<R: Threads + Sync, G: Gate, L: Ledger>(
     ensures text { IfOk result (λ text. text
         ≡ count_lines (census (country_by session.old.state.sources))) }
     ensures too_large { result ≡ Err (Stop.Blocked Cause.TooLarge) → IsSpent session.old }
-    ensures causes { IfErr result (λ why. (why ≡ Stop.Blocked Cause.TooLarge) ⊎ (why ≡ Stop.Memory)) }
+    ensures causes { IfErr result
+        (λ why. (why ≡ Stop.Blocked Cause.TooLarge) ⊎ (why ≡ Stop.Memory)) }
     ensures spent { steps.new ≤ steps.old + bound session.old.touched session.old.state.sources }
     ensures grown { HasGrown session.old session.new }
     ensures done { OnOk result (HasEmitted session.old session.new) }

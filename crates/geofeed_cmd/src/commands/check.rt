@@ -1,5 +1,6 @@
 //! `check JOB URL`: prints what becomes of each line of a feed of a job.
-ghost use Rattle.std.specs.Prelude.{◌≡◌, ◌⊎◌, ◌≤◌, ◌≢◌, ◌+◌, ℕ, [], ◌∷◌, ◌++◌, false, IfErr, IfOk, OnOk, Option, Some};
+ghost use Rattle.std.specs.Prelude.{◌≡◌, ◌⊎◌, ◌≤◌, ◌≢◌, ◌+◌, ℕ, [], ◌∷◌, ◌++◌, false, IfErr, IfOk};
+ghost use Rattle.std.specs.Prelude.{OnOk, Option, Some};
 ghost use Rattle.geo_outside.specs.Count.{Rose};
 ghost use Rattle.geo_outside.specs.Files.{Told};
 ghost use Rattle.geo_terms.specs.Sources.{feed_of};
@@ -15,7 +16,8 @@ ghost use Rattle.job_run.specs.Stops.{Does, Fails, IsIn};
 ghost use Rattle.job_run.specs.World.{World};
 ghost use Rattle.geofeed_cmd.specs.Commands.Check.{checking};
 ghost use Rattle.geofeed_cmd.specs.Run.Answers.{Comes};
-ghost use Rattle.geofeed_cmd.specs.Run.Plans.{is_command, plan_of, planned, reads_folder, room_of, start_of};
+ghost use Rattle.geofeed_cmd.specs.Run.Plans.{is_command, plan_of, planned, reads_folder, room_of};
+ghost use Rattle.geofeed_cmd.specs.Run.Plans.{start_of};
 
 use crate::job_file::job_in;
 use crate::sourced::sources_of;
@@ -113,8 +115,8 @@ fn check_keyed<R: Threads + Sync, F: Folder, O: Sink, G: Gate, L: Ledger>(
     }
 }
 
-/// Prints what becomes of each line of the feed of this URL, which is a feed's key, by the sources of the job in the
-/// file of this name.
+/// Prints what becomes of each line of the feed of this URL, which is a feed's key, by the sources
+/// of the job in the file of this name.
 #[tactic(auto, using(crate::proofs::StatusLemmas::status_causes))]
 fn check_feed<R: Threads + Sync, F: Folder, O: Sink, G: Gate, L: Ledger>(
     rt: &R,

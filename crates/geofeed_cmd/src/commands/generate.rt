@@ -6,7 +6,9 @@ ghost use Rattle.job_lines.specs.Job.{default_name};
 ghost use Rattle.job_run.specs.Seen.{seen};
 ghost use Rattle.command_words.specs.Commands.{gen};
 ghost use Rattle.update_session.specs.Calls.{IsNew};
-ghost use Rattle.geofeed_cmd.specs.Commands.Gen.{dump_file, dump_step, emit_step, first_file, first_step, gen_files, gen_steps, second_file, second_step, stats_file, stats_step};
+ghost use Rattle.geofeed_cmd.specs.Commands.Gen.{dump_file, dump_step, emit_step, first_file};
+ghost use Rattle.geofeed_cmd.specs.Commands.Gen.{first_step, gen_files, gen_steps, second_file};
+ghost use Rattle.geofeed_cmd.specs.Commands.Gen.{second_step, stats_file, stats_step};
 ghost use Rattle.geofeed_cmd.specs.Run.Answers.{Comes, EndsGenerated};
 
 use crate::status::Status;

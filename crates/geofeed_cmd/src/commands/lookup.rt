@@ -37,7 +37,8 @@ pub(crate) fn lookup<F: Folder, O: Sink>(
         (seen (F.told folder.new) (O.written out.new) (O.faults out.new) steps)
         (F.put_faults folder.old) (F.put_faults folder.new) }
     ensures not_words { result ≢ Status.Words }
-    ensures read { result ≡ Status.ReadFault → Rose (F.read_faults folder.old) (F.read_faults folder.new) }
+    ensures read { result ≡ Status.ReadFault
+        → Rose (F.read_faults folder.old) (F.read_faults folder.new) }
     ensures missing { result ≡ Status.Missing → Rose (F.misses folder.old) (F.misses folder.new) }
     ensures write { result ≡ Status.WriteFault → Rose (O.faults out.old) (O.faults out.new) }
     ensures unput { F.told folder.new ≡ F.told folder.old }
@@ -55,13 +56,18 @@ pub(crate) fn lookup<F: Folder, O: Sink>(
 /// Reads the file and walks it.
 fn answer_in<F: Folder>(alloc: Global, name: &str, at: Addr, folder: &mut F) -> Result<Text, Stop>
     ensures answer { (first : Told) → F.told folder.old ≡ Some first
-        → IfOk result (λ text. lookup_plan first name.now at.0 (map.get first.held name.now) ≡ planned (shows (printing text) ∷ []) (alone first)) }
+        → IfOk result (λ text. lookup_plan first name.now at.0 (map.get first.held name.now)
+        ≡ planned (shows (printing text) ∷ []) (alone first)) }
     ensures none { (first : Told) → F.told folder.old ≡ Some first
-        → IfErr result (λ why. IsHindered why (λ cause. lookup_plan first name.now at.0 (map.get first.held name.now) ≡ refused cause name.now)) }
-    ensures reads { (result ≢ Err Stop.PutFailed) × (result ≢ Err Stop.SinkFailed) × (result ≢ Err (Stop.Blocked Cause.Words)) }
+        → IfErr result (λ why. IsHindered why (λ cause.
+        lookup_plan first name.now at.0 (map.get first.held name.now) ≡ refused cause name.now)) }
+    ensures reads { (result ≢ Err Stop.PutFailed) × (result ≢ Err Stop.SinkFailed)
+        × (result ≢ Err (Stop.Blocked Cause.Words)) }
 
-    ensures read_failed { result ≡ Err Stop.ReadFailed → Rose (F.read_faults folder.old) (F.read_faults folder.new) }
-    ensures missing { result ≡ Err (Stop.Blocked Cause.Missing) → Rose (F.misses folder.old) (F.misses folder.new) }
+    ensures read_failed { result ≡ Err Stop.ReadFailed
+        → Rose (F.read_faults folder.old) (F.read_faults folder.new) }
+    ensures missing { result ≡ Err (Stop.Blocked Cause.Missing)
+        → Rose (F.misses folder.old) (F.misses folder.new) }
     ensures same { F.told folder.new ≡ F.told folder.old }
     ensures put_faults { F.put_faults folder.old ≤ F.put_faults folder.new }
     ensures given { F.given folder.new ≤ F.given folder.old + 1073807360 }

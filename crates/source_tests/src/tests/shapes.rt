@@ -1,5 +1,5 @@
-//! Delegations that nest, overlap without nesting, repeat, and touch both ends of both families, which no
-//! statistics file can say, as the sources and the plain look-up find them.
+//! Delegations that nest, overlap without nesting, repeat, and touch both ends of both families,
+//! which no statistics file can say, as the sources and the plain look-up find them.
 ghost use Rattle.std.specs.Prelude.{◌≡◌, true, IfOk};
 ghost use Rattle.geo_terms.specs.DelegationForm.{IsCountryAlone};
 

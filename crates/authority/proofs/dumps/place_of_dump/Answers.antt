@@ -7,5 +7,8 @@ use Rattle.authority.proofs.dumps.place_of_dump.Goals as goal
 
 pub returns-clause-found : goal.returns-clause-found
 returns-clause-found c =
-    c.binary_search_by.ensures.position (λ d. text_cmp (arc_value {X = DumpParts} d).slot c.args.slot.now)
-    (always_returns_same _ (λ a r. r ≡ text_cmp (arc_value {X = DumpParts} a.0.now).slot c.args.slot.now) _ (λ a r q k. search rules))
+    c.binary_search_by.ensures.position
+    (λ d. text_cmp (arc_value {X = DumpParts} d).slot c.args.slot.now)
+    (always_returns_same _
+    (λ a r. r ≡ text_cmp (arc_value {X = DumpParts} a.0.now).slot c.args.slot.now) _
+    (λ a r q k. search rules))

@@ -5,4 +5,6 @@ use Rattle.authority.proofs.dumps.push_all.Given as goal
 
 -- the references of the dumps that are left follow what was found
 abbrev pub invariant-loop-dump : goal.invariant-loop-dump
-invariant-loop-dump l = l.refs.items ++ references_in (map arc_value (drop l.dump-index l.dumps)) ≡ l.fn.refs.items ++ references_in (map arc_value l.dumps)
+invariant-loop-dump l =
+    l.refs.items ++ references_in (map arc_value (drop l.dump-index l.dumps))
+    ≡ l.fn.refs.items ++ references_in (map arc_value l.dumps)

@@ -5,7 +5,11 @@ use Rattle.authority.proofs.HeldLemmas.{none_found, place_found}
 use Rattle.authority.proofs.feeds.find_feed.Goals as goal
 
 pub returns-in-Ok : goal.returns-in-Ok
-returns-in-Ok c = place_found (arc_value {X = FeedParts}) (λ f. f.url) c.args.url.now c.args.feeds.now c.args.feeds.now refl c.requires c.in-Ok.place c.in-Ok.ensures.within c.in-Ok.ensures.found
+returns-in-Ok c =
+    place_found (arc_value {X = FeedParts}) (λ f. f.url) c.args.url.now c.args.feeds.now
+    c.args.feeds.now refl c.requires c.in-Ok.place c.in-Ok.ensures.within c.in-Ok.ensures.found
 
 pub returns-in-Err : goal.returns-in-Err
-returns-in-Err c = sym (none_found (arc_value {X = FeedParts}) (λ f. f.url) c.args.url.now c.args.feeds.now c.args.feeds.now refl c.requires c.in-Err.field-0 c.in-Err.ensures.found)
+returns-in-Err c =
+    sym (none_found (arc_value {X = FeedParts}) (λ f. f.url) c.args.url.now c.args.feeds.now
+    c.args.feeds.now refl c.requires c.in-Err.field-0 c.in-Err.ensures.found)

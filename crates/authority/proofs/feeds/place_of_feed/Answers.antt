@@ -7,5 +7,7 @@ use Rattle.authority.proofs.feeds.place_of_feed.Goals as goal
 
 pub returns-clause-found : goal.returns-clause-found
 returns-clause-found c =
-    c.binary_search_by.ensures.position (λ f. text_cmp (arc_value {X = FeedParts} f).url c.args.url.now)
-    (always_returns_same _ (λ a r. r ≡ text_cmp (arc_value {X = FeedParts} a.0.now).url c.args.url.now) _ (λ a r q k. search rules))
+    c.binary_search_by.ensures.position
+    (λ f. text_cmp (arc_value {X = FeedParts} f).url c.args.url.now)
+    (always_returns_same _ (λ a r. r
+    ≡ text_cmp (arc_value {X = FeedParts} a.0.now).url c.args.url.now) _ (λ a r q k. search rules))

@@ -17,11 +17,18 @@ returns c =
     let ys : List (Bor Reference) = c.sort_unstable_by.new.self.items in
     let zs : List Reference = map (λ (y : Bor Reference). y.now) ys in
     let sorted : IsSortedBy (λ (x y : Bor Reference). is_lt (ranked_cmp x.now y.now)) ys =
-    c.sort_unstable_by.ensures.sorted (λ x y. is_lt (ranked_cmp x.now y.now)) (ranks_by ranked_total (λ (x : Bor Reference). x.now))
-    (answers_always _ _ _ (λ f a r q k. let e : r ≡ ranked_cmp a.0.now.now a.1.0.now.now = search rules in ap is_lt e)) in
+    c.sort_unstable_by.ensures.sorted (λ x y. is_lt (ranked_cmp x.now y.now))
+    (ranks_by ranked_total (λ (x : Bor Reference). x.now))
+    (answers_always _ _ _
+    (λ f a r q k. let e : r ≡ ranked_cmp a.0.now.now a.1.0.now.now = search rules in ap is_lt e)) in
     let same : IsPermutation c.args.refs.now zs =
-    subst (λ (rs : List Reference). IsPermutation rs zs) c.in_ok-ranked.ensures (IsPermutation-map (λ (y : Bor Reference). y.now) c.in_ok-ranked.ranked.items ys c.sort_unstable_by.ensures.permutation) in
+    subst (λ (rs : List Reference). IsPermutation rs zs) c.in_ok-ranked.ensures
+    (IsPermutation-map (λ (y : Bor Reference). y.now) c.in_ok-ranked.ranked.items ys
+    c.sort_unstable_by.ensures.permutation) in
     let found : c.in_ok-notes.notes.items ≡ map (note_on P08) (behind None zs) =
-    c.in_ok-notes.ensures ∙ ap (λ (bs : List (Bor Reference)). map (note_on P08) (behind None (map (λ (y : Bor Reference). y.now) bs))) c.as_slice.ensures.value in
-    let up = ascends_from_sorted ranked_cmp ranked_total zs (sorted_seen (λ (y : Bor Reference). y.now) (λ x y. is_lt (ranked_cmp x y)) ys sorted) in
-    λ f. ap (weight f) (found ∙ ap (map (note_on P08)) (behind_all zs up)) ∙ outranked_alike c.args.refs.now zs same f
+    c.in_ok-notes.ensures ∙ ap (λ (bs : List (Bor Reference)). map (note_on P08)
+    (behind None (map (λ (y : Bor Reference). y.now) bs))) c.as_slice.ensures.value in
+    let up = ascends_from_sorted ranked_cmp ranked_total zs
+    (sorted_seen (λ (y : Bor Reference). y.now) (λ x y. is_lt (ranked_cmp x y)) ys sorted) in
+    λ f. ap (weight f) (found ∙ ap (map (note_on P08)) (behind_all zs up))
+    ∙ outranked_alike c.args.refs.now zs same f

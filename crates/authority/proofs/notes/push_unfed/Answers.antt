@@ -13,8 +13,15 @@ use Rattle.authority.proofs.notes.push_unfed.Goals as goal
 pub loop-reference-preserved : goal.loop-reference-preserved
 loop-reference-preserved c =
     let fs : List FeedParts = map arc_value c.args.feeds.now in
-    let one : List Note = cond (is_none (find (λ (f : FeedParts). same_text f.url c.reference-item.result.url) fs)) (note_on P09 c.reference-item.result ∷ []) [] in
-    ap (λ (ns : List Note). ns ++ unfed_in (drop (c.loop-reference.reference-index + 1) c.args.refs.now) fs) c.in_ok-push_if_unfed.ensures
-    ∙ append_assoc c.loop-reference.notes.items one (unfed_in (drop (c.loop-reference.reference-index + 1) c.args.refs.now) fs)
-    ∙ ap (λ (ns : List Note). c.loop-reference.notes.items ++ ns) (sym (unfed_step fs c.args.refs.now c.loop-reference.reference-index c.reference-item.result c.reference-item.is c.loop-reference-test.true))
+    let one : List Note =
+    cond (is_none (find (λ (f : FeedParts). same_text f.url c.reference-item.result.url) fs))
+    (note_on P09 c.reference-item.result ∷ []) [] in
+    ap (λ (ns : List Note). ns
+    ++ unfed_in (drop (c.loop-reference.reference-index + 1) c.args.refs.now) fs)
+    c.in_ok-push_if_unfed.ensures
+    ∙ append_assoc c.loop-reference.notes.items one
+    (unfed_in (drop (c.loop-reference.reference-index + 1) c.args.refs.now) fs)
+    ∙ ap (λ (ns : List Note). c.loop-reference.notes.items ++ ns)
+    (sym (unfed_step fs c.args.refs.now c.loop-reference.reference-index c.reference-item.result
+    c.reference-item.is c.loop-reference-test.true))
     ∙ c.loop-reference.invariant

@@ -5,4 +5,6 @@ use Rattle.authority.proofs.notes.push_unfed.Given as goal
 
 -- the notes on the references that are left follow what was found
 abbrev pub invariant-loop-reference : goal.invariant-loop-reference
-invariant-loop-reference l = l.notes.items ++ unfed_in (drop l.reference-index l.refs) (map arc_value l.feeds) ≡ l.fn.notes.items ++ unfed_in l.refs (map arc_value l.feeds)
+invariant-loop-reference l =
+    l.notes.items ++ unfed_in (drop l.reference-index l.refs) (map arc_value l.feeds)
+    ≡ l.fn.notes.items ++ unfed_in l.refs (map arc_value l.feeds)

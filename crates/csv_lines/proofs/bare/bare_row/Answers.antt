@@ -8,7 +8,8 @@ use Rattle.csv_lines.specs.declared.rest.Content.TheVariants.{Fields}
 use Rattle.csv_lines.proofs.BareLemmas.{bare_line, not_taken, taken_bare, taken_few}
 use Rattle.csv_lines.proofs.TextLemmas.{fields_are_texts}
 use Rattle.csv_lines.proofs.bare.bare_row.Goals as goal
-use Rattle.csv_lines.proofs.bare.bare_row.Goals.{then-is_empty-via-then-is_empty, then-is_empty-via-else-is_empty+then-not-is_text}
+use Rattle.csv_lines.proofs.bare.bare_row.Goals.{then-is_empty-via-then-is_empty}
+use Rattle.csv_lines.proofs.bare.bare_row.Goals.{then-is_empty-via-else-is_empty+then-not-is_text}
 
 found : (c : goal.After-cut_bare) → IsSome c.cut_bare.result
     → (content_of (rest_of c.args.line.now) ≡ Fields)
@@ -50,7 +51,8 @@ returns-then-is_empty-clause-taken c taken =
     not_taken c.args.line.now c.trim_blanks-rest.result.now c.trim_blanks-rest.ensures
     (elim c.then-is_empty.branch [
       | then-is_empty-via-then-is_empty w ↦ inl (sym c.is_empty.ensures ∙ w.if-is_empty.true)
-      | then-is_empty-via-else-is_empty+then-not-is_text w ↦ inr (sym w.is_text.ensures ∙ w.if-not-is_text.true)
+      | then-is_empty-via-else-is_empty+then-not-is_text w ↦
+          inr (sym w.is_text.ensures ∙ w.if-not-is_text.true)
     ])
     taken)
 

@@ -5,4 +5,5 @@ use Rattle.csv_lines.specs.Fields.{goes_on}
 use Rattle.csv_lines.proofs.bare.field_len.Given as goal
 
 abbrev pub invariant-loop-place : goal.invariant-loop-place
-invariant-loop-place l = prefix_len goes_on l.text ≡ l.place + prefix_len goes_on (drop l.place l.text)
+invariant-loop-place l =
+    prefix_len goes_on l.text ≡ l.place + prefix_len goes_on (drop l.place l.text)

@@ -9,6 +9,9 @@ pub loop-row-preserved : goal.loop-row-preserved
 loop-row-preserved g c =
     let good : is_ok c.push.result ≡ true = search rules in
     let items = rw good at c.push.ensures.items in
-    let told = c.fate_in.ensures ∙ ap (λ s. fate_by s (g.T.Accepted.line c.row-item.result)) (c.in_ok-seen.ensures (g.T.Accepted.range c.row-item.result)) in
+    let told = c.fate_in.ensures ∙ ap (λ s. fate_by s (g.T.Accepted.line c.row-item.result))
+    (c.in_ok-seen.ensures (g.T.Accepted.range c.row-item.result)) in
     items ∙ ap (λ t. t ++ (c.fate_in.result ∷ [])) c.loop-row.invariant
-    ∙ fates_more g.T.Accepted.line g.T.Accepted.range g.T.Accepted.said c.args.rows.now c.loop-row.row-index c.row-item.result c.fate_in.result c.requires (search rules) c.row-item.is told
+    ∙ fates_more g.T.Accepted.line g.T.Accepted.range g.T.Accepted.said
+    c.args.rows.now c.loop-row.row-index c.row-item.result c.fate_in.result c.requires
+    (search rules) c.row-item.is told

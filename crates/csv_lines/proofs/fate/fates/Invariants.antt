@@ -5,4 +5,5 @@ use Rattle.csv_lines.proofs.fate.fates.Given as goal
 
 abbrev pub invariant-loop-row : goal.invariant-loop-row
 invariant-loop-row g l = l.fates.items
-    ≡ map (fate g.T.Accepted.line g.T.Accepted.range g.T.Accepted.said l.rows) (take l.row-index l.rows)
+    ≡ map (fate g.T.Accepted.line g.T.Accepted.range g.T.Accepted.said l.rows)
+    (take l.row-index l.rows)

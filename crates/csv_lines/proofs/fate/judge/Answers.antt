@@ -8,10 +8,12 @@ use Rattle.csv_lines.proofs.fate.judge.Goals as goal
 pub returns-then-rises-clause-rows : goal.returns-then-rises-clause-rows
 returns-then-rises-clause-rows g c =
     let up = c.rises.ensures (search rules) in
-    sym (all_kept g.T.Accepted.line g.T.Accepted.range g.T.Accepted.said c.args.rows.items (rw c.as_slice.ensures.value at up))
+    sym (all_kept g.T.Accepted.line g.T.Accepted.range g.T.Accepted.said c.args.rows.items
+    (rw c.as_slice.ensures.value at up))
 
 pub returns-then-rises-clause-faults : goal.returns-then-rises-clause-faults
 returns-then-rises-clause-faults g c =
     let up = c.rises.ensures (search rules) in
     ap (λ (t : List Fault). merged t c.args.faults.items)
-    (sym (none_repeats g.T.Accepted.line g.T.Accepted.range g.T.Accepted.said c.args.rules c.args.rows.items (rw c.as_slice.ensures.value at up)))
+    (sym (none_repeats g.T.Accepted.line g.T.Accepted.range g.T.Accepted.said c.args.rules
+    c.args.rows.items (rw c.as_slice.ensures.value at up)))

@@ -9,14 +9,22 @@ pub loop-at-preserved : goal.loop-at-preserved
 loop-at-preserved g c =
     let within : c.loop-at.at < length c.loop-at.rows.items = search rules in
     elim c.if-is_kept.branch [
-      | then-is_kept w ↦ let long : length w.swap.new.self.items ≡ length c.loop-at.rows.items = ap length w.swap.ensures.items ∙ length-swap c.loop-at.rows.items c.loop-at.count c.loop-at.at in rw (w.rows-is, w.count-is) (
-        omega arith,
-        long ∙ c.loop-at.invariant.1,
-        λ f e. keep_yes f c.args.rows.now.items c.loop-at.rows.items c.args.fates.now c.loop-at.count c.loop-at.at e (c.loop-at.invariant.2 f e) within w.swap.new.self.items (sym c.is_kept.ensures ∙ w.if-is_kept.true) w.swap.ensures.by_index,
-      )
+      | then-is_kept w ↦ let long : length w.swap.new.self.items ≡ length c.loop-at.rows.items =
+          ap length w.swap.ensures.items
+          ∙ length-swap c.loop-at.rows.items c.loop-at.count c.loop-at.at in
+          rw (w.rows-is, w.count-is) (
+            omega arith,
+            long ∙ c.loop-at.invariant.1,
+            λ f e. keep_yes f c.args.rows.now.items c.loop-at.rows.items c.args.fates.now
+                c.loop-at.count c.loop-at.at e
+                (c.loop-at.invariant.2 f e) within w.swap.new.self.items
+                (sym c.is_kept.ensures ∙ w.if-is_kept.true) w.swap.ensures.by_index,
+          )
       | else-is_kept w ↦ rw (w.rows-is, w.count-is) (
         omega arith,
         c.loop-at.invariant.1,
-        λ f e. keep_no f c.args.rows.now.items c.loop-at.rows.items c.args.fates.now c.loop-at.count c.loop-at.at e (c.loop-at.invariant.2 f e) within (sym c.is_kept.ensures ∙ w.if-is_kept.false),
+        λ f e. keep_no f c.args.rows.now.items c.loop-at.rows.items
+            c.args.fates.now c.loop-at.count c.loop-at.at e (c.loop-at.invariant.2 f e) within
+            (sym c.is_kept.ensures ∙ w.if-is_kept.false),
       )
     ]

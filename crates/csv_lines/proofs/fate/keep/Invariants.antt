@@ -9,4 +9,5 @@ abbrev pub invariant-loop-at : goal.invariant-loop-at
 invariant-loop-at g l =
     (l.count ≤ l.at)
     × (length l.rows.items ≡ length l.initial.rows.items)
-    × ((f : g.row.T.Denot → Fate) → l.fates ≡ map f l.initial.rows.items → FiltersInPlace (λ x. is_kept_by (f x)) l.initial.rows.items l.rows.items l.count l.at)
+    × ((f : g.row.T.Denot → Fate) → l.fates ≡ map f l.initial.rows.items
+    → FiltersInPlace (λ x. is_kept_by (f x)) l.initial.rows.items l.rows.items l.count l.at)

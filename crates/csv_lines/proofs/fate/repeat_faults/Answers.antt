@@ -12,8 +12,13 @@ loop-at-preserved g c f e =
     let within : c.loop-at.at < length c.args.rows.now = search rules in
     let x = c.index-rows-at.result in
     let fate : get_or c.args.fates.now c.loop-at.at Kept ≡ f x =
-    ap (λ t. get_or t c.loop-at.at Kept) e ∙ get_or-map f c.args.rows.now c.loop-at.at x Kept within ∙ ap f (sym c.index-rows-at.is) in
+    ap (λ t. get_or t c.loop-at.at Kept) e ∙ get_or-map f c.args.rows.now c.loop-at.at x Kept within
+    ∙ ap f (sym c.index-rows-at.is) in
     let found : c.fault_of.result ≡ fault_by c.args.rules (g.T.Accepted.line x) (f x) =
-    c.fault_of.ensures ∙ ap (λ n. fault_by c.args.rules n (get_or c.args.fates.now c.loop-at.at Kept)) c.line.ensures ∙ ap (fault_by c.args.rules (g.T.Accepted.line x)) fate in
-    c.in_ok-push_some.ensures ∙ ap (λ t. t ++ option_to_list c.fault_of.result) (c.loop-at.invariant f e)
-    ∙ faults_more (λ y. fault_by c.args.rules (g.T.Accepted.line y) (f y)) c.args.rows.now c.loop-at.at x c.fault_of.result within c.index-rows-at.is found
+    c.fault_of.ensures
+    ∙ ap (λ n. fault_by c.args.rules n (get_or c.args.fates.now c.loop-at.at Kept)) c.line.ensures
+    ∙ ap (fault_by c.args.rules (g.T.Accepted.line x)) fate in
+    c.in_ok-push_some.ensures
+    ∙ ap (λ t. t ++ option_to_list c.fault_of.result) (c.loop-at.invariant f e)
+    ∙ faults_more (λ y. fault_by c.args.rules (g.T.Accepted.line y) (f y)) c.args.rows.now
+    c.loop-at.at x c.fault_of.result within c.index-rows-at.is found

@@ -6,4 +6,5 @@ use Rattle.csv_lines.proofs.fate.repeat_faults.Given as goal
 
 abbrev pub invariant-loop-at : goal.invariant-loop-at
 invariant-loop-at g l = (f : g.row.T.Denot → Fate) → l.fates ≡ map f l.rows
-    → l.faults.items ≡ filter_map (λ x. fault_by l.fn.rules (g.T.Accepted.line x) (f x)) (take l.at l.rows)
+    → l.faults.items
+    ≡ filter_map (λ x. fault_by l.fn.rules (g.T.Accepted.line x) (f x)) (take l.at l.rows)

@@ -2,7 +2,8 @@
 use Rattle.std.proofs.Common.{◌∙◌, subst, sym}
 use Rattle.csv_lines.specs.Clean.{AreTexts}
 use Rattle.csv_lines.specs.Rests.{row_of, rest_of}
-use Rattle.csv_lines.proofs.RestLemmas.{handed_blank, handed_fields, handed_no_fields, handed_not_text, has_row}
+use Rattle.csv_lines.proofs.RestLemmas.{handed_blank, handed_fields, handed_no_fields}
+use Rattle.csv_lines.proofs.RestLemmas.{handed_not_text, has_row}
 use Rattle.csv_lines.proofs.TextLemmas.{fields_are_texts}
 use Rattle.csv_lines.proofs.rows.next_row.Goals as goal
 
@@ -31,7 +32,8 @@ returns-in_ok-take_row-in-Fields-clause-row c is =
     ((rw same at c.take_row.ensures) left (row_of (rest_of c.args.line.now)) some row
     (rw (handed_fields c.args.line.now left (rw same at fields)) at stands))).0
 
-pub returns-in_ok-take_row-in-Fields-clause-stands : goal.returns-in_ok-take_row-in-Fields-clause-stands
+pub returns-in_ok-take_row-in-Fields-clause-stands :
+    goal.returns-in_ok-take_row-in-Fields-clause-stands
 returns-in_ok-take_row-in-Fields-clause-stands c left stands =
     let fields = sym (c.content_of-content.ensures) ∙ c.in-Fields.is in
     let same = c.rest_of-rest.ensures in
@@ -40,7 +42,8 @@ returns-in_ok-take_row-in-Fields-clause-stands c left stands =
     ((rw same at c.take_row.ensures) left (row_of (rest_of c.args.line.now)) some row
     (rw (handed_fields c.args.line.now left (rw same at fields)) at stands))).1
 
-pub returns-in_ok-take_row-in-Fields-clause-texts : goal.returns-in_ok-take_row-in-Fields-clause-texts
+pub returns-in_ok-take_row-in-Fields-clause-texts :
+    goal.returns-in_ok-take_row-in-Fields-clause-texts
 returns-in_ok-take_row-in-Fields-clause-texts c is =
     let fields = rw c.rest_of-rest.ensures at (sym c.content_of-content.ensures ∙ c.in-Fields.is) in
     subst AreTexts (sym (returns-in_ok-take_row-in-Fields-clause-row c is))

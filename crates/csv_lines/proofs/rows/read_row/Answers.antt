@@ -12,7 +12,8 @@ returns c text left values some is stands =
           let read = rw w.in-Ok.is at c.read_byte_record.ensures.reads in
           let first = rw w.in-Ok.is at c.read_byte_record.ensures.ready in
           rw w.result-is (
-          read_gives (λ (s : Bor (List ℕ)). Some s.now) c.args.reader.now c.read_byte_record.new.self w.in-Ok.field-0 (fields_of c.read_byte_record.new.row)
+          read_gives (λ (s : Bor (List ℕ)). Some s.now) c.args.reader.now
+          c.read_byte_record.new.self w.in-Ok.field-0 (fields_of c.read_byte_record.new.row)
           text left values some is stands (read stands.trim stands.ready) (first stands.trim))
       | in-Err w ↦ rw w.result-is tt
     ]

@@ -12,6 +12,7 @@ returns-then-is_unquoted c left values some is stands =
     on_ok_weaker c.cut_row.result
     (λ cut. (
       cut ∙ values_are c.args.text.now values free is,
-      subst (Stands (λ (s : Bor (List ℕ)). Some s.now) c.args.reader.now) (text_kept c.args.text.now left free) stands,
+      subst (Stands (λ (s : Bor (List ℕ)). Some s.now) c.args.reader.now)
+          (text_kept c.args.text.now left free) stands,
     ))
     c.cut_row.ensures

@@ -11,13 +11,17 @@ use Rattle.cut_segments.proofs.segments.segments_between.Goals as goal
 pub returns : goal.returns
 returns c =
     let sorted : IsNonDecreasingBy (λ (r : Ends). ground_first r) c.as_slice.result.now =
-    rw c.as_slice.ensures.value (IsNonDecreasingBy-from_sort_by_key (λ (r : Ends). ground_first r) _ c.in_ok-sort_by_key.ensures.sorted (λ a r q k. search rules)) in
+    rw c.as_slice.ensures.value (IsNonDecreasingBy-from_sort_by_key (λ (r : Ends). ground_first r) _
+    c.in_ok-sort_by_key.ensures.sorted (λ a r q k. search rules)) in
     let filled : c.extend_from_slice.new.self.items ≡ c.args.touched.now =
-    c.in_ok-extend_from_slice.ensures.items ∙ ap (λ (rs : List Ends). rs ++ c.args.touched.now) c.in_ok-grounds.ensures.items in
-    let same : IsPermutation c.args.touched.now c.as_slice.result.now = rw (← filled, c.as_slice.ensures.value) c.in_ok-sort_by_key.ensures.permutation in
+    c.in_ok-extend_from_slice.ensures.items
+    ∙ ap (λ (rs : List Ends). rs ++ c.args.touched.now) c.in_ok-grounds.ensures.items in
+    let same : IsPermutation c.args.touched.now c.as_slice.result.now =
+    rw (← filled, c.as_slice.ensures.value) c.in_ok-sort_by_key.ensures.permutation in
     let found = c.in_ok-segments.ensures.found in
     subst (λ (out : List Ends). AreSegments c.args.touched.now c.args.places.now out) (sym found)
-    (segments_of_sorted c.args.touched.now c.as_slice.result.now c.args.places.now same sorted c.requires (subst (λ (out : List Ends). All IsRange out) found c.in_ok-segments.ensures.ranges))
+    (segments_of_sorted c.args.touched.now c.as_slice.result.now c.args.places.now same sorted
+    c.requires (subst (λ (out : List Ends). All IsRange out) found c.in_ok-segments.ensures.ranges))
 
 pub returns-then-are_in_order : goal.returns-then-are_in_order
 returns-then-are_in_order c =

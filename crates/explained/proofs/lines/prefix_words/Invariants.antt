@@ -9,4 +9,5 @@ abbrev pub invariant-loop-block : goal.invariant-loop-block
 invariant-loop-block l =
     (goal.iterator-loop-block).can_next l.block-iterator
     × (goal.iterator-loop-block).is_finite l.block-iterator
-    × (string_bytes l.words ++ flat_map (λ b. then (block_text b)) l.block-iterator ≡ flat_map (λ b. then (block_text b)) (blocks_of l.fn.range.first (l.fn.range.last + 1)))
+    × (string_bytes l.words ++ flat_map (λ b. then (block_text b)) l.block-iterator
+    ≡ flat_map (λ b. then (block_text b)) (blocks_of l.fn.range.first (l.fn.range.last + 1)))

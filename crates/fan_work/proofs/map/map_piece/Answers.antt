@@ -5,5 +5,6 @@ use Rattle.fan_work.proofs.map.map_piece.Goals as goal
 
 pub loop-item-preserved : goal.loop-item-preserved
 loop-item-preserved g c =
-    AllZip-pushed (g.W.Work.related c.args.work.now) c.args.items.now c.loop-item.results.items c.push.new.self.items c.loop-item.item-index c.item-item.result c.in_ok-done.field-0
+    AllZip-pushed (g.W.Work.related c.args.work.now) c.args.items.now c.loop-item.results.items
+    c.push.new.self.items c.loop-item.item-index c.item-item.result c.in_ok-done.field-0
     (search rules) (search rules) c.loop-item.invariant (search rules) (search rules)

@@ -14,4 +14,5 @@ map_part-requires-after_bounds g c κs within =
 
 pub returns-clause-one_thread : goal.returns-clause-one_thread
 returns-clause-one_thread g c f only =
-    IfOk-weaker c.map_part.result _ _ (λ v zipped. map-from_only (g.W.Work.related c.args.work.now) f only c.args.items.now v.items zipped) c.map_part.ensures
+    IfOk-weaker c.map_part.result _ _ (λ v zipped. map-from_only (g.W.Work.related c.args.work.now)
+    f only c.args.items.now v.items zipped) c.map_part.ensures

@@ -8,7 +8,8 @@ overflow_sub-taken g c =
     let p = c.args.part in
     let r = c.requires.part in
     let many = c.requires.many in
-    let up = starts_ascend p.pieces p.count p.from (p.from + (p.to - p.from) / 2) (omega arith) (omega arith) in
+    let up = starts_ascend p.pieces p.count p.from (p.from + (p.to - p.from) / 2) (omega arith)
+    (omega arith) in
     let middle = c.start_of.ensures in
     let first = c.start_of-2.ensures in
     omega arith
@@ -19,7 +20,8 @@ split_at-requires g c =
     let r = c.requires.part in
     let many = c.requires.many in
     let held = r.held in
-    let up = starts_ascend p.pieces p.count (p.from + (p.to - p.from) / 2) p.to (omega arith) (omega arith) in
+    let up = starts_ascend p.pieces p.count (p.from + (p.to - p.from) / 2) p.to (omega arith)
+    (omega arith) in
     let middle = c.start_of.ensures in
     let first = c.start_of-2.ensures in
     omega arith
@@ -29,7 +31,8 @@ returns-clause-left g c =
     let p = c.args.part in
     let r = c.requires.part in
     let many = c.requires.many in
-    let up = starts_ascend p.pieces p.count p.from (p.from + (p.to - p.from) / 2) (omega arith) (omega arith) in
+    let up = starts_ascend p.pieces p.count p.from (p.from + (p.to - p.from) / 2) (omega arith)
+    (omega arith) in
     let long = c.split_at.ensures.front_len in
     let middle = c.start_of.ensures in
     let first = c.start_of-2.ensures in
@@ -41,8 +44,10 @@ returns-clause-right g c =
     let r = c.requires.part in
     let many = c.requires.many in
     let held = r.held in
-    let up = starts_ascend p.pieces p.count p.from (p.from + (p.to - p.from) / 2) (omega arith) (omega arith) in
-    let over = starts_ascend p.pieces p.count (p.from + (p.to - p.from) / 2) p.to (omega arith) (omega arith) in
+    let up = starts_ascend p.pieces p.count p.from (p.from + (p.to - p.from) / 2) (omega arith)
+    (omega arith) in
+    let over = starts_ascend p.pieces p.count (p.from + (p.to - p.from) / 2) p.to (omega arith)
+    (omega arith) in
     let long = c.split_at.ensures.back_len in
     let middle = c.start_of.ensures in
     let first = c.start_of-2.ensures in

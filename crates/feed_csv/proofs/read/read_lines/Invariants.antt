@@ -1,4 +1,5 @@
--- What was found and what the lines that are left give is what the whole file gives; the reader stands before the next of them.
+-- What was found and what the lines that are left give is what the whole file gives;
+-- the reader stands before the next of them.
 use Rattle.std.proofs.Common.{◌≡◌, ◌≤◌, ◌++◌, length, filter_map, Some}
 use Rattle.csv_lines.specs.Rests.{Stands, all_handed}
 use Rattle.feed_csv.specs.File.{accepted, entry_of, fault_of, most, refused}

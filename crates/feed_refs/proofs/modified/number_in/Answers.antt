@@ -6,7 +6,8 @@ use Rattle.feed_refs.proofs.modified.number_in.Goals.{then-is_ascii_digit, else-
 
 pub overflow_mul-value : goal.overflow_mul-value
 overflow_mul-value c =
-    let fits : c.loop-byte.value * 10 + (get_or c.args.text.now c.loop-byte.byte-index 0 - 48) < 2 ^ 64 =
+    let fits : c.loop-byte.value * 10 + (get_or c.args.text.now c.loop-byte.byte-index 0 - 48)
+    < 2 ^ 64 =
     step_fits c.loop-byte.value c.args.text.now c.loop-byte.byte-index c.loop-byte-test.true
     (sym c.is_ascii_digit.ensures.value ∙ c.if-is_ascii_digit.true) c.loop-byte.invariant
     c.requires in
@@ -14,7 +15,8 @@ overflow_mul-value c =
 
 pub overflow_add-value : goal.overflow_add-value
 overflow_add-value c =
-    let fits : c.loop-byte.value * 10 + (get_or c.args.text.now c.loop-byte.byte-index 0 - 48) < 2 ^ 64 =
+    let fits : c.loop-byte.value * 10 + (get_or c.args.text.now c.loop-byte.byte-index 0 - 48)
+    < 2 ^ 64 =
     step_fits c.loop-byte.value c.args.text.now c.loop-byte.byte-index c.loop-byte-test.true
     (sym c.is_ascii_digit.ensures.value ∙ c.if-is_ascii_digit.true) c.loop-byte.invariant
     c.requires in
@@ -28,7 +30,10 @@ loop-byte-preserved c =
           digit_step c.loop-byte.value c.args.text.now c.loop-byte.byte-index
           c.loop-byte-test.true
           (sym c.is_ascii_digit.ensures.value ∙ w.if-is_ascii_digit.true) in
-          let same : value_from c.if-is_ascii_digit.value c.args.text.now (c.loop-byte.byte-index + 1) ≡ value_from (c.loop-byte.value * 10 + (get_or c.args.text.now c.loop-byte.byte-index 0 - 48)) c.args.text.now (c.loop-byte.byte-index + 1) =
+          let same : value_from c.if-is_ascii_digit.value c.args.text.now
+          (c.loop-byte.byte-index + 1) ≡ value_from
+          (c.loop-byte.value * 10 + (get_or c.args.text.now c.loop-byte.byte-index 0 - 48))
+          c.args.text.now (c.loop-byte.byte-index + 1) =
           ap (λ v. value_from v c.args.text.now (c.loop-byte.byte-index + 1))
           (w.value-is ∙ ap (λ d. c.loop-byte.value * 10 + d) w.from.ensures) in
           same ∙ sym step ∙ c.loop-byte.invariant
@@ -37,7 +42,8 @@ loop-byte-preserved c =
           other_step c.loop-byte.value c.args.text.now c.loop-byte.byte-index
           c.loop-byte-test.true
           (sym c.is_ascii_digit.ensures.value ∙ w.if-is_ascii_digit.false) in
-          let same : value_from c.if-is_ascii_digit.value c.args.text.now (c.loop-byte.byte-index + 1) ≡ value_from c.loop-byte.value c.args.text.now (c.loop-byte.byte-index + 1) =
+          let same : value_from c.if-is_ascii_digit.value c.args.text.now (c.loop-byte.byte-index
+          + 1) ≡ value_from c.loop-byte.value c.args.text.now (c.loop-byte.byte-index + 1) =
           ap (λ v. value_from v c.args.text.now (c.loop-byte.byte-index + 1)) w.value-is in
           same ∙ sym step ∙ c.loop-byte.invariant
     ]

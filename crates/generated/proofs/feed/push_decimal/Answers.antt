@@ -4,7 +4,10 @@ use Rattle.generated.proofs.feed.push_decimal.Goals as goal
 
 pub returns-in_ok-extend_from_slice : goal.returns-in_ok-extend_from_slice
 returns-in_ok-extend_from_slice c =
-    rw (one_digit c.args.number (omega arith), ← c.digit-ones.ensures) c.in_ok-extend_from_slice.ensures.items
+    rw (
+      one_digit c.args.number (omega arith),
+      ← c.digit-ones.ensures,
+    ) c.in_ok-extend_from_slice.ensures.items
 
 pub returns-in_ok-extend_from_slice-2 : goal.returns-in_ok-extend_from_slice-2
 returns-in_ok-extend_from_slice-2 c =

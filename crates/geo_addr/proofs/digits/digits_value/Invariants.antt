@@ -3,4 +3,5 @@ use Rattle.std.specs.Str.Parse.{digits_value}
 use Rattle.geo_addr.proofs.digits.digits_value.Given as goal
 
 abbrev pub invariant-loop-digit : goal.invariant-loop-digit
-invariant-loop-digit l = (l.value ≡ digits_value 10 (take l.digit-index l.text)) × (l.value < 10 ^ l.digit-index)
+invariant-loop-digit l =
+    (l.value ≡ digits_value 10 (take l.digit-index l.text)) × (l.value < 10 ^ l.digit-index)

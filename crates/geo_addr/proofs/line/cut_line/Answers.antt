@@ -6,5 +6,7 @@ use Rattle.geo_addr.proofs.line.cut_line.Goals as goal
 
 pub returns-in-Some-clause-lines : goal.returns-in-Some-clause-lines
 returns-in-Some-clause-lines c =
-    let cut = c.cut_at.ensures.pieces ∙ ap (λ after. c.cut_at.result.0.now ∷ pieces_after 10 (option_copied after)) c.in-Some.is in
-    rw c.without_return.ensures (line_before_feed c.args.text.now c.cut_at.result.0.now c.in-Some.after.now cut)
+    let cut = c.cut_at.ensures.pieces
+    ∙ ap (λ after. c.cut_at.result.0.now ∷ pieces_after 10 (option_copied after)) c.in-Some.is in
+    rw c.without_return.ensures
+    (line_before_feed c.args.text.now c.cut_at.result.0.now c.in-Some.after.now cut)

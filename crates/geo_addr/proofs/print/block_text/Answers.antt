@@ -6,5 +6,7 @@ use Rattle.geo_addr.proofs.print.block_text.Goals as goal
 
 pub returns-clause-reads_back : goal.returns-clause-reads_back
 returns-clause-reads_back c =
-    let text = block_text-from c.args.block _ _ _ (c.is_v4.ensures ∙ ap is_v4 c.range_of.ensures) (ap (λ (b : Prefix). b.first) c.block.view_is) c.printed_length-length.ensures in
-    ap block_in (c.in_ok-text.ensures ∙ c.in_ok-format.ensures.ok ∙ text) ∙ block_text-reads c.args.block (subst IsBlock c.block.view_is c.block.invariant)
+    let text = block_text-from c.args.block _ _ _ (c.is_v4.ensures ∙ ap is_v4 c.range_of.ensures)
+    (ap (λ (b : Prefix). b.first) c.block.view_is) c.printed_length-length.ensures in
+    ap block_in (c.in_ok-text.ensures ∙ c.in_ok-format.ensures.ok ∙ text)
+    ∙ block_text-reads c.args.block (subst IsBlock c.block.view_is c.block.invariant)

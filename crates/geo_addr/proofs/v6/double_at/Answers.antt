@@ -5,4 +5,5 @@ use Rattle.geo_addr.proofs.v6.double_at.Goals as goal
 
 pub loop-at-preserved : goal.loop-at-preserved
 loop-at-preserved c =
-    sym (double_at-past c.args.text.now c.loop-at.at c.loop-at-test.true (sym (rw rest_whole at c.if-starts_with.ensures.value))) ∙ c.loop-at.invariant
+    sym (double_at-past c.args.text.now c.loop-at.at c.loop-at-test.true
+    (sym (rw rest_whole at c.if-starts_with.ensures.value))) ∙ c.loop-at.invariant

@@ -11,6 +11,9 @@ pub loop-write-preserved : goal.loop-write-preserved
 loop-write-preserved c =
     let inside : c.loop-write.write-index < length c.args.writes.now = omega arith in
     elim c.if-eq.branch [
-      | then-eq w ↦ IsHeld-same c.if-eq.found _ _ _ w.found-is (get_more_here _ _ _ _ _ inside c.write-item.is c.as_str.ensures w.if-eq.ensures ∙ ap Some (sym w.as_slice.ensures)) refl
-      | else-eq w ↦ IsHeld-same c.if-eq.found _ _ _ w.found-is (get_more_past _ _ _ _ _ inside c.write-item.is c.as_str.ensures w.if-eq.ensures) c.loop-write.invariant
+      | then-eq w ↦ IsHeld-same c.if-eq.found _ _ _ w.found-is
+          (get_more_here _ _ _ _ _ inside c.write-item.is c.as_str.ensures w.if-eq.ensures
+          ∙ ap Some (sym w.as_slice.ensures)) refl
+      | else-eq w ↦ IsHeld-same c.if-eq.found _ _ _ w.found-is (get_more_past _ _ _ _ _ inside
+          c.write-item.is c.as_str.ensures w.if-eq.ensures) c.loop-write.invariant
     ]

@@ -16,7 +16,8 @@ invariant-loop-piece g l =
       misses : F.misses l.fn.folder ≤ F.misses l.folder;
       given : F.given l.folder ≤ F.given l.fn.folder + vec_len l.bytes;
       few : vec_len l.bytes ≤ l.limit + 65536;
-      first : (w : Told) → F.told l.fn.folder ≡ Some w → AreFirst (map.get w.held l.name) l.bytes.items;
+      first : (w : Told) → F.told l.fn.folder ≡ Some w
+          → AreFirst (map.get w.held l.name) l.bytes.items;
     }
 
 abbrev pub decreases-loop-piece : goal.decreases-loop-piece

@@ -11,6 +11,12 @@ use Rattle.geo_terms.proofs.boundaries.boundaries_of.Goals as goal
 pub returns : goal.returns
 returns c =
     let sorted : IsNonDecreasingBy (λ (e : Edge). e.at) c.as_slice.result.now =
-    rw c.as_slice.ensures.value (IsNonDecreasingBy-from_sort_by_key (λ (e : Edge). e.at) _ c.sort_unstable_by_key.ensures.sorted (λ a r q k. search rules)) in
-    let same : IsPermutation (edges_from 0 c.args.ranges.now) c.as_slice.result.now = rw (← c.in_ok-edges.ensures.edges, c.as_slice.ensures.value) c.sort_unstable_by_key.ensures.permutation in
-    subst (λ (out : List Boundary). AreBoundaries c.args.ranges.now out) (sym c.in_ok-boundaries.ensures) (are_boundaries c.args.ranges.now c.as_slice.result.now same sorted c.in_ok-edges.ensures.ranges)
+    rw c.as_slice.ensures.value (IsNonDecreasingBy-from_sort_by_key (λ (e : Edge). e.at) _
+    c.sort_unstable_by_key.ensures.sorted (λ a r q k. search rules)) in
+    let same : IsPermutation (edges_from 0 c.args.ranges.now) c.as_slice.result.now = rw (
+      ← c.in_ok-edges.ensures.edges,
+      c.as_slice.ensures.value,
+    ) c.sort_unstable_by_key.ensures.permutation in
+    subst (λ (out : List Boundary). AreBoundaries c.args.ranges.now out)
+    (sym c.in_ok-boundaries.ensures) (are_boundaries c.args.ranges.now c.as_slice.result.now same
+    sorted c.in_ok-edges.ensures.ranges)

@@ -6,4 +6,7 @@ use Rattle.geo_terms.proofs.boundaries.edges_of.Given as goal
 
 -- the edges of the ranges that are left follow what was found
 abbrev pub invariant-loop-rank : goal.invariant-loop-rank
-invariant-loop-rank l = record { found : edges_from 0 l.ranges ≡ l.edges.items ++ edges_from l.rank (drop l.rank l.ranges); ranges : All IsRange (take l.rank l.ranges) }
+invariant-loop-rank l = record {
+  found : edges_from 0 l.ranges ≡ l.edges.items ++ edges_from l.rank (drop l.rank l.ranges);
+  ranges : All IsRange (take l.rank l.ranges);
+}

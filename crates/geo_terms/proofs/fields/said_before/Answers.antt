@@ -8,4 +8,5 @@ use Rattle.geo_terms.proofs.fields.said_before.Goals as goal
 pub returns : goal.returns
 returns c =
     let same = c.in_ok-place.ensures.texts in
-    ap (λ (p : PlaceParts). said_of p.country p.region p.city p.postal) (sym same) ∙ place_says_itself c.in_ok-place.place.now c.in_ok-place.ensures.form
+    ap (λ (p : PlaceParts). said_of p.country p.region p.city p.postal) (sym same)
+    ∙ place_says_itself c.in_ok-place.place.now c.in_ok-place.ensures.form

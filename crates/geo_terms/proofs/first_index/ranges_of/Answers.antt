@@ -8,6 +8,10 @@ loop-statement-preserved g c =
     let within : c.loop-statement.statement-index < length c.args.ranked.now = omega arith in
     record {
       ranges = grind (arith, common_steps);
-      kept = All-more (λ x. g.S.Statement.kept x.1.now) c.args.ranked.now c.loop-statement.statement-index c.loop-statement-item.result within c.loop-statement.invariant.kept
-          (subst (λ (x : ℕ × Bor g.row.S.Denot). g.S.Statement.kept x.1.now) c.loop-statement-item.is c.range.ensures.kept);
+      kept =
+          All-more (λ x. g.S.Statement.kept x.1.now) c.args.ranked.now
+          c.loop-statement.statement-index c.loop-statement-item.result within
+          c.loop-statement.invariant.kept
+          (subst (λ (x : ℕ × Bor g.row.S.Denot). g.S.Statement.kept x.1.now)
+          c.loop-statement-item.is c.range.ensures.kept);
     }

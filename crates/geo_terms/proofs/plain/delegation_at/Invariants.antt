@@ -7,5 +7,6 @@ use Rattle.geo_terms.proofs.plain.delegation_at.Given as goal
 
 abbrev pub invariant-loop-file : goal.invariant-loop-file
 invariant-loop-file l =
-    fold (better delegation_before) (option_copied l.first) (holders (λ d. d.range) (flat_map (λ t. t.rows) (drop l.file-index l.stats)) l.at.0)
+    fold (better delegation_before) (option_copied l.first)
+    (holders (λ d. d.range) (flat_map (λ t. t.rows) (drop l.file-index l.stats)) l.at.0)
     ≡ first_of delegation_before (holders (λ d. d.range) (flat_map (λ t. t.rows) l.stats) l.at.0)

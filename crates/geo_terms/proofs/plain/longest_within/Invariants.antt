@@ -7,5 +7,6 @@ use Rattle.geo_terms.proofs.plain.longest_within.Given as goal
 
 abbrev pub invariant-loop-entry : goal.invariant-loop-entry
 invariant-loop-entry l =
-    fold (better entry_before) (option_copied l.longest) (entries_within (drop l.entry-index l.entries) l.range l.at.0)
+    fold (better entry_before) (option_copied l.longest)
+    (entries_within (drop l.entry-index l.entries) l.range l.at.0)
     ≡ first_of entry_before (entries_within l.entries l.range l.at.0)

@@ -7,5 +7,6 @@ use Rattle.geo_terms.proofs.plain.speaker_at.Given as goal
 
 abbrev pub invariant-loop-dump : goal.invariant-loop-dump
 invariant-loop-dump l =
-    fold (better reference_before) (option_copied l.first) (holders (λ r. r.range) (flat_map (λ d. d.refs) (drop l.dump-index l.dumps)) l.at.0)
+    fold (better reference_before) (option_copied l.first)
+    (holders (λ r. r.range) (flat_map (λ d. d.refs) (drop l.dump-index l.dumps)) l.at.0)
     ≡ first_of reference_before (holders (λ r. r.range) (flat_map (λ d. d.refs) l.dumps) l.at.0)

@@ -1,5 +1,6 @@
 use Rattle.std.proofs.Common.{◌∷◌, [], ◌++◌, subst, ℕ, List, string_bytes}
-use Rattle.geofeed.specs.Acts.{looked, made, renamed, removed, first_mode, preparing, none_done, only_looked, given_up, Adds}
+use Rattle.geofeed.specs.Acts.{looked, made, renamed, removed, first_mode, preparing, none_done}
+use Rattle.geofeed.specs.Acts.{only_looked, given_up, Adds}
 use Rattle.geofeed.proofs.Puts.{adds_none, adds_no_more, adds_then}
 use Rattle.geofeed.proofs.Taken.{on_err}
 use Rattle.geofeed.proofs.disk.replace.Goals as goal
@@ -12,7 +13,8 @@ pub returns-in_err-new_name-clause-err : goal.returns-in_err-new_name-clause-err
 returns-in_err-new_name-clause-err g c =
     let mode = c.in_ok-mode.mode in
     let done = adds_no_more c.in_ok-mode.ensures.ok c.in_err-new_name.ensures.err in
-    on_err c.from_residual-in_err-new_name.result (looked c.args.name.now mode ∷ [], only_looked mode, done)
+    on_err c.from_residual-in_err-new_name.result
+    (looked c.args.name.now mode ∷ [], only_looked mode, done)
 
 pub returns-in-Ok-clause-ok : goal.returns-in-Ok-clause-ok
 returns-in-Ok-clause-ok g c =
@@ -20,8 +22,12 @@ returns-in-Ok-clause-ok g c =
     let mode = c.in_ok-mode.mode in
     let new = string_bytes c.in_ok-new_name.new_name in
     let ready = preparing mode c.args.bytes.now in
-    let made_so = subst (λ (m : ℕ). Adds (g.D.Disk.acts c.look.new.self) (g.D.Disk.acts c.make_beside.new.disk) (made new m ∷ [])) c.mode_at_first.ensures c.in_ok-new_name.ensures.ok in
-    let renamed_so = subst (λ (n : List ℕ). Adds (g.D.Disk.acts c.make_beside.new.disk) (g.D.Disk.acts c.complete.new.disk) (ready ++ renamed n name ∷ [])) c.as_str.ensures.value c.in-Ok.ensures.ok in
+    let made_so =
+    subst (λ (m : ℕ). Adds (g.D.Disk.acts c.look.new.self) (g.D.Disk.acts c.make_beside.new.disk)
+    (made new m ∷ [])) c.mode_at_first.ensures c.in_ok-new_name.ensures.ok in
+    let renamed_so = subst (λ (n : List ℕ). Adds (g.D.Disk.acts c.make_beside.new.disk)
+    (g.D.Disk.acts c.complete.new.disk) (ready ++ renamed n name ∷ [])) c.as_str.ensures.value
+    c.in-Ok.ensures.ok in
     (mode, new, adds_then _ _ c.in_ok-mode.ensures.ok (adds_then _ _ made_so renamed_so))
 
 pub returns-clause-err : goal.returns-clause-err
@@ -29,7 +35,15 @@ returns-clause-err g c =
     let mode = c.in_ok-mode.mode in
     let new = string_bytes c.in_ok-new_name.new_name in
     let (part, front, done) = c.in-Err.ensures.err in
-    let made_so = subst (λ (m : ℕ). Adds (g.D.Disk.acts c.look.new.self) (g.D.Disk.acts c.make_beside.new.disk) (made new m ∷ [])) c.mode_at_first.ensures c.in_ok-new_name.ensures.ok in
-    let removed_so = subst (λ (n : List ℕ). Adds (g.D.Disk.acts c.complete.new.disk) (g.D.Disk.acts c.remove.new.self) (removed n ∷ [])) c.as_str-in-Err.ensures.value c.remove.ensures in
-    let acts = looked c.args.name.now mode ∷ made new (first_mode mode) ∷ (part ++ removed new ∷ []) in
-    (acts, given_up mode new part front, adds_then _ _ c.in_ok-mode.ensures.ok (adds_then _ _ made_so (adds_then _ _ done removed_so)))
+    let made_so =
+    subst (λ (m : ℕ). Adds (g.D.Disk.acts c.look.new.self) (g.D.Disk.acts c.make_beside.new.disk)
+    (made new m ∷ [])) c.mode_at_first.ensures c.in_ok-new_name.ensures.ok in
+    let removed_so = subst (λ (n : List ℕ). Adds (g.D.Disk.acts c.complete.new.disk)
+    (g.D.Disk.acts c.remove.new.self) (removed n ∷ [])) c.as_str-in-Err.ensures.value
+    c.remove.ensures in
+    let acts =
+    looked c.args.name.now mode ∷ made new (first_mode mode) ∷ (part ++ removed new ∷ []) in (
+      acts,
+      given_up mode new part front,
+      adds_then _ _ c.in_ok-mode.ensures.ok (adds_then _ _ made_so (adds_then _ _ done removed_so)),
+    )

@@ -13,8 +13,13 @@ returns-in-Ok-do_steps-clause-ok g c =
     λ first told.
     let start = start_of first c.args.job in
     let meta = c.args.job.meta in
-    let begun = c.standing_stays.ensures.begins meta.epoch meta.name c.in-Ok.session c.in-Ok.ensures in
-    let all = c.in-Ok-do_steps.ensures.done start (record { tells = told; aside = refl; stands = begun }) refl in
+    let begun =
+    c.standing_stays.ensures.begins meta.epoch meta.name c.in-Ok.session c.in-Ok.ensures in
+    let all = c.in-Ok-do_steps.ensures.done start (record {
+      tells = told;
+      aside = refl;
+      stands = begun;
+    }) refl in
     rw c.as_slice-list.ensures at all
 
 pub returns-clause-err : goal.returns-clause-err
@@ -23,13 +28,22 @@ returns-clause-err g c =
     let start = start_of first c.args.job in
     let meta = c.args.job.meta in
     let list = c.as_slice-list.result.now in
-    let begun = c.standing_stays.ensures.begins meta.epoch meta.name c.in-Ok.session c.in-Ok.ensures in
-    let planned_here = plan ∙ ap (λ (l : List Step). planned (source_moves l ++ last ∷ []) start) (sym c.as_slice-list.ensures) in
-    let stop = c.in-Err-do_steps.ensures.stopped start (record { tells = told; aside = refl; stands = begun }) refl in
+    let begun =
+    c.standing_stays.ensures.begins meta.epoch meta.name c.in-Ok.session c.in-Ok.ensures in
+    let planned_here = plan ∙ ap (λ (l : List Step). planned (source_moves l ++ last ∷ []) start)
+    (sym c.as_slice-list.ensures) in
+    let stop = c.in-Err-do_steps.ensures.stopped start (record {
+      tells = told;
+      aside = refl;
+      stands = begun;
+    }) refl in
     let later = c.stop_in.ensures.faults in
     rw c.stop_in.ensures.status
-    (comes_stop command first list (source_moves list) (source_moves list ++ last ∷ []) start _ _ _ _ planned_here refl
-    (at_longer (source_moves list) (last ∷ []) start) c.in-Err-do_steps.stop.why c.in-Err-do_steps.stop.at stop
-    (c.stop_in.ensures.closed stop.step stop.named) c.do_steps.ensures.faults _ _ c.in-Err-do_steps.ensures.put_failed
+    (comes_stop command first list (source_moves list)
+    (source_moves list ++ last ∷ []) start _ _ _ _ planned_here refl
+    (at_longer (source_moves list) (last ∷ []) start) c.in-Err-do_steps.stop.why
+    c.in-Err-do_steps.stop.at stop
+    (c.stop_in.ensures.closed stop.step stop.named) c.do_steps.ensures.faults _ _
+    c.in-Err-do_steps.ensures.put_failed
     (λ sink. let rose : Rose (g.O.Sink.faults c.args.out.now) (g.O.Sink.faults c.do_steps.new.out) =
     c.in-Err-do_steps.ensures.sink_failed sink in omega arith))

@@ -9,9 +9,12 @@ use Rattle.geofeed_cmd.proofs.sourced.stop_in.Goals as goal
 
 pub returns-clause-closed : goal.returns-clause-closed
 returns-clause-closed g c step named =
-    let read = slice_get_read c.args.list.now _ c.args.stop.at c.index-list-stop.result refl c.requires c.index-list-stop.is in
+    let read = slice_get_read c.args.list.now _ c.args.stop.at c.index-list-stop.result refl
+    c.requires c.index-list-stop.is in
     let same : c.index-list-stop.result ≡ step = cc in
     let O = g.O.Sink in
     let closed = rw c.name_of.ensures at c.stop_at.ensures.closed in
-    subst (λ (s : Step). Closes (O.written c.args.out.now) (O.written c.stop_at.new.out) (O.faults c.args.out.now)
-    (O.faults c.stop_at.new.out) [] (stop_line c.args.stop.why s.line (file_named s.act))) same closed
+    subst (λ (s : Step). Closes (O.written c.args.out.now) (O.written c.stop_at.new.out)
+    (O.faults c.args.out.now)
+    (O.faults c.stop_at.new.out) []
+    (stop_line c.args.stop.why s.line (file_named s.act))) same closed

@@ -9,7 +9,8 @@ use Rattle.geofeed_cmd.proofs.whole.do_whole.Goals as goal
 pub returns-in-Ok-clause-comes : goal.returns-in-Ok-clause-comes
 returns-in-Ok-clause-comes g c =
     λ first command start plan here blank unspent.
-    comes_done command first (moves_of c.args.list.now) start _ _ c.do_steps.new.session plan unspent
+    comes_done command first
+    (moves_of c.args.list.now) start _ _ c.do_steps.new.session plan unspent
     (c.in-Ok.ensures.done start here blank)
 
 pub returns-in-Err-clause-comes : goal.returns-in-Err-clause-comes
@@ -19,8 +20,10 @@ returns-in-Err-clause-comes g c =
     let stop = c.in-Err.ensures.stopped start here blank in
     let later = c.stop_in.ensures.faults in
     rw c.stop_in.ensures.status
-    (comes_stop command first c.args.list.now moves moves start _ _ _ _ plan unspent (λ count move world there. there)
-    c.in-Err.stop.why c.in-Err.stop.at stop (c.stop_in.ensures.closed stop.step stop.named) c.do_steps.ensures.faults _ _
+    (comes_stop command first c.args.list.now moves moves start _ _ _ _ plan unspent
+    (λ count move world there. there)
+    c.in-Err.stop.why c.in-Err.stop.at stop
+    (c.stop_in.ensures.closed stop.step stop.named) c.do_steps.ensures.faults _ _
     c.in-Err.ensures.put_failed
     (λ sink. let rose : Rose (g.O.Sink.faults c.args.out.now) (g.O.Sink.faults c.do_steps.new.out) =
     c.in-Err.ensures.sink_failed sink in omega arith))
@@ -28,7 +31,8 @@ returns-in-Err-clause-comes g c =
 pub returns-in-Err-clause-missing_apart : goal.returns-in-Err-clause-missing_apart
 returns-in-Err-clause-missing_apart g c =
     λ gone.
-    elim (c.in-Err.ensures.missing_apart (missing_status c.in-Err.stop.why (sym c.stop_in.ensures.status ∙ gone))) [
+    elim (c.in-Err.ensures.missing_apart
+    (missing_status c.in-Err.stop.why (sym c.stop_in.ensures.status ∙ gone))) [
       | inl rose ↦ inl rose
       | inr lacks ↦ inr (c.in-Err.stop.at, lacks)
     ]

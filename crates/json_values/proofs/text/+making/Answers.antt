@@ -9,10 +9,12 @@ use Rattle.json_values.proofs.text.+making.Goals as goal
 
 pub json_of-returns-in_ok-object_of-in-Map : goal.json_of-returns-in_ok-object_of-in-Map
 json_of-returns-in_ok-object_of-in-Map t c =
-    object_made c.in_ok-object_of-in-Map.field-0 c.in-Map.pairs (c.in_ok-object_of-in-Map.ensures ∙ ap (λ pairs. members_put (members_view pairs) no_members) c.deref.ensures.value)
+    object_made c.in_ok-object_of-in-Map.field-0 c.in-Map.pairs (c.in_ok-object_of-in-Map.ensures
+    ∙ ap (λ pairs. members_put (members_view pairs) no_members) c.deref.ensures.value)
     ∙ sym (ap (λ v. data_of (tree v)) c.in-Map.is)
 
 pub array_of-returns : goal.array_of-returns
 array_of-returns t c =
     let values = c.args.values.now in
-    ap data_items_of (c.loop-value.invariant ∙ ap (map (λ v. data_of (tree v))) (take_all c.loop-value.value-index values c.loop-value-test.false)) ∙ items_made values
+    ap data_items_of (c.loop-value.invariant ∙ ap (map (λ v. data_of (tree v)))
+    (take_all c.loop-value.value-index values c.loop-value-test.false)) ∙ items_made values

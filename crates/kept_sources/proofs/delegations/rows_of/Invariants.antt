@@ -5,4 +5,6 @@ use Rattle.kept_sources.proofs.delegations.rows_of.Given as goal
 
 -- the rows of the files that are left follow what was found
 abbrev pub invariant-loop-file : goal.invariant-loop-file
-invariant-loop-file l = map (λ d. d.now) l.rows.items ++ flat_map (λ t. t.rows) (map arc_value (drop l.file-index l.files)) ≡ flat_map (λ t. t.rows) (map arc_value l.files)
+invariant-loop-file l =
+    map (λ d. d.now) l.rows.items ++ flat_map (λ t. t.rows)
+    (map arc_value (drop l.file-index l.files)) ≡ flat_map (λ t. t.rows) (map arc_value l.files)

@@ -16,7 +16,8 @@ loop-statement-preserved g c =
     let is_whole : c.whole.result ≡ whole = search rules in
     let step : (k : ℕ) → Contains new k
     ↔ (Contains old k ⊎ (IsEdge k (g.S.Statement.range x.now) × IsWithin whole k)) =
-    subst (λ (r : Ends). (k : ℕ) → Contains new k ↔ (Contains old k ⊎ (IsEdge k r × IsWithin whole k)))
+    subst (λ (r : Ends). (k : ℕ)
+    → Contains new k ↔ (Contains old k ⊎ (IsEdge k r × IsWithin whole k)))
     is_range
     (subst (λ (w : Ends). (k : ℕ) → Contains new k
     ↔ (Contains old k ⊎ (IsEdge k c.range.result × IsWithin w k)))
@@ -30,7 +31,8 @@ returns g c =
     let range : Bor g.row.S.Denot → Ends = λ s. g.S.Statement.range s.now in
     let past : length c.args.statements.now < c.loop-statement.statement-index + 1 =
     omega (arith, c.loop-statement-test.false) in
-    let same = map_map (λ (s : Bor g.row.S.Denot). s.now) g.S.Statement.range c.args.statements.now in
+    let same =
+    map_map (λ (s : Bor g.row.S.Denot). s.now) g.S.Statement.range c.args.statements.now in
     subst (λ (rs : List Ends). AreCutsOf rs c.put_in_order.new.places.items) (sym same)
     (cuts_ready range c.args.statements.now c.loop-statement.statement-index
     c.loop-statement.places.items c.put_in_order.new.places.items past c.loop-statement.invariant

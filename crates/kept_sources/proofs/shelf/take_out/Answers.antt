@@ -12,19 +12,30 @@ use Rattle.kept_sources.proofs.shelf.take_out.Goals as goal
 pub returns-in-Ok : goal.returns-in-Ok
 returns-in-Ok g c =
     let X = g.row.T.Denot in
-    let within : c.in-Ok.place < length c.args.shelf.now.items = subst (λ ys. c.in-Ok.place < length ys) c.as_slice.ensures.value c.in-Ok.ensures.within in
-    let found : IsBinarySearchResult (λ t. text_cmp (g.T.Named.name (arc_value {X = X} t)) c.args.name.now) c.args.shelf.now.items (Ok c.in-Ok.place) =
-    subst (λ ys. IsBinarySearchResult (λ t. text_cmp (g.T.Named.name (arc_value {X = X} t)) c.args.name.now) ys (Ok c.in-Ok.place)) c.as_slice.ensures.value c.in-Ok.ensures.found in
+    let within : c.in-Ok.place < length c.args.shelf.now.items =
+    subst (λ ys. c.in-Ok.place < length ys) c.as_slice.ensures.value c.in-Ok.ensures.within in
+    let found : IsBinarySearchResult (λ t. text_cmp (g.T.Named.name (arc_value {X = X} t))
+    c.args.name.now) c.args.shelf.now.items (Ok c.in-Ok.place) =
+    subst (λ ys. IsBinarySearchResult (λ t. text_cmp (g.T.Named.name (arc_value {X = X} t))
+    c.args.name.now) ys (Ok c.in-Ok.place)) c.as_slice.ensures.value c.in-Ok.ensures.found in
     ap (map (arc_value {X = X}))
-    (c.take_at-taken.ensures ∙ (taken_out (λ t. g.T.Named.name (arc_value {X = X} t)) c.args.name.now c.args.shelf.now.items c.in-Ok.place c.take_at-taken.result (order_within (arc_value {X = X}) g.T.Named.name c.args.shelf.now.items c.requires) within found).0)
+    (c.take_at-taken.ensures ∙ (taken_out (λ t. g.T.Named.name (arc_value {X = X} t))
+    c.args.name.now c.args.shelf.now.items c.in-Ok.place c.take_at-taken.result (order_within
+    (arc_value {X = X}) g.T.Named.name c.args.shelf.now.items c.requires) within found).0)
     ∙ map_removed (arc_value {X = X}) g.T.Named.name c.args.name.now c.args.shelf.now.items
 
 pub returns-in-Err : goal.returns-in-Err
 returns-in-Err g c =
     let X = g.row.T.Denot in
-    let found : IsBinarySearchResult (λ t. text_cmp (g.T.Named.name (arc_value {X = X} t)) c.args.name.now) c.args.shelf.now.items (Err c.in-Err.field-0) =
-    subst (λ ys. IsBinarySearchResult (λ t. text_cmp (g.T.Named.name (arc_value {X = X} t)) c.args.name.now) ys (Err c.in-Err.field-0)) c.as_slice.ensures.value c.in-Err.ensures.found in
-    let none : find (λ t. same_text (g.T.Named.name t) c.args.name.now) (map (arc_value {X = X}) c.args.shelf.now.items) ≡ None =
+    let found : IsBinarySearchResult (λ t. text_cmp (g.T.Named.name (arc_value {X = X} t))
+    c.args.name.now) c.args.shelf.now.items (Err c.in-Err.field-0) =
+    subst (λ ys. IsBinarySearchResult (λ t. text_cmp (g.T.Named.name (arc_value {X = X} t))
+    c.args.name.now) ys (Err c.in-Err.field-0)) c.as_slice.ensures.value c.in-Err.ensures.found in
+    let none : find (λ t. same_text (g.T.Named.name t) c.args.name.now)
+    (map (arc_value {X = X}) c.args.shelf.now.items) ≡ None =
     sym (map_find (arc_value {X = X}) g.T.Named.name c.args.name.now c.args.shelf.now.items)
-    ∙ ap (option_map (arc_value {X = X})) (not_there (λ t. g.T.Named.name (arc_value {X = X} t)) c.args.name.now c.args.shelf.now.items c.in-Err.field-0 (order_within (arc_value {X = X}) g.T.Named.name c.args.shelf.now.items c.requires) found) in
-    sym (none_removed g.T.Named.name c.args.name.now (map (arc_value {X = X}) c.args.shelf.now.items) none)
+    ∙ ap (option_map (arc_value {X = X})) (not_there (λ t. g.T.Named.name (arc_value {X = X} t))
+    c.args.name.now c.args.shelf.now.items c.in-Err.field-0
+    (order_within (arc_value {X = X}) g.T.Named.name c.args.shelf.now.items c.requires) found) in
+    sym (none_removed g.T.Named.name c.args.name.now
+    (map (arc_value {X = X}) c.args.shelf.now.items) none)

@@ -9,5 +9,7 @@ use Rattle.kept_sources.proofs.speaking.places_of_dumps.Goals as goal
 
 pub returns : goal.returns
 returns c =
-    subst (λ (ps : List ℕ). AreCutsOf (map (λ (r : Reference). r.range) (flat_map (λ (d : DumpParts). d.refs) (map (arc_value {X = DumpParts}) c.args.dumps.now))) ps)
-    (sym (ap (λ (k : ReferencePlaces). k.places.items) c.in_ok-kept.ensures.ok)) c.in_ok-places.ensures
+    subst (λ (ps : List ℕ). AreCutsOf (map (λ (r : Reference). r.range)
+    (flat_map (λ (d : DumpParts). d.refs) (map (arc_value {X = DumpParts}) c.args.dumps.now))) ps)
+    (sym (ap (λ (k : ReferencePlaces). k.places.items) c.in_ok-kept.ensures.ok))
+    c.in_ok-places.ensures

@@ -11,5 +11,8 @@ returns c =
     subst (HasCutsOf c.args.feed.now) (sym c.in_ok-kept.ensures.ok)
     (record {
       url = c.in_ok-url.ensures ∙ ap (λ (f : FeedParts). f.url) c.feed.view_is;
-      cuts = subst (λ (es : List Entry). AreCutsOf (map (λ (e : Entry). range_of_block e.block) es) c.in_ok-places.places.items) (c.as_slice.ensures ∙ ap (λ (f : FeedParts). f.entries) c.feed.view_is) c.in_ok-places.ensures;
+      cuts =
+          subst (λ (es : List Entry). AreCutsOf (map (λ (e : Entry). range_of_block e.block) es)
+          c.in_ok-places.places.items) (c.as_slice.ensures
+          ∙ ap (λ (f : FeedParts). f.entries) c.feed.view_is) c.in_ok-places.ensures;
     })

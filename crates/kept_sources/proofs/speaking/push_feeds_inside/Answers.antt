@@ -11,16 +11,26 @@ use Rattle.kept_sources.proofs.speaking.push_feeds_inside.Goals as goal
 
 pub push_inside-requires-clause-ascending : goal.push_inside-requires-clause-ascending
 push_inside-requires-clause-ascending c =
-    subst IsStrictlyIncreasing (sym (c.as_slice.ensures.value ∙ ap (λ (k : FeedPlaces). k.places.items) (c.deref.ensures ∙ ap (arc_value {X = FeedPlaces}) c.feed-item.is)))
+    subst IsStrictlyIncreasing
+    (sym (c.as_slice.ensures.value ∙ ap (λ (k : FeedPlaces). k.places.items)
+    (c.deref.ensures ∙ ap (arc_value {X = FeedPlaces}) c.feed-item.is)))
     (c.requires.ascending c.loop-feed.feed-index c.feed-item.result c.loop-feed-test.true)
 
 pub loop-feed-preserved : goal.loop-feed-preserved
 loop-feed-preserved c =
-    one_more_feed (λ (f : Arc FeedPlaces Global). (arc_value f).places.items) c.args.bounds.now c.args.places.now.items c.args.feeds.now c.loop-feed.feed-index c.feed-item.result c.loop-feed.places.items c.push_inside.new.found.items
+    one_more_feed (λ (f : Arc FeedPlaces Global). (arc_value f).places.items) c.args.bounds.now
+    c.args.places.now.items c.args.feeds.now c.loop-feed.feed-index c.feed-item.result
+    c.loop-feed.places.items c.push_inside.new.found.items
     c.loop-feed-test.true c.feed-item.is c.loop-feed.invariant
     (λ a.
-    subst (λ (ps : List ℕ). Contains c.push_inside.new.found.items a ↔ (Contains c.loop-feed.places.items a ⊎ (Contains ps a × Any (λ r. IsWithin r a) c.args.bounds.now))) (c.as_slice.ensures.value ∙ ap (λ (k : FeedPlaces). k.places.items) c.deref.ensures) (c.in_ok-push_inside.ensures a))
+    subst (λ (ps : List ℕ). Contains c.push_inside.new.found.items a
+    ↔ (Contains c.loop-feed.places.items a
+    ⊎ (Contains ps a × Any (λ r. IsWithin r a) c.args.bounds.now))) (c.as_slice.ensures.value
+    ∙ ap (λ (k : FeedPlaces). k.places.items) c.deref.ensures) (c.in_ok-push_inside.ensures a))
 
 pub returns : goal.returns
 returns c =
-    subst (λ (fs : List (Arc FeedPlaces Global)). AreGathered (λ (f : Arc FeedPlaces Global). (arc_value f).places.items) c.args.bounds.now c.args.places.now.items fs c.loop-feed.places.items) (take_all c.loop-feed.feed-index c.args.feeds.now c.loop-feed-test.false) c.loop-feed.invariant
+    subst (λ (fs : List (Arc FeedPlaces Global)).
+    AreGathered (λ (f : Arc FeedPlaces Global). (arc_value f).places.items)
+    c.args.bounds.now c.args.places.now.items fs c.loop-feed.places.items)
+    (take_all c.loop-feed.feed-index c.args.feeds.now c.loop-feed-test.false) c.loop-feed.invariant

@@ -5,4 +5,6 @@ use Rattle.kept_sources.proofs.speaking.push_references.Given as goal
 
 abbrev pub invariant-loop-dump : goal.invariant-loop-dump
 invariant-loop-dump l =
-    l.ranges.items ++ map (λ r. r.range) (flat_map (λ d. d.refs) (map arc_value (drop l.dump-index l.dumps))) ≡ l.fn.ranges.items ++ map (λ r. r.range) (flat_map (λ d. d.refs) (map arc_value l.dumps))
+    l.ranges.items
+    ++ map (λ r. r.range) (flat_map (λ d. d.refs) (map arc_value (drop l.dump-index l.dumps)))
+    ≡ l.fn.ranges.items ++ map (λ r. r.range) (flat_map (λ d. d.refs) (map arc_value l.dumps))

@@ -10,5 +10,8 @@ use Rattle.kept_sources.proofs.speaking.reference_places.Goals as goal
 pub returns : goal.returns
 returns c =
     subst (λ (rs : List Ends). AreCutsOf rs c.in_ok-places.places.items)
-    (c.as_slice.ensures.value ∙ c.in_ok-push_references.ensures ∙ ap (λ (rs : List Ends). rs ++ map (λ (r : Reference). r.range) (flat_map (λ (d : DumpParts). d.refs) (map (arc_value {X = DumpParts}) c.args.dumps.now))) c.new-ranges.ensures.items)
+    (c.as_slice.ensures.value ∙ c.in_ok-push_references.ensures
+    ∙ ap (λ (rs : List Ends). rs ++ map (λ (r : Reference). r.range)
+    (flat_map (λ (d : DumpParts). d.refs) (map (arc_value {X = DumpParts}) c.args.dumps.now)))
+    c.new-ranges.ensures.items)
     c.in_ok-places.ensures

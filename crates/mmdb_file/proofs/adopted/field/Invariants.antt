@@ -7,5 +7,6 @@ use Rattle.mmdb_file.proofs.adopted.field.Given as goal
 
 abbrev pub invariant-loop-name : goal.invariant-loop-name
 invariant-loop-name l =
-    field_of l.key (members_view (drop l.name-index l.members)) (option_map (λ v. value_tree v.now) l.found)
+    field_of l.key (members_view (drop l.name-index l.members))
+    (option_map (λ v. value_tree v.now) l.found)
     ≡ field_of l.key (members_view l.members) None

@@ -6,12 +6,24 @@ use Rattle.mmdb_file.proofs.data.data_of.Goals as goal
 
 pub loop-number-preserved : goal.loop-number-preserved
 loop-number-preserved c = record {
-  section = data_packed (λ k. answer_value (place_at c.args.places.now k)) c.args.numbers.now c.loop-number.number-index c.loop-number-test.true
-      c.loop-number.made.section c.add.new.made.section _ c.loop-number.invariant.section c.in_ok-add.ensures.section;
-  starts = data_starts (λ k. answer_value (place_at c.args.places.now k)) c.args.numbers.now c.loop-number.number-index c.loop-number-test.true
-      c.loop-number.made.section c.add.new.made.section c.loop-number.made.starts.items c.add.new.made.starts.items _ c.loop-number.invariant.starts c.in_ok-add.ensures.starts c.in_ok-add.ensures.section;
-  readable = All_more (λ k. CanBeReadBack (answer_value (place_at c.args.places.now k))) c.args.numbers.now c.loop-number.number-index 0 c.loop-number-test.true c.loop-number.invariant.readable c.in_ok-add.ensures.readable;
+  section =
+      data_packed (λ k. answer_value (place_at c.args.places.now k)) c.args.numbers.now
+      c.loop-number.number-index c.loop-number-test.true
+      c.loop-number.made.section c.add.new.made.section _ c.loop-number.invariant.section
+      c.in_ok-add.ensures.section;
+  starts =
+      data_starts (λ k. answer_value (place_at c.args.places.now k)) c.args.numbers.now
+      c.loop-number.number-index c.loop-number-test.true
+      c.loop-number.made.section c.add.new.made.section c.loop-number.made.starts.items
+      c.add.new.made.starts.items _ c.loop-number.invariant.starts c.in_ok-add.ensures.starts
+      c.in_ok-add.ensures.section;
+  readable =
+      All_more (λ k. CanBeReadBack (answer_value (place_at c.args.places.now k))) c.args.numbers.now
+      c.loop-number.number-index 0 c.loop-number-test.true c.loop-number.invariant.readable
+      c.in_ok-add.ensures.readable;
 }
 
 pub returns-clause-readable : goal.returns-clause-readable
-returns-clause-readable c = All_whole (λ k. CanBeReadBack (answer_value (place_at c.args.places.now k))) c.args.numbers.now c.loop-number.number-index c.loop-number-test.false c.loop-number.invariant.readable
+returns-clause-readable c =
+    All_whole (λ k. CanBeReadBack (answer_value (place_at c.args.places.now k))) c.args.numbers.now
+    c.loop-number.number-index c.loop-number-test.false c.loop-number.invariant.readable

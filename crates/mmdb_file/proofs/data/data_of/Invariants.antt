@@ -8,9 +8,12 @@ use Rattle.mmdb_file.proofs.data.data_of.Given as goal
 
 abbrev pub invariant-loop-number : goal.invariant-loop-number
 invariant-loop-number l = record {
-  section : all_in_full (map_list (λ k. answer_value (place_at l.places k)) (drop l.number-index l.numbers)) l.made.section
+  section : all_in_full (map_list (λ k. answer_value (place_at l.places k))
+      (drop l.number-index l.numbers)) l.made.section
       ≡ all_in_full (map_list (λ k. answer_value (place_at l.places k)) l.numbers) nothing_packed;
-  starts : l.made.starts.items ++ offsets_in (map_list (λ k. answer_value (place_at l.places k)) (drop l.number-index l.numbers)) l.made.section
+  starts : l.made.starts.items ++ offsets_in (map_list (λ k. answer_value (place_at l.places k))
+      (drop l.number-index l.numbers)) l.made.section
       ≡ packed_offsets (map_list (λ k. answer_value (place_at l.places k)) l.numbers);
-  readable : All (λ k. CanBeReadBack (answer_value (place_at l.places k))) (take l.number-index l.numbers);
+  readable : All (λ k. CanBeReadBack (answer_value (place_at l.places k)))
+      (take l.number-index l.numbers);
 }

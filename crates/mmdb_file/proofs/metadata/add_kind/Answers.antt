@@ -13,4 +13,5 @@ returns c =
     (with_value _ _ _ _ _ c.in_ok-add-2.ensures c.number16-2.ensures)
     (with_value _ _ _ _ _ c.in_ok-add-3.ensures c.number64.ensures)
     (with_value _ _ _ _ _ c.in_ok-add-4.ensures c.in_ok-text.ensures)
-    (with_value _ _ _ _ _ c.in_ok-add-5.ensures (c.in_ok-english.ensures ∙ ap (λ (t : Tree). one (codes "en") t) c.in_ok-text-2.ensures))
+    (with_value _ _ _ _ _ c.in_ok-add-5.ensures
+    (c.in_ok-english.ensures ∙ ap (λ (t : Tree). one (codes "en") t) c.in_ok-text-2.ensures))

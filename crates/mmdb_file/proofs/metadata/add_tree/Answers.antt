@@ -7,6 +7,8 @@ pub returns : goal.returns
 returns c =
     four _ _ _ _ _ _ _ _ _
     (with_value _ _ _ _ _ c.in_ok-add.ensures c.number16.ensures)
-    (with_value _ _ _ _ _ c.in_ok-add-2.ensures (c.in_ok-list_of.ensures ∙ ap (λ (t : Tree). list (item t no_items)) c.in_ok-text.ensures))
+    (with_value _ _ _ _ _ c.in_ok-add-2.ensures
+    (c.in_ok-list_of.ensures ∙ ap (λ (t : Tree). list (item t no_items)) c.in_ok-text.ensures))
     (with_value _ _ _ _ _ c.in_ok-add-3.ensures c.number32.ensures)
-    (with_value _ _ _ _ _ c.in_ok-add-4.ensures (c.number16-2.ensures ∙ ap u16 (c.from.ensures ∙ c.size.ensures)))
+    (with_value _ _ _ _ _ c.in_ok-add-4.ensures
+    (c.number16-2.ensures ∙ ap u16 (c.from.ensures ∙ c.size.ensures)))

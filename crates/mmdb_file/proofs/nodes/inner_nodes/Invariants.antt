@@ -5,4 +5,5 @@ use Rattle.mmdb_file.proofs.nodes.inner_nodes.Given as goal
 
 abbrev pub invariant-loop-id : goal.invariant-loop-id
 invariant-loop-id l =
-    l.nodes.items ++ map_list (node_numbers l.store (number_of l.numbers)) (drop l.id-index l.ids) ≡ map_list (node_numbers l.store (number_of l.numbers)) l.ids
+    l.nodes.items ++ map_list (node_numbers l.store (number_of l.numbers)) (drop l.id-index l.ids)
+    ≡ map_list (node_numbers l.store (number_of l.numbers)) l.ids

@@ -1,14 +1,27 @@
 use Rattle.std.proofs.Common.{length, sym, ap, subst, arith}
 use Rattle.mmdb_data.specs.Tree.{CanBeReadBack}
-use Rattle.mmdb_file.proofs.PlaceLemmas.{readable, short_country, short_region, short_city, short_postal}
+use Rattle.mmdb_file.proofs.PlaceLemmas.{readable, short_country, short_region, short_city}
+use Rattle.mmdb_file.proofs.PlaceLemmas.{short_postal}
 use Rattle.mmdb_file.proofs.place.place_value.Goals as goal
 
 pub returns-clause-readable : goal.returns-clause-readable
 returns-clause-readable c =
     subst CanBeReadBack (sym c.in_ok-value.ensures)
     (readable _ (record {
-      country = (c.as_str-country.utf8, omega (arith, ap length c.as_str-country.ensures, short_country _ c.place.invariant));
-      region = (c.as_str-region.utf8, omega (arith, ap length c.as_str-region.ensures, short_region _ c.place.invariant));
-      city = (c.as_str.utf8, omega (arith, ap length c.as_str.ensures, short_city _ c.place.invariant));
-      postal = (c.as_str-2.utf8, omega (arith, ap length c.as_str-2.ensures, short_postal _ c.place.invariant));
+      country = (
+        c.as_str-country.utf8,
+        omega (arith, ap length c.as_str-country.ensures, short_country _ c.place.invariant),
+      );
+      region = (
+        c.as_str-region.utf8,
+        omega (arith, ap length c.as_str-region.ensures, short_region _ c.place.invariant),
+      );
+      city = (
+        c.as_str.utf8,
+        omega (arith, ap length c.as_str.ensures, short_city _ c.place.invariant),
+      );
+      postal = (
+        c.as_str-2.utf8,
+        omega (arith, ap length c.as_str-2.ensures, short_postal _ c.place.invariant),
+      );
     }))

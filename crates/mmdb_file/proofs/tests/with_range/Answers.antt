@@ -12,7 +12,8 @@ same_leaf : (answer : Option ℕ) (j k : ℕ) → answer ≡ Some j → answer �
 same_leaf answer j k one two = cc
 
 -- no leaf is above this one, on the range or elsewhere
-stays_low : (was : ℕ → Option ℕ) (is : Root → ℕ → Option ℕ) (range : Ends) (leaf : ℕ) (result : Result Root StoreFault)
+stays_low : (was : ℕ → Option ℕ) (is : Root → ℕ → Option ℕ) (range : Ends) (leaf : ℕ)
+    (result : Result Root StoreFault)
     → IfOk result (λ r. (a : ℕ) → a < 2 ^ 128 → IsWithin range a → is r a ≡ Some leaf)
     → IfOk result (λ r. (a : ℕ) → a < 2 ^ 128 → (IsWithin range a → ⊥) → is r a ≡ was a)
     → ((a k : ℕ) → a < 2 ^ 128 → was a ≡ Some k → k ≤ leaf)
@@ -20,10 +21,12 @@ stays_low : (was : ℕ → Option ℕ) (is : Root → ℕ → Option ℕ) (range
 stays_low was is range leaf (Err fault) inside outside low = tt
 stays_low was is range leaf (Ok r) inside outside low = λ a k below found.
     elim (IsWithin-cases range a) [
-      | inl on ↦ let same : leaf ≡ k = same_leaf (is r a) leaf k (inside a below on) found in omega arith
+      | inl on ↦ let same : leaf ≡ k = same_leaf (is r a) leaf k (inside a below on) found in
+          omega arith
       | inr off ↦ low a k below (sym (outside a below off) ∙ found)
     ]
 
 pub returns-clause-low : goal.returns-clause-low
 returns-clause-low g c =
-    stays_low (leaf_at c.args.store.now c.args.root) (leaf_at c.paint.new.self) c.args.range c.args.leaf c.paint.result c.paint.ensures.on_range c.paint.ensures.elsewhere c.requires.low
+    stays_low (leaf_at c.args.store.now c.args.root) (leaf_at c.paint.new.self) c.args.range
+    c.args.leaf c.paint.result c.paint.ensures.on_range c.paint.ensures.elsewhere c.requires.low

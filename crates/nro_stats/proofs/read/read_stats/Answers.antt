@@ -7,5 +7,7 @@ use Rattle.nro_stats.proofs.read.read_stats.Goals as goal
 pub invariant_of-result : goal.invariant_of-result
 invariant_of-result c =
     stats_in_form c.args.slot.now c.args.bytes.now _ _ _ c.in_ok-slot.ensures
-    (c.of-2.ensures ∙ c.in_ok-found.ensures.rows ∙ ap (λ slot. rows slot c.args.bytes.now) c.in_ok-slot.ensures)
-    (c.of-3.ensures ∙ c.in_ok-found.ensures.notes ∙ ap (λ slot. notes slot c.args.bytes.now) c.in_ok-slot.ensures)
+    (c.of-2.ensures ∙ c.in_ok-found.ensures.rows
+    ∙ ap (λ slot. rows slot c.args.bytes.now) c.in_ok-slot.ensures)
+    (c.of-3.ensures ∙ c.in_ok-found.ensures.notes
+    ∙ ap (λ slot. notes slot c.args.bytes.now) c.in_ok-slot.ensures)

@@ -14,7 +14,9 @@ loop-line-init c =
       rows = rw c.new.ensures.items (ap (filter_map row_of_line) start);
       faults = rw c.new-2.ensures.items (ap (filter_map fault_of) start);
       few = rw c.new.ensures.items (omega arith);
-      stands = c.reader_of-reader.ensures _ (c.as_slice.ensures.value ∙ c.in_ok-handed.ensures ∙ ap (λ lines. 10 ∷ all_handed lines) (sym start));
+      stands =
+          c.reader_of-reader.ensures _ (c.as_slice.ensures.value ∙ c.in_ok-handed.ensures
+          ∙ ap (λ lines. 10 ∷ all_handed lines) (sym start));
     }
 
 pub loop-line-preserved : goal.loop-line-preserved
@@ -27,14 +29,23 @@ loop-line-preserved c =
       is_finite = tt;
       rows =
           ap (λ t. t ++ filter_map row_of_line c.next.new.self) taken.rows
-          ∙ one_more c.loop-line.found.rows.items (row_of_line (c.in-Some.line.number, c.in-Some.line.text.now)) (filter_map row_of_line c.next.new.self)
+          ∙ one_more c.loop-line.found.rows.items (row_of_line (
+            c.in-Some.line.number,
+            c.in-Some.line.text.now,
+          )) (filter_map row_of_line c.next.new.self)
           ∙ ap (λ lines. c.loop-line.found.rows.items ++ filter_map row_of_line lines) (sym step)
           ∙ inv.rows;
       faults =
           ap (λ t. t ++ filter_map fault_of c.next.new.self) taken.faults
-          ∙ one_more c.loop-line.found.faults.items (fault_of (c.in-Some.line.number, c.in-Some.line.text.now)) (filter_map fault_of c.next.new.self)
+          ∙ one_more c.loop-line.found.faults.items (fault_of (
+            c.in-Some.line.number,
+            c.in-Some.line.text.now,
+          )) (filter_map fault_of c.next.new.self)
           ∙ ap (λ lines. c.loop-line.found.faults.items ++ filter_map fault_of lines) (sym step)
           ∙ inv.faults;
       few = taken.within;
-      stands = taken.stands (all_handed c.next.new.self) (subst (λ (lines : List (ℕ × List ℕ)). Stands (λ (s : Bor (List ℕ)). Some s.now) c.loop-line.reader (all_handed lines)) step inv.stands);
+      stands =
+          taken.stands (all_handed c.next.new.self)
+          (subst (λ (lines : List (ℕ × List ℕ)). Stands (λ (s : Bor (List ℕ)). Some s.now)
+          c.loop-line.reader (all_handed lines)) step inv.stands);
     }

@@ -23,4 +23,5 @@ invariant_of-result-2 c =
     let b = c.block.inside in
     let less : b.len < 128 = subst (λ (p : Prefix). p.len < 128) (sym c.block.view_is) c.requires in
     let size = half_size (record { first = b.first; len = b.len }) c.block.invariant less in
-    IsBlock-upper (record { first = b.first; len = b.len }) c.block.invariant less _ (ap (λ p. b.first + p) size)
+    IsBlock-upper (record { first = b.first; len = b.len }) c.block.invariant less _
+    (ap (λ p. b.first + p) size)

@@ -1,4 +1,5 @@
-use Rattle.publish_least.proofs.Whole.{least_inside, least_preorder, least_answers, least_fewest, least_price}
+use Rattle.publish_least.proofs.Whole.{least_inside, least_preorder, least_answers, least_fewest}
+use Rattle.publish_least.proofs.Whole.{least_price}
 use Rattle.publish_least.proofs.laws.fewest_lines.Goals as goal
 
 pub returns : goal.returns

@@ -7,12 +7,14 @@ use Rattle.publish_least.proofs.least.lines_under.Goals as goal
 pub write-requires-clause-place : goal.write-requires-clause-place
 write-requires-clause-place c =
     let t = meaning c.args.store.now c.args.rec in
-    order-some c.learn.new.self.order.keys t (c.in_ok-learn.ensures.order ∙ ap (λ seen. order_after seen t) c.in_ok-memo.ensures.order)
+    order-some c.learn.new.self.order.keys t
+    (c.in_ok-learn.ensures.order ∙ ap (λ seen. order_after seen t) c.in_ok-memo.ensures.order)
 
 pub returns : goal.returns
 returns c =
     let t = meaning c.args.store.now c.args.rec in
     let order = c.learn.new.self.order.keys in
     let lines = lines_below order t c.args.within (get_or order 0 0) in
-    lines-of_walk order t c.args.within c.write.new.lines.items (c.in_ok-learn.ensures.order ∙ ap (λ seen. order_after seen t) c.in_ok-memo.ensures.order)
+    lines-of_walk order t c.args.within c.write.new.lines.items
+    (c.in_ok-learn.ensures.order ∙ ap (λ seen. order_after seen t) c.in_ok-memo.ensures.order)
     (c.in_ok-write.ensures ∙ ap (λ ls. ls ++ lines) c.new-lines.ensures.items)

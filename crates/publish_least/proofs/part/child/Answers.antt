@@ -7,4 +7,6 @@ use Rattle.publish_least.proofs.part.child.Goals as goal
 
 pub returns-in_default-clause-meaning : goal.returns-in_default-clause-meaning
 returns-in_default-clause-meaning c =
-    below-of_leaf (meaning c.args.store.now c.args.rec) c.in_default.field-0 (c.args.is_upper ∷ []) (ap (meaning c.args.store.now) c.in_default.is ∙ meaning-leaf c.args.store.now c.in_default.field-0)
+    below-of_leaf (meaning c.args.store.now c.args.rec) c.in_default.field-0
+    (c.args.is_upper ∷ []) (ap (meaning c.args.store.now) c.in_default.is
+    ∙ meaning-leaf c.args.store.now c.in_default.field-0)

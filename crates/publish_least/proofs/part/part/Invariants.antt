@@ -8,5 +8,6 @@ use Rattle.publish_least.proofs.part.part.Given as goal
 abbrev pub invariant-loop-depth : goal.invariant-loop-depth
 invariant-loop-depth l = record {
   of : IsOf l.store l.rec;
-  same : meaning l.store l.rec ≡ below (tree_of l.store l.fn.root) (bits_of l.depth (l.first / 2 ^ (128 - l.depth)));
+  same : meaning l.store l.rec
+      ≡ below (tree_of l.store l.fn.root) (bits_of l.depth (l.first / 2 ^ (128 - l.depth)));
 }

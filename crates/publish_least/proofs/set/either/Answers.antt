@@ -10,4 +10,5 @@ returns-clause-rises c = IsNonDecreasingBy-from_sort (λ x. x) c.sort.new.self.i
 pub returns-clause-says : goal.returns-clause-says
 returns-clause-says c i =
     let all : c.extend_from_slice.new.self.items ≡ c.args.xs.now ++ c.args.ys.now = search rules in
-    sym (list_any-IsPermutation (nat_eq i) c.extend_from_slice.new.self.items c.sort.new.self.items c.sort.ensures.permutation) ∙ ap (λ zs. has zs i) all ∙ has-append c.args.xs.now c.args.ys.now i
+    sym (list_any-IsPermutation (nat_eq i) c.extend_from_slice.new.self.items c.sort.new.self.items
+    c.sort.ensures.permutation) ∙ ap (λ zs. has zs i) all ∙ has-append c.args.xs.now c.args.ys.now i

@@ -12,4 +12,5 @@ is_long len first long = grind (arith, nat_tests)
 pub returns-then-len-ge96-clause-plain : goal.returns-then-len-ge96-clause-plain
 returns-then-len-ge96-clause-plain c is =
     let b : Prefix = record { first = c.block.inside.first; len = c.block.inside.len } in
-    subst IsPlain c.block.view_is (plain_from b c.block.invariant (is_long b.len b.first c.if-len-ge96.true))
+    subst IsPlain c.block.view_is
+    (plain_from b c.block.invariant (is_long b.len b.first c.if-len-ge96.true))

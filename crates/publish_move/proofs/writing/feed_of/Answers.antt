@@ -10,18 +10,23 @@ use Rattle.publish_move.proofs.writing.feed_of.Goals as goal
 pub publish-requires-clause-numbers : goal.publish-requires-clause-numbers
 publish-requires-clause-numbers g c = λ address k below is.
     let held = c.build_tree.new.self in
-    let here = ap₂ (λ pairs root. leaf_at pairs root address) (sym c.store.ensures) (sym c.root-root.ensures.same) ∙ is in
+    let here = ap₂ (λ pairs root. leaf_at pairs root address) (sym c.store.ensures)
+    (sym c.root-root.ensures.same) ∙ is in
     subst (λ (places : List PlaceParts). k ≤ length places) (sym c.places.ensures)
-    (leaf_is held.store held.places held.root _ address k (c.in-Ok.ensures.ok.root.answers address below) here).0
+    (leaf_is held.store held.places held.root _ address k
+    (c.in-Ok.ensures.ok.root.answers address below) here).0
 
 pub returns-in-Ok-publish-clause-text : goal.returns-in-Ok-publish-clause-text
 returns-in-Ok-publish-clause-text g c =
     c.in-Ok-publish.ensures.text
-    ∙ ap₂ (λ places pairs. published (place_tree places pairs c.root-root.result) c.args.block) c.places.ensures c.store.ensures
+    ∙ ap₂ (λ places pairs. published (place_tree places pairs c.root-root.result) c.args.block)
+    c.places.ensures c.store.ensures
     ∙ ap (λ t. published t c.args.block) (c.root-root.ensures.tree _ c.in-Ok.ensures.ok.root)
 
 pub returns-in-Ok-publish-clause-lines : goal.returns-in-Ok-publish-clause-lines
 returns-in-Ok-publish-clause-lines g c =
     c.in-Ok-publish.ensures.lines
-    ∙ ap₂ (λ places pairs. length (published_lines (place_tree places pairs c.root-root.result) c.args.block)) c.places.ensures c.store.ensures
-    ∙ ap (λ t. length (published_lines t c.args.block)) (c.root-root.ensures.tree _ c.in-Ok.ensures.ok.root)
+    ∙ ap₂ (λ places pairs. length (published_lines (place_tree places pairs c.root-root.result)
+    c.args.block)) c.places.ensures c.store.ensures
+    ∙ ap (λ t. length (published_lines t c.args.block))
+    (c.root-root.ensures.tree _ c.in-Ok.ensures.ok.root)

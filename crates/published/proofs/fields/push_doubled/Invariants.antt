@@ -4,4 +4,5 @@ use Rattle.csv_lines.specs.Fields.{doubled}
 use Rattle.published.proofs.fields.push_doubled.Given as goal
 
 abbrev pub invariant-loop-byte : goal.invariant-loop-byte
-invariant-loop-byte l = l.text.items ++ doubled (drop l.byte-index l.value) ≡ l.initial.text.items ++ doubled l.value
+invariant-loop-byte l =
+    l.text.items ++ doubled (drop l.byte-index l.value) ≡ l.initial.text.items ++ doubled l.value

@@ -8,6 +8,8 @@ use Rattle.published.proofs.file.feed_text.Given as goal
 
 abbrev pub invariant-loop-line : goal.invariant-loop-line
 invariant-loop-line l = record {
-  written : l.text.items ++ feed_text (place_at l.places) (drop l.line-index l.lines) ≡ feed_text (place_at l.places) l.lines;
-  form : (k : ℕ) (d : Line) → k < l.line-index → IsLineInForm (get_or l.lines k d).block (place_at l.places (get_or l.lines k d).leaf);
+  written : l.text.items ++ feed_text (place_at l.places) (drop l.line-index l.lines)
+      ≡ feed_text (place_at l.places) l.lines;
+  form : (k : ℕ) (d : Line) → k < l.line-index
+      → IsLineInForm (get_or l.lines k d).block (place_at l.places (get_or l.lines k d).leaf);
 }

@@ -5,6 +5,8 @@ use Rattle.published.proofs.publication.numbers_do_not_matter.Goals as goal
 
 pub returns : goal.returns
 returns c =
-    numbering.numbers_do_not_matter c.args.places.now c.len.ensures.distinct (tree_of c.args.store.now c.args.root)
-    (numbers_known c.args.store.now c.rec_of.ensures.sound c.args.places.now (record_of c.args.root) c.requires.root c.requires.numbers)
+    numbering.numbers_do_not_matter c.args.places.now c.len.ensures.distinct
+    (tree_of c.args.store.now c.args.root)
+    (numbers_known c.args.store.now c.rec_of.ensures.sound c.args.places.now
+    (record_of c.args.root) c.requires.root c.requires.numbers)
     c.args.within

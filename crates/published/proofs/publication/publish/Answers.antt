@@ -11,7 +11,14 @@ use Rattle.published.proofs.publication.publish.Goals as goal
 pub returns-clause-reads_back : goal.returns-clause-reads_back
 returns-clause-reads_back c url all =
     let law = c.numbers_do_not_matter.ensures in
-    let slice : c.as_slice.result.now ≡ lines_of (part_of (tree_of c.args.store.now c.args.root) c.args.within) c.args.within = c.as_slice.ensures.value ∙ c.in_ok-lines.ensures.lines in
-    let apart : AreApart c.as_slice.result.now = subst AreApart (sym c.as_slice.ensures.value) (preorder_apart c.args.within c.in_ok-lines.lines.items c.in_ok-lines.ensures.inside c.in_ok-lines.ensures.preorder) in
-    let clean : AreClean (place_at c.args.places.now) c.as_slice.result.now = subst (λ (ls : List Line). AreClean (place_at c.args.places.now) ls) (sym slice) (law.clean all) in
-    c.in_ok-text.ensures.reads_back url apart clean ∙ ap (λ (ls : List Line). says url (place_at c.args.places.now) ls) slice ∙ law.said url
+    let slice : c.as_slice.result.now
+    ≡ lines_of (part_of (tree_of c.args.store.now c.args.root) c.args.within) c.args.within =
+    c.as_slice.ensures.value ∙ c.in_ok-lines.ensures.lines in
+    let apart : AreApart c.as_slice.result.now =
+    subst AreApart (sym c.as_slice.ensures.value) (preorder_apart c.args.within
+    c.in_ok-lines.lines.items c.in_ok-lines.ensures.inside c.in_ok-lines.ensures.preorder) in
+    let clean : AreClean (place_at c.args.places.now) c.as_slice.result.now =
+    subst (λ (ls : List Line). AreClean (place_at c.args.places.now) ls) (sym slice)
+    (law.clean all) in
+    c.in_ok-text.ensures.reads_back url apart clean
+    ∙ ap (λ (ls : List Line). says url (place_at c.args.places.now) ls) slice ∙ law.said url

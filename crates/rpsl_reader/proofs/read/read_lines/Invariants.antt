@@ -8,8 +8,10 @@ abbrev pub invariant-each : goal.invariant-each
 invariant-each l = record {
   held : l.gathered.held ≡ l.initial.gathered.held;
   found :
-      l.found.items ++ wanted l.selection (given (state_of l.lines l.line (open_group l.gathered)) (10 ∷ l.left))
-      ≡ l.initial.found.items ++ wanted l.selection (given (state_of l.initial.lines l.first (open_group l.initial.gathered)) (10 ∷ l.rest));
+      l.found.items
+      ++ wanted l.selection (given (state_of l.lines l.line (open_group l.gathered)) (10 ∷ l.left))
+      ≡ l.initial.found.items ++ wanted l.selection
+      (given (state_of l.initial.lines l.first (open_group l.initial.gathered)) (10 ∷ l.rest));
   state :
       after (state_of l.lines l.line (open_group l.gathered)) (10 ∷ l.left)
       ≡ after (state_of l.initial.lines l.first (open_group l.initial.gathered)) (10 ∷ l.rest);

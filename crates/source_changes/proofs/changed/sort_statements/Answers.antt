@@ -11,14 +11,21 @@ pub returns-clause-same : goal.returns-clause-same
 returns-clause-same g c =
     let X = g.row.S.Denot in
     let now : Bor X → X = λ s. s.now in
-    IsPermutation-map now c.args.statements.now.items c.sort_unstable_by.new.self.items c.sort_unstable_by.ensures.permutation
+    IsPermutation-map now c.args.statements.now.items c.sort_unstable_by.new.self.items
+    c.sort_unstable_by.ensures.permutation
 
 pub returns-clause-sorted : goal.returns-clause-sorted
 returns-clause-sorted g c =
     let X = g.row.S.Denot in
     let now : Bor X → X = λ s. s.now in
-    let sorted : IsSortedBy (λ (x y : Bor X). is_lt (whole_cmp g.S.Statement.range g.S.Compared.rest x.now y.now)) c.sort_unstable_by.new.self.items =
-    c.sort_unstable_by.ensures.sorted (λ x y. is_lt (whole_cmp g.S.Statement.range g.S.Compared.rest x.now y.now))
-    (ranks_by (whole_total g.S.Statement.range g.S.Compared.same g.S.Compared.rest g.met.S.Compared.rest_total g.met.S.Compared.decides) now)
-    (answers_always _ _ _ (λ f a r q k. let e : r ≡ whole_cmp g.S.Statement.range g.S.Compared.rest a.0.now.now a.1.0.now.now = search rules in ap is_lt e)) in
-    sorted_seen now (λ x y. is_lt (whole_cmp g.S.Statement.range g.S.Compared.rest x y)) c.sort_unstable_by.new.self.items sorted
+    let sorted : IsSortedBy
+    (λ (x y : Bor X). is_lt (whole_cmp g.S.Statement.range g.S.Compared.rest x.now y.now))
+    c.sort_unstable_by.new.self.items =
+    c.sort_unstable_by.ensures.sorted
+    (λ x y. is_lt (whole_cmp g.S.Statement.range g.S.Compared.rest x.now y.now))
+    (ranks_by (whole_total g.S.Statement.range g.S.Compared.same g.S.Compared.rest
+    g.met.S.Compared.rest_total g.met.S.Compared.decides) now)
+    (answers_always _ _ _ (λ f a r q k. let e : r ≡ whole_cmp g.S.Statement.range g.S.Compared.rest
+    a.0.now.now a.1.0.now.now = search rules in ap is_lt e)) in
+    sorted_seen now (λ x y. is_lt (whole_cmp g.S.Statement.range g.S.Compared.rest x y))
+    c.sort_unstable_by.new.self.items sorted

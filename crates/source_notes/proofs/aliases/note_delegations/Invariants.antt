@@ -5,4 +5,7 @@ use Rattle.geo_terms.specs.declared.note.Origin.{Origin}
 use Rattle.source_notes.proofs.aliases.note_delegations.Given as goal
 
 abbrev pub invariant-loop-row : goal.invariant-loop-row
-invariant-loop-row l = l.notes.items ++ flat_map (λ d. alias_note (Origin.Stats d.slot) d.range d.line) (drop l.row-index l.rows) ≡ l.fn.notes.items ++ flat_map (λ d. alias_note (Origin.Stats d.slot) d.range d.line) l.rows
+invariant-loop-row l =
+    l.notes.items
+    ++ flat_map (λ d. alias_note (Origin.Stats d.slot) d.range d.line) (drop l.row-index l.rows)
+    ≡ l.fn.notes.items ++ flat_map (λ d. alias_note (Origin.Stats d.slot) d.range d.line) l.rows

@@ -7,5 +7,7 @@ use Rattle.source_notes.proofs.aliases.note_lines.Given as goal
 
 abbrev pub invariant-loop-entry : goal.invariant-loop-entry
 invariant-loop-entry l =
-    l.notes.items ++ flat_map (λ e. alias_note (Origin.Feed l.url) (range_of_block e.block) e.line) (drop l.entry-index l.entries)
-    ≡ l.fn.notes.items ++ flat_map (λ e. alias_note (Origin.Feed l.url) (range_of_block e.block) e.line) l.entries
+    l.notes.items ++ flat_map (λ e. alias_note (Origin.Feed l.url) (range_of_block e.block) e.line)
+    (drop l.entry-index l.entries)
+    ≡ l.fn.notes.items
+    ++ flat_map (λ e. alias_note (Origin.Feed l.url) (range_of_block e.block) e.line) l.entries

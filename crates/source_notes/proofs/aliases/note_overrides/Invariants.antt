@@ -5,4 +5,6 @@ use Rattle.geo_terms.specs.declared.note.Origin.{Origin}
 use Rattle.source_notes.proofs.aliases.note_overrides.Given as goal
 
 abbrev pub invariant-loop-row : goal.invariant-loop-row
-invariant-loop-row l = l.notes.items ++ flat_map (λ o. alias_note Origin.Overrides o.range o.line) (drop l.row-index l.rows) ≡ l.fn.notes.items ++ flat_map (λ o. alias_note Origin.Overrides o.range o.line) l.rows
+invariant-loop-row l =
+    l.notes.items ++ flat_map (λ o. alias_note Origin.Overrides o.range o.line) (drop l.row-index
+    l.rows) ≡ l.fn.notes.items ++ flat_map (λ o. alias_note Origin.Overrides o.range o.line) l.rows

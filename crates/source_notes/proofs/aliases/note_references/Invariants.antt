@@ -5,4 +5,7 @@ use Rattle.geo_terms.specs.declared.note.Origin.{Origin}
 use Rattle.source_notes.proofs.aliases.note_references.Given as goal
 
 abbrev pub invariant-loop-reference : goal.invariant-loop-reference
-invariant-loop-reference l = l.notes.items ++ flat_map (λ r. alias_note (Origin.Rpsl r.slot) r.range r.line) (drop l.reference-index l.refs) ≡ l.fn.notes.items ++ flat_map (λ r. alias_note (Origin.Rpsl r.slot) r.range r.line) l.refs
+invariant-loop-reference l =
+    l.notes.items ++ flat_map (λ r. alias_note (Origin.Rpsl r.slot) r.range r.line)
+    (drop l.reference-index l.refs)
+    ≡ l.fn.notes.items ++ flat_map (λ r. alias_note (Origin.Rpsl r.slot) r.range r.line) l.refs

@@ -5,4 +5,5 @@ use Rattle.source_notes.proofs.notes.push_dump_notes.Given as goal
 
 abbrev pub invariant-loop-dump : goal.invariant-loop-dump
 invariant-loop-dump l =
-    l.notes.items ++ flat_map (λ d. d.notes) (map arc_value (drop l.dump-index l.dumps)) ≡ l.fn.notes.items ++ flat_map (λ d. d.notes) (map arc_value l.dumps)
+    l.notes.items ++ flat_map (λ d. d.notes) (map arc_value (drop l.dump-index l.dumps))
+    ≡ l.fn.notes.items ++ flat_map (λ d. d.notes) (map arc_value l.dumps)

@@ -5,4 +5,5 @@ use Rattle.source_notes.proofs.notes.push_feed_notes.Given as goal
 
 abbrev pub invariant-loop-feed : goal.invariant-loop-feed
 invariant-loop-feed l =
-    l.notes.items ++ flat_map (λ f. f.notes) (map arc_value (drop l.feed-index l.feeds)) ≡ l.fn.notes.items ++ flat_map (λ f. f.notes) (map arc_value l.feeds)
+    l.notes.items ++ flat_map (λ f. f.notes) (map arc_value (drop l.feed-index l.feeds))
+    ≡ l.fn.notes.items ++ flat_map (λ f. f.notes) (map arc_value l.feeds)

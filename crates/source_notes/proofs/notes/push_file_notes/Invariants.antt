@@ -6,4 +6,5 @@ use Rattle.source_notes.proofs.notes.push_file_notes.Given as goal
 -- the notes of the files that are left follow what was found
 abbrev pub invariant-loop-file : goal.invariant-loop-file
 invariant-loop-file l =
-    l.notes.items ++ flat_map (λ t. t.notes) (map arc_value (drop l.file-index l.files)) ≡ l.fn.notes.items ++ flat_map (λ t. t.notes) (map arc_value l.files)
+    l.notes.items ++ flat_map (λ t. t.notes) (map arc_value (drop l.file-index l.files))
+    ≡ l.fn.notes.items ++ flat_map (λ t. t.notes) (map arc_value l.files)

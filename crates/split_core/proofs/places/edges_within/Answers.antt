@@ -6,10 +6,13 @@ use Rattle.split_core.proofs.places.edges_within.Goals as goal
 
 pub loop-range-preserved : goal.loop-range-preserved
 loop-range-preserved c =
-    cuts_more c.args.ranges.now c.loop-range.range-index c.range-item.result c.loop-range.places.items c.push_edges.new.places.items c.args.within c.loop-range-test.true c.range-item.is c.loop-range.invariant c.in_ok-push_edges.ensures
+    cuts_more c.args.ranges.now c.loop-range.range-index c.range-item.result
+    c.loop-range.places.items c.push_edges.new.places.items c.args.within c.loop-range-test.true
+    c.range-item.is c.loop-range.invariant c.in_ok-push_edges.ensures
 
 pub returns : goal.returns
 returns c =
-    let all : length c.args.ranges.now ≤ c.loop-range.range-index = omega (arith, c.loop-range-test.false) in
+    let all : length c.args.ranges.now ≤ c.loop-range.range-index =
+    omega (arith, c.loop-range-test.false) in
     let P : List Ends → Type 0 = λ rs. AreCuts rs c.args.within c.loop-range.places.items in
     subst P (take_all c.loop-range.range-index c.args.ranges.now all) c.loop-range.invariant

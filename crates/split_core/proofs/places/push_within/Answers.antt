@@ -7,6 +7,9 @@ pub returns-in_ok-push_new : goal.returns-in_ok-push_new
 returns-in_ok-push_new c =
     let first_is = ap (λ (r : Ends). r.first) c.within.view_is in
     let last_is = ap (λ (r : Ends). r.last) c.within.view_is in
-    let lies : IsWithin c.args.within c.args.place =
-    (omega (arith, first_is, c.if-within-place.true), omega (arith, last_is, c.if-place-within.true)) in
-    push_lying _ c.push_new.new.places.items c.args.within c.args.place lies c.in_ok-push_new.ensures
+    let lies : IsWithin c.args.within c.args.place = (
+      omega (arith, first_is, c.if-within-place.true),
+      omega (arith, last_is, c.if-place-within.true),
+    ) in
+    push_lying _ c.push_new.new.places.items c.args.within c.args.place lies
+    c.in_ok-push_new.ensures

@@ -9,9 +9,11 @@ returns-then-range-span-eq0 c =
     let here = ap (λ (r : Ends). r.first) c.range.view_is in
     let there = ap (λ (r : Ends). r.last) c.range.view_is in
     let ordered : r.first ≤ r.last = omega (arith, c.range.invariant.ordered) in
-    room_by_mask (128 - c.args.len) _ c.size.result r.first r.last _ here c.size.ensures ordered c.span_of-span.ensures c.if-range-span-eq0.true
+    room_by_mask (128 - c.args.len) _ c.size.result r.first r.last _ here c.size.ensures ordered
+    c.span_of-span.ensures c.if-range-span-eq0.true
 
 pub returns-else-range-span-eq0 : goal.returns-else-range-span-eq0
 returns-else-range-span-eq0 c =
     let here = ap (λ (r : Ends). r.first) c.range.view_is in
-    no_room_by_mask (128 - c.args.len) _ c.args.range.first c.args.range.last _ here c.span_of-span.ensures c.if-range-span-eq0.false
+    no_room_by_mask (128 - c.args.len) _ c.args.range.first c.args.range.last _ here
+    c.span_of-span.ensures c.if-range-span-eq0.false

@@ -6,7 +6,8 @@ abbrev pub invariant-loop-range : goal.invariant-loop-range
 invariant-loop-range l =
     record {
       short : l.len ≤ 128;
-      same : largest 128 l.range.first (l.range.last + 1) ≡ largest (128 - l.len) l.range.first (l.range.last + 1);
+      same : largest 128 l.range.first (l.range.last + 1)
+          ≡ largest (128 - l.len) l.range.first (l.range.last + 1);
     }
 
 abbrev pub decreases-loop-range : goal.decreases-loop-range

@@ -9,4 +9,6 @@ returns-then-bytes-lt4 c = rw (lt-leb 4 (length c.args.bytes.now) c.if-bytes-lt4
 
 pub returns : goal.returns
 unfolding low_number
-returns c = rw (le-leb 4 (length c.args.bytes.now) c.if-bytes-lt4.false) (c.from.ensures ∙ c.from_le_bytes.ensures)
+returns c =
+    rw (le-leb 4 (length c.args.bytes.now) c.if-bytes-lt4.false)
+    (c.from.ensures ∙ c.from_le_bytes.ensures)

@@ -57,7 +57,8 @@ returns-clause-answers g c =
     c.in_ok-parts.ensures.ranges in
     let spoken : AnswersSpoken c.paint.new.store c.parts_of.new.places c.in_ok-painted.painted s =
     AnswersSpoken-painted s c.args.touched.now c.in_ok-segments.segments.items
-    c.as_slice-4.result.now c.args.store.now c.paint.new.store c.args.places.now c.parts_of.new.places _ c.args.root
+    c.as_slice-4.result.now c.args.store.now c.paint.new.store c.args.places.now
+    c.parts_of.new.places _ c.args.root
     c.in_ok-painted.painted c.in_ok-segments.ensures ranges
     (numbers_of_parts s c.parts_of.new.places _ _ _ ranges said numbered)
     c.in_ok-parts.ensures.places

@@ -7,4 +7,5 @@ loop-at-init c = sym (with_roots-none c.args.marks.now)
 
 pub loop-at-preserved : goal.loop-at-preserved
 loop-at-preserved c =
-    with_roots-step c.loop-at.marks c.args.marks.now c.args.roots.now c.loop-at.at c.index-marks-at.result _ c.loop-at.invariant (omega arith) (omega arith)
+    with_roots-step c.loop-at.marks c.args.marks.now c.args.roots.now c.loop-at.at
+    c.index-marks-at.result _ c.loop-at.invariant (omega arith) (omega arith)

@@ -5,4 +5,6 @@ use Rattle.update_session.proofs.replaced.has_file.Given as goal
 
 -- one of what is left has the slot where one of all has it
 abbrev pub invariant-loop-file : goal.invariant-loop-file
-invariant-loop-file l = is_some (named (λ x. x.slot) l.slot (map arc_value (drop l.file-index l.files))) ≡ is_some (named (λ x. x.slot) l.slot (map arc_value l.files))
+invariant-loop-file l =
+    is_some (named (λ x. x.slot) l.slot (map arc_value (drop l.file-index l.files)))
+    ≡ is_some (named (λ x. x.slot) l.slot (map arc_value l.files))

@@ -5,4 +5,6 @@ use Rattle.update_session.proofs.replaced.references_of.Given as goal
 
 -- what is left has what all have
 abbrev pub invariant-loop-dump : goal.invariant-loop-dump
-invariant-loop-dump l = references_in (named (λ x. x.slot) l.slot (map arc_value (drop l.dump-index l.dumps))) ≡ references_in (named (λ x. x.slot) l.slot (map arc_value l.dumps))
+invariant-loop-dump l =
+    references_in (named (λ x. x.slot) l.slot (map arc_value (drop l.dump-index l.dumps)))
+    ≡ references_in (named (λ x. x.slot) l.slot (map arc_value l.dumps))

@@ -6,4 +6,5 @@ use Rattle.update_session.proofs.write.means_records.Goals as goal
 pub returns : goal.returns
 unfolding record_tree
 returns c = λ s answers.
-    c.numbers_to_places.ensures.places (record_at s) (λ address k below is. (leaf_is _ _ _ s address k (answers address below) is).1)
+    c.numbers_to_places.ensures.places (record_at s)
+    (λ address k below is. (leaf_is _ _ _ s address k (answers address below) is).1)

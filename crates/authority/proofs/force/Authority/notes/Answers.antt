@@ -13,8 +13,14 @@ use Rattle.authority.proofs.force.Authority.notes.Goals as goal
 
 pub returns : goal.returns
 returns c =
-    c.in_ok-notes.ensures ∙ ap (λ fs. in_order note_cmp (joint_in (indexed c.self.inside.refs) (map (arc_value {X = FeedParts}) fs))) c.as_slice.ensures.value
-    ∙ order_alike note_cmp note_total note_exact (joint_in (references_in (map (arc_value {X = DumpParts}) c.self.inside.dumps.items)) (map (arc_value {X = FeedParts}) c.self.inside.feeds.items))
-    (joint_in (indexed c.self.inside.refs) (map (arc_value {X = FeedParts}) c.self.inside.feeds.items))
-    (joint_alike (references_in (map (arc_value {X = DumpParts}) c.self.inside.dumps.items)) (indexed c.self.inside.refs) (map (arc_value {X = FeedParts}) c.self.inside.feeds.items) c.self.invariant.speakers)
+    c.in_ok-notes.ensures ∙ ap (λ fs. in_order note_cmp (joint_in (indexed c.self.inside.refs)
+    (map (arc_value {X = FeedParts}) fs))) c.as_slice.ensures.value
+    ∙ order_alike note_cmp note_total note_exact
+    (joint_in (references_in (map (arc_value {X = DumpParts}) c.self.inside.dumps.items))
+    (map (arc_value {X = FeedParts}) c.self.inside.feeds.items))
+    (joint_in (indexed c.self.inside.refs)
+    (map (arc_value {X = FeedParts}) c.self.inside.feeds.items))
+    (joint_alike (references_in (map (arc_value {X = DumpParts}) c.self.inside.dumps.items))
+    (indexed c.self.inside.refs)
+    (map (arc_value {X = FeedParts}) c.self.inside.feeds.items) c.self.invariant.speakers)
     ∙ ap (λ (s : InForce). in_order note_cmp (joint_notes s)) c.self.view_is

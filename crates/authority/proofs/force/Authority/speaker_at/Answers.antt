@@ -5,4 +5,6 @@ use Rattle.authority.proofs.force.Authority.speaker_at.Goals as goal
 
 pub returns : goal.returns
 unfolding speaker
-returns c = c.best_at.ensures ∙ sym (c.self.invariant.speakers.best c.args.at.0) ∙ ap (λ (s : InForce). speaker s c.args.at.0) c.self.view_is
+returns c =
+    c.best_at.ensures ∙ sym (c.self.invariant.speakers.best c.args.at.0)
+    ∙ ap (λ (s : InForce). speaker s c.args.at.0) c.self.view_is

@@ -4,7 +4,9 @@ use Rattle.geo_terms.specs.declared.source.SourceFault.TheVariants.{TooLong, Too
 use Rattle.rpsl_reader.specs.Reading.{Fed, given}
 use Rattle.feed_refs.specs.Dumps.{longest, most}
 use Rattle.feed_refs.specs.Readings.{Kept}
-use Rattle.feed_refs.proofs.FeedLemmas.{cut_is, fault_found, fault_held, fault_read, fed-le-longest, held_on, is_faulty, is_whole, leads_long, leads_many, leads_on, length-cut-le, notes_are, read_on, refs_are}
+use Rattle.feed_refs.proofs.FeedLemmas.{cut_is, fault_found, fault_held, fault_read, fed-le-longest}
+use Rattle.feed_refs.proofs.FeedLemmas.{held_on, is_faulty, is_whole, leads_long, leads_many}
+use Rattle.feed_refs.proofs.FeedLemmas.{leads_on, length-cut-le, notes_are, read_on, refs_are}
 use Rattle.feed_refs.proofs.dump.DumpReader.feed.Goals as goal
 
 pub returns-in-Some-clause-read : goal.returns-in-Some-clause-read
@@ -15,7 +17,9 @@ returns-in-Some-clause-read c = λ ne text h.
       refs = c.self.inside.found.refs.items;
       notes = c.self.inside.found.notes.items;
     } in
-    (fault_read c.self.inside.slot c.in-Some.fault c.args.self.now (is_faulty c.self.inside.slot k c.self.inside.fault c.in-Some.fault c.in-Some.is c.args.self.now c.self.view_is) text c.args.piece.now h).0
+    (fault_read c.self.inside.slot c.in-Some.fault c.args.self.now
+    (is_faulty c.self.inside.slot k c.self.inside.fault c.in-Some.fault c.in-Some.is c.args.self.now
+    c.self.view_is) text c.args.piece.now h).0
 
 pub returns-in-Some-clause-answer : goal.returns-in-Some-clause-answer
 returns-in-Some-clause-answer c = λ ne text h.
@@ -25,7 +29,9 @@ returns-in-Some-clause-answer c = λ ne text h.
       refs = c.self.inside.found.refs.items;
       notes = c.self.inside.found.notes.items;
     } in
-    (fault_read c.self.inside.slot c.in-Some.fault c.args.self.now (is_faulty c.self.inside.slot k c.self.inside.fault c.in-Some.fault c.in-Some.is c.args.self.now c.self.view_is) text c.args.piece.now h).1
+    (fault_read c.self.inside.slot c.in-Some.fault c.args.self.now
+    (is_faulty c.self.inside.slot k c.self.inside.fault c.in-Some.fault c.in-Some.is c.args.self.now
+    c.self.view_is) text c.args.piece.now h).1
 
 pub read-requires : goal.read-requires
 read-requires c =
@@ -63,11 +69,21 @@ invariant_of-self-then-len-gt-MOST c =
     (given k.reader.state c.first_bytes-within.result.now) c.self.inside.selection
     c.items.ensures c.in_ok-progress.ensures.items c.self.invariant.asked
     c.in_ok-more.more.refs.items c.in_ok-more.ensures.refs in
-    let over : most < length k.refs + length c.in_ok-more.more.refs.items = omega (arith, c.if-len-gt-MOST.true, c.len.ensures, c.len-2.ensures, c.self.inside.found.refs.ok, c.in_ok-more.more.refs.ok) in
+    let over : most < length k.refs + length c.in_ok-more.more.refs.items = omega (
+      arith,
+      c.if-len-gt-MOST.true,
+      c.len.ensures,
+      c.len-2.ensures,
+      c.self.inside.found.refs.ok,
+      c.in_ok-more.more.refs.ok,
+    ) in
     record {
       asked = c.self.invariant.asked;
       counted = c.self.invariant.counted;
-      fed = fault_held c.self.inside.slot k c.self.inside.fault c.in_default.is c.args.piece.now TooMany (leads_many c.self.inside.slot k c.args.piece.now c.first_bytes-within.result.now c.in_ok-more.more.refs.items is said over) c.self.invariant.fed;
+      fed =
+          fault_held c.self.inside.slot k c.self.inside.fault c.in_default.is c.args.piece.now
+          TooMany (leads_many c.self.inside.slot k c.args.piece.now c.first_bytes-within.result.now
+          c.in_ok-more.more.refs.items is said over) c.self.invariant.fed;
     }
 
 pub returns-then-len-gt-MOST-clause-read : goal.returns-then-len-gt-MOST-clause-read
@@ -87,8 +103,17 @@ returns-then-len-gt-MOST-clause-read c = λ ne text h.
     (given k.reader.state c.first_bytes-within.result.now) c.self.inside.selection
     c.items.ensures c.in_ok-progress.ensures.items c.self.invariant.asked
     c.in_ok-more.more.refs.items c.in_ok-more.ensures.refs in
-    let over : most < length k.refs + length c.in_ok-more.more.refs.items = omega (arith, c.if-len-gt-MOST.true, c.len.ensures, c.len-2.ensures, c.self.inside.found.refs.ok, c.in_ok-more.more.refs.ok) in
-    (fault_found c.self.inside.slot k c.self.inside.fault c.in_default.is c.args.piece.now TooMany (leads_many c.self.inside.slot k c.args.piece.now c.first_bytes-within.result.now c.in_ok-more.more.refs.items is said over) c.args.self.now c.self.view_is text h).0
+    let over : most < length k.refs + length c.in_ok-more.more.refs.items = omega (
+      arith,
+      c.if-len-gt-MOST.true,
+      c.len.ensures,
+      c.len-2.ensures,
+      c.self.inside.found.refs.ok,
+      c.in_ok-more.more.refs.ok,
+    ) in
+    (fault_found c.self.inside.slot k c.self.inside.fault c.in_default.is c.args.piece.now TooMany
+    (leads_many c.self.inside.slot k c.args.piece.now c.first_bytes-within.result.now
+    c.in_ok-more.more.refs.items is said over) c.args.self.now c.self.view_is text h).0
 
 pub returns-then-len-gt-MOST-clause-answer : goal.returns-then-len-gt-MOST-clause-answer
 returns-then-len-gt-MOST-clause-answer c = λ ne text h.
@@ -107,8 +132,17 @@ returns-then-len-gt-MOST-clause-answer c = λ ne text h.
     (given k.reader.state c.first_bytes-within.result.now) c.self.inside.selection
     c.items.ensures c.in_ok-progress.ensures.items c.self.invariant.asked
     c.in_ok-more.more.refs.items c.in_ok-more.ensures.refs in
-    let over : most < length k.refs + length c.in_ok-more.more.refs.items = omega (arith, c.if-len-gt-MOST.true, c.len.ensures, c.len-2.ensures, c.self.inside.found.refs.ok, c.in_ok-more.more.refs.ok) in
-    (fault_found c.self.inside.slot k c.self.inside.fault c.in_default.is c.args.piece.now TooMany (leads_many c.self.inside.slot k c.args.piece.now c.first_bytes-within.result.now c.in_ok-more.more.refs.items is said over) c.args.self.now c.self.view_is text h).1
+    let over : most < length k.refs + length c.in_ok-more.more.refs.items = omega (
+      arith,
+      c.if-len-gt-MOST.true,
+      c.len.ensures,
+      c.len-2.ensures,
+      c.self.inside.found.refs.ok,
+      c.in_ok-more.more.refs.ok,
+    ) in
+    (fault_found c.self.inside.slot k c.self.inside.fault c.in_default.is c.args.piece.now TooMany
+    (leads_many c.self.inside.slot k c.args.piece.now c.first_bytes-within.result.now
+    c.in_ok-more.more.refs.items is said over) c.args.self.now c.self.view_is text h).1
 
 pub invariant_of-self-then-within-piece : goal.invariant_of-self-then-within-piece
 invariant_of-self-then-within-piece c =
@@ -127,11 +161,21 @@ invariant_of-self-then-within-piece c =
     (given k.reader.state c.first_bytes-within.result.now) c.self.inside.selection
     c.items.ensures c.in_ok-progress.ensures.items c.self.invariant.asked
     c.in_ok-more.more.refs.items c.in_ok-more.ensures.refs in
-    let few : length k.refs + length c.in_ok-more.more.refs.items ≤ most = omega (arith, c.if-len-gt-MOST.false, c.len.ensures, c.len-2.ensures, c.self.inside.found.refs.ok, c.in_ok-more.more.refs.ok) in
+    let few : length k.refs + length c.in_ok-more.more.refs.items ≤ most = omega (
+      arith,
+      c.if-len-gt-MOST.false,
+      c.len.ensures,
+      c.len-2.ensures,
+      c.self.inside.found.refs.ok,
+      c.in_ok-more.more.refs.ok,
+    ) in
     record {
       asked = c.self.invariant.asked;
       counted = c.self.invariant.counted;
-      fed = fault_held c.self.inside.slot k c.self.inside.fault c.in_default.is c.args.piece.now TooLong (leads_long c.self.inside.slot k c.args.piece.now c.first_bytes-within.result.now c.in_ok-more.more.refs.items is said few c.if-within-piece.true) c.self.invariant.fed;
+      fed =
+          fault_held c.self.inside.slot k c.self.inside.fault c.in_default.is c.args.piece.now
+          TooLong (leads_long c.self.inside.slot k c.args.piece.now c.first_bytes-within.result.now
+          c.in_ok-more.more.refs.items is said few c.if-within-piece.true) c.self.invariant.fed;
     }
 
 pub returns-then-within-piece-clause-read : goal.returns-then-within-piece-clause-read
@@ -151,8 +195,18 @@ returns-then-within-piece-clause-read c = λ ne text h.
     (given k.reader.state c.first_bytes-within.result.now) c.self.inside.selection
     c.items.ensures c.in_ok-progress.ensures.items c.self.invariant.asked
     c.in_ok-more.more.refs.items c.in_ok-more.ensures.refs in
-    let few : length k.refs + length c.in_ok-more.more.refs.items ≤ most = omega (arith, c.if-len-gt-MOST.false, c.len.ensures, c.len-2.ensures, c.self.inside.found.refs.ok, c.in_ok-more.more.refs.ok) in
-    (fault_found c.self.inside.slot k c.self.inside.fault c.in_default.is c.args.piece.now TooLong (leads_long c.self.inside.slot k c.args.piece.now c.first_bytes-within.result.now c.in_ok-more.more.refs.items is said few c.if-within-piece.true) c.args.self.now c.self.view_is text h).0
+    let few : length k.refs + length c.in_ok-more.more.refs.items ≤ most = omega (
+      arith,
+      c.if-len-gt-MOST.false,
+      c.len.ensures,
+      c.len-2.ensures,
+      c.self.inside.found.refs.ok,
+      c.in_ok-more.more.refs.ok,
+    ) in
+    (fault_found c.self.inside.slot k c.self.inside.fault c.in_default.is c.args.piece.now TooLong
+    (leads_long c.self.inside.slot k c.args.piece.now c.first_bytes-within.result.now
+    c.in_ok-more.more.refs.items is said few c.if-within-piece.true) c.args.self.now
+    c.self.view_is text h).0
 
 pub returns-then-within-piece-clause-answer : goal.returns-then-within-piece-clause-answer
 returns-then-within-piece-clause-answer c = λ ne text h.
@@ -171,8 +225,18 @@ returns-then-within-piece-clause-answer c = λ ne text h.
     (given k.reader.state c.first_bytes-within.result.now) c.self.inside.selection
     c.items.ensures c.in_ok-progress.ensures.items c.self.invariant.asked
     c.in_ok-more.more.refs.items c.in_ok-more.ensures.refs in
-    let few : length k.refs + length c.in_ok-more.more.refs.items ≤ most = omega (arith, c.if-len-gt-MOST.false, c.len.ensures, c.len-2.ensures, c.self.inside.found.refs.ok, c.in_ok-more.more.refs.ok) in
-    (fault_found c.self.inside.slot k c.self.inside.fault c.in_default.is c.args.piece.now TooLong (leads_long c.self.inside.slot k c.args.piece.now c.first_bytes-within.result.now c.in_ok-more.more.refs.items is said few c.if-within-piece.true) c.args.self.now c.self.view_is text h).1
+    let few : length k.refs + length c.in_ok-more.more.refs.items ≤ most = omega (
+      arith,
+      c.if-len-gt-MOST.false,
+      c.len.ensures,
+      c.len-2.ensures,
+      c.self.inside.found.refs.ok,
+      c.in_ok-more.more.refs.ok,
+    ) in
+    (fault_found c.self.inside.slot k c.self.inside.fault c.in_default.is c.args.piece.now TooLong
+    (leads_long c.self.inside.slot k c.args.piece.now c.first_bytes-within.result.now
+    c.in_ok-more.more.refs.items is said few c.if-within-piece.true) c.args.self.now
+    c.self.view_is text h).1
 
 pub invariant_of-self-2 : goal.invariant_of-self-2
 invariant_of-self-2 c =
@@ -196,7 +260,14 @@ invariant_of-self-2 c =
     (given k.reader.state c.first_bytes-within.result.now) c.self.inside.selection
     c.items.ensures c.in_ok-progress.ensures.items c.self.invariant.asked
     c.in_ok-more.more.notes.items c.in_ok-more.ensures.notes in
-    let few : length k.refs + length c.in_ok-more.more.refs.items ≤ most = omega (arith, c.if-len-gt-MOST.false, c.len.ensures, c.len-2.ensures, c.self.inside.found.refs.ok, c.in_ok-more.more.refs.ok) in
+    let few : length k.refs + length c.in_ok-more.more.refs.items ≤ most = omega (
+      arith,
+      c.if-len-gt-MOST.false,
+      c.len.ensures,
+      c.len-2.ensures,
+      c.self.inside.found.refs.ok,
+      c.in_ok-more.more.refs.ok,
+    ) in
     let next : Kept =
     record {
       reader = c.accept.new.self;
@@ -210,7 +281,8 @@ invariant_of-self-2 c =
     c.in_ok-more.more.refs.items is said few c.if-within-piece.false
     c.in_ok-more.more.notes.items told next fed
     (ap (λ (r : Fed). r.state) c.in_ok-accept.ensures.ok ∙ c.in_ok-progress.ensures.state)
-    (c.join.ensures.refs ∙ ap (λ t. t ++ c.in_ok-more.more.refs.items) c.reserve.ensures.refs) (c.join.ensures.notes ∙ ap (λ t. t ++ c.in_ok-more.more.notes.items) c.reserve.ensures.notes) in
+    (c.join.ensures.refs ∙ ap (λ t. t ++ c.in_ok-more.more.refs.items) c.reserve.ensures.refs)
+    (c.join.ensures.notes ∙ ap (λ t. t ++ c.in_ok-more.more.notes.items) c.reserve.ensures.notes) in
     let short : k.reader.fed ≤ longest =
     fed-le-longest c.self.inside.slot k c.self.inside.fault c.in_default.is
     c.self.invariant.fed in
@@ -220,7 +292,9 @@ invariant_of-self-2 c =
     record {
       asked = c.self.invariant.asked;
       counted = omega (arith, fed, c.self.invariant.counted, ap length whole.1);
-      fed = held_on c.self.inside.slot k c.self.inside.fault c.in_default.is c.args.piece.now next leads c.self.invariant.fed;
+      fed =
+          held_on c.self.inside.slot k c.self.inside.fault c.in_default.is c.args.piece.now next
+          leads c.self.invariant.fed;
     }
 
 pub returns-clause-read : goal.returns-clause-read
@@ -245,7 +319,14 @@ returns-clause-read c = λ ne text h.
     (given k.reader.state c.first_bytes-within.result.now) c.self.inside.selection
     c.items.ensures c.in_ok-progress.ensures.items c.self.invariant.asked
     c.in_ok-more.more.notes.items c.in_ok-more.ensures.notes in
-    let few : length k.refs + length c.in_ok-more.more.refs.items ≤ most = omega (arith, c.if-len-gt-MOST.false, c.len.ensures, c.len-2.ensures, c.self.inside.found.refs.ok, c.in_ok-more.more.refs.ok) in
+    let few : length k.refs + length c.in_ok-more.more.refs.items ≤ most = omega (
+      arith,
+      c.if-len-gt-MOST.false,
+      c.len.ensures,
+      c.len-2.ensures,
+      c.self.inside.found.refs.ok,
+      c.in_ok-more.more.refs.ok,
+    ) in
     let next : Kept =
     record {
       reader = c.accept.new.self;
@@ -259,8 +340,10 @@ returns-clause-read c = λ ne text h.
     c.in_ok-more.more.refs.items is said few c.if-within-piece.false
     c.in_ok-more.more.notes.items told next fed
     (ap (λ (r : Fed). r.state) c.in_ok-accept.ensures.ok ∙ c.in_ok-progress.ensures.state)
-    (c.join.ensures.refs ∙ ap (λ t. t ++ c.in_ok-more.more.refs.items) c.reserve.ensures.refs) (c.join.ensures.notes ∙ ap (λ t. t ++ c.in_ok-more.more.notes.items) c.reserve.ensures.notes) in
-    (read_on c.self.inside.slot k c.self.inside.fault c.in_default.is c.args.piece.now next leads c.args.self.now c.self.view_is text h).0
+    (c.join.ensures.refs ∙ ap (λ t. t ++ c.in_ok-more.more.refs.items) c.reserve.ensures.refs)
+    (c.join.ensures.notes ∙ ap (λ t. t ++ c.in_ok-more.more.notes.items) c.reserve.ensures.notes) in
+    (read_on c.self.inside.slot k c.self.inside.fault c.in_default.is c.args.piece.now next leads
+    c.args.self.now c.self.view_is text h).0
 
 pub returns-clause-answer : goal.returns-clause-answer
 returns-clause-answer c = λ ne text h.
@@ -284,7 +367,14 @@ returns-clause-answer c = λ ne text h.
     (given k.reader.state c.first_bytes-within.result.now) c.self.inside.selection
     c.items.ensures c.in_ok-progress.ensures.items c.self.invariant.asked
     c.in_ok-more.more.notes.items c.in_ok-more.ensures.notes in
-    let few : length k.refs + length c.in_ok-more.more.refs.items ≤ most = omega (arith, c.if-len-gt-MOST.false, c.len.ensures, c.len-2.ensures, c.self.inside.found.refs.ok, c.in_ok-more.more.refs.ok) in
+    let few : length k.refs + length c.in_ok-more.more.refs.items ≤ most = omega (
+      arith,
+      c.if-len-gt-MOST.false,
+      c.len.ensures,
+      c.len-2.ensures,
+      c.self.inside.found.refs.ok,
+      c.in_ok-more.more.refs.ok,
+    ) in
     let next : Kept =
     record {
       reader = c.accept.new.self;
@@ -298,5 +388,7 @@ returns-clause-answer c = λ ne text h.
     c.in_ok-more.more.refs.items is said few c.if-within-piece.false
     c.in_ok-more.more.notes.items told next fed
     (ap (λ (r : Fed). r.state) c.in_ok-accept.ensures.ok ∙ c.in_ok-progress.ensures.state)
-    (c.join.ensures.refs ∙ ap (λ t. t ++ c.in_ok-more.more.refs.items) c.reserve.ensures.refs) (c.join.ensures.notes ∙ ap (λ t. t ++ c.in_ok-more.more.notes.items) c.reserve.ensures.notes) in
-    (read_on c.self.inside.slot k c.self.inside.fault c.in_default.is c.args.piece.now next leads c.args.self.now c.self.view_is text h).1
+    (c.join.ensures.refs ∙ ap (λ t. t ++ c.in_ok-more.more.refs.items) c.reserve.ensures.refs)
+    (c.join.ensures.notes ∙ ap (λ t. t ++ c.in_ok-more.more.notes.items) c.reserve.ensures.notes) in
+    (read_on c.self.inside.slot k c.self.inside.fault c.in_default.is c.args.piece.now next leads
+    c.args.self.now c.self.view_is text h).1

@@ -6,5 +6,7 @@ use Rattle.feed_refs.proofs.found.Found.of.Given as goal
 
 abbrev pub invariant-loop-item : goal.invariant-loop-item
 invariant-loop-item l =
-    (l.found.refs.items ++ flat_map (references_of l.slot) (drop l.item-index l.items) ≡ flat_map (references_of l.slot) l.items)
-    × (l.found.notes.items ++ flat_map (notes_of l.slot) (drop l.item-index l.items) ≡ flat_map (notes_of l.slot) l.items)
+    (l.found.refs.items ++ flat_map (references_of l.slot) (drop l.item-index l.items)
+    ≡ flat_map (references_of l.slot) l.items)
+    × (l.found.notes.items ++ flat_map (notes_of l.slot) (drop l.item-index l.items)
+    ≡ flat_map (notes_of l.slot) l.items)

@@ -7,6 +7,7 @@ use Rattle.geo_outside.proofs.mem_folder.MemFolder.new.Goals as goal
 
 pub returns-clause-told : goal.returns-clause-told
 returns-clause-told c = λ i. record {
-  held = (ap (λ (ws : List Put). files_after (pairs_of ws)) c.new.ensures.items ∙ files_after_none) i;
+  held =
+      (ap (λ (ws : List Put). files_after (pairs_of ws)) c.new.ensures.items ∙ files_after_none) i;
   puts = ap pairs_of c.new-2.ensures.items i;
 }

@@ -6,4 +6,5 @@ use Rattle.geo_outside.proofs.mem_folder.MemFolderFolder.read_at.Goals as goal
 pub returns-clause-bytes : goal.returns-clause-bytes
 returns-clause-bytes c file held =
     let found : Some c.in-Some.file.now ≡ Some file = grind arith in
-    copied_from c.in-Some.file.now file _ _ _ _ _ found c.self.invariant c.requires c.copy_from-n.ensures.amount c.copy_from-n.ensures.bytes
+    copied_from c.in-Some.file.now file _ _ _ _ _ found c.self.invariant c.requires
+    c.copy_from-n.ensures.amount c.copy_from-n.ensures.bytes

@@ -10,9 +10,12 @@ use Rattle.geofeed_cmd.proofs.commands.build.build.Goals as goal
 pub returns-in-Ok-clause-comes : goal.returns-in-Ok-clause-comes
 returns-in-Ok-clause-comes g c =
     λ first told.
-    let plan = ap (job_plan (build c.args.name.now) first c.args.name.now) (c.in-Ok.ensures.job first told) in
-    let comes = c.do_job.ensures.comes first (c.job_in.ensures.same ∙ told) (Some (build c.args.name.now)) plan in
-    comes_earlier c.do_job.result (Some (build c.args.name.now)) first _ _ _ _ _ c.job_in.ensures.put_faults
+    let plan =
+    ap (job_plan (build c.args.name.now) first c.args.name.now) (c.in-Ok.ensures.job first told) in
+    let comes = c.do_job.ensures.comes first (c.job_in.ensures.same ∙ told)
+    (Some (build c.args.name.now)) plan in
+    comes_earlier c.do_job.result
+    (Some (build c.args.name.now)) first _ _ _ _ _ c.job_in.ensures.put_faults
     (rw c.job_in.ensures.same at comes)
 
 pub returns-in-Err-clause-comes : goal.returns-in-Err-clause-comes
@@ -21,6 +24,7 @@ returns-in-Err-clause-comes g c =
     let steps : c.args.steps.now ≤ c.args.steps.now = omega arith in
     rw c.stop_at.ensures.status
     (comes_hindered (build c.args.name.now) c.args.name.now first _ _ _ _ refl c.in-Err.why
-    (hindered_job (build c.args.name.now) first c.args.name.now c.in-Err.why (map.get first.held c.args.name.now)
+    (hindered_job (build c.args.name.now) first c.args.name.now c.in-Err.why
+    (map.get first.held c.args.name.now)
     (c.in-Err.ensures.none first told))
     (c.job_in.ensures.same ∙ told) c.stop_at.ensures.closed steps)

@@ -20,10 +20,14 @@ returns-in-Ok-print_why-clause-comes g c =
     let at = c.args.at.0 in
     let text = λ (w : World). explanation at (reasons_at w.session.state.sources at) in
     let all = c.in-Ok.ensures.ok first told in
-    let printed = subst (λ (s : State). Prints (O.written c.sources_of.new.out) (O.written c.print_why.new.out)
-    (explanation at (reasons_at s.sources at))) all.stands.stands.state c.in-Ok-print_why.ensures.printed in
-    comes_shown text command first (source_moves c.args.job.steps) (start_of first c.args.job) plan refl _ _ _ all
-    (seen (F.told c.sources_of.new.folder) (O.written c.print_why.new.out) (O.faults c.print_why.new.out) c.sources_of.new.steps)
+    let printed =
+    subst (λ (s : State). Prints (O.written c.sources_of.new.out) (O.written c.print_why.new.out)
+    (explanation at (reasons_at s.sources at))) all.stands.stands.state
+    c.in-Ok-print_why.ensures.printed in
+    comes_shown text command first (source_moves c.args.job.steps)
+    (start_of first c.args.job) plan refl _ _ _ all
+    (seen (F.told c.sources_of.new.folder) (O.written c.print_why.new.out)
+    (O.faults c.print_why.new.out) c.sources_of.new.steps)
     refl refl printed
 
 pub returns-clause-comes : goal.returns-clause-comes
@@ -35,13 +39,16 @@ returns-clause-comes g c =
     let text = λ (w : World). explanation at (reasons_at w.session.state.sources at) in
     let all = c.in-Ok.ensures.ok first told in
     let why = c.in-Err-print_why.why in
-    let tail = subst (λ (s : State). Tail why [] (explanation at (reasons_at s.sources at)) (O.written c.sources_of.new.out)
+    let tail = subst (λ (s : State). Tail why [] (explanation at (reasons_at s.sources at))
+    (O.written c.sources_of.new.out)
     (O.written c.print_why.new.out)) all.stands.stands.state c.in-Err-print_why.ensures.tail in
     let before = c.sources_of.ensures.faults in
     let later = c.print_why.ensures.faults in
     rw c.status_of.ensures
-    (comes_unshown text command first (source_moves c.args.job.steps) (start_of first c.args.job) plan refl _ _ _ all
-    (seen (F.told c.sources_of.new.folder) (O.written c.print_why.new.out) (O.faults c.print_why.new.out) c.sources_of.new.steps)
+    (comes_unshown text command first (source_moves c.args.job.steps)
+    (start_of first c.args.job) plan refl _ _ _ all
+    (seen (F.told c.sources_of.new.folder) (O.written c.print_why.new.out)
+    (O.faults c.print_why.new.out) c.sources_of.new.steps)
     refl refl why c.in-Err-print_why.ensures.causes tail (omega arith) _ _
     (λ sink. let rose : Rose (O.faults c.sources_of.new.out) (O.faults c.print_why.new.out) =
     c.in-Err-print_why.ensures.sink_failed (cc) in omega arith))

@@ -16,7 +16,8 @@ pub returns-clause-comes : goal.returns-clause-comes
 returns-clause-comes g c =
     λ first told.
     let start = gen_start c.args.lines first in
-    let begun = c.standing_stays.ensures.begins 1700000000 default_name c.in-Ok-gen_session.session c.in-Ok-gen_session.ensures in
+    let begun = c.standing_stays.ensures.begins 1700000000 default_name c.in-Ok-gen_session.session
+    c.in-Ok-gen_session.ensures in
     let list = c.as_slice-2.ensures.value ∙ c.in-Ok-gen_steps.ensures in
     let files = c.as_slice.ensures.value ∙ c.in-Ok.ensures in
     c.do_whole.ensures.comes first (Some (gen c.args.lines c.args.name.now)) start
@@ -49,7 +50,8 @@ pub returns-clause-ends : goal.returns-clause-ends
 returns-clause-ends g c =
     λ first told.
     let start = gen_start c.args.lines first in
-    let begun = c.standing_stays.ensures.begins 1700000000 default_name c.in-Ok-gen_session.session c.in-Ok-gen_session.ensures in
+    let begun = c.standing_stays.ensures.begins 1700000000 default_name c.in-Ok-gen_session.session
+    c.in-Ok-gen_session.ensures in
     let list = c.as_slice-2.ensures.value ∙ c.in-Ok-gen_steps.ensures in
     let files = c.as_slice.ensures.value ∙ c.in-Ok.ensures in
     let comes = c.do_whole.ensures.comes first (Some (gen c.args.lines c.args.name.now)) start
@@ -57,4 +59,5 @@ returns-clause-ends g c =
     (record { tells = told; aside = sym files; stands = begun }) refl refl in
     gen_ends c.args.lines c.args.name.now first c.requires.few c.do_whole.result
     (answered c.do_whole.result (Some (gen c.args.lines c.args.name.now)) first _ _ _ _ comes)
-    (λ fault. (c.do_whole.ensures.apart_only (λ none. some_apart c.args.lines (sym files ∙ none))).0 fault)
+    (λ fault.
+    (c.do_whole.ensures.apart_only (λ none. some_apart c.args.lines (sym files ∙ none))).0 fault)

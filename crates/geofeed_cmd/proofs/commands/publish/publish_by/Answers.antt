@@ -17,10 +17,13 @@ returns-in-Ok-write_feed-clause-comes g c =
     let O = g.O.Sink in
     let last = shows (publishing c.args.block c.args.file.now) in
     let all = c.in-Ok.ensures.ok first told in
-    comes_last command first (source_moves c.args.job.steps) last (start_of first c.args.job) plan refl _ _ _ all
+    comes_last command first (source_moves c.args.job.steps) last
+    (start_of first c.args.job) plan refl _ _ _ all
     c.write_feed.new.session
-    (seen (F.told c.write_feed.new.folder) (O.written c.write_feed.new.out) (O.faults c.write_feed.new.out) c.write_feed.new.steps)
-    (c.write_feed.ensures.paid all.world all.stands) (c.in-Ok-write_feed.ensures.done all.world all.stands)
+    (seen (F.told c.write_feed.new.folder) (O.written c.write_feed.new.out)
+    (O.faults c.write_feed.new.out) c.write_feed.new.steps)
+    (c.write_feed.ensures.paid all.world all.stands)
+    (c.in-Ok-write_feed.ensures.done all.world all.stands)
 
 pub returns-clause-comes : goal.returns-clause-comes
 returns-clause-comes g c =
@@ -35,12 +38,17 @@ returns-clause-comes g c =
     let then = c.write_feed.ensures.faults in
     let later = c.stop_at.ensures.faults in
     rw c.stop_at.ensures.status
-    (comes_unmade command first (source_moves c.args.job.steps) last (start_of first c.args.job) plan refl _ _ _ all why
-    (seen (F.told c.write_feed.new.folder) (O.written c.write_feed.new.out) (O.faults c.write_feed.new.out) c.write_feed.new.steps)
-    (O.written c.stop_at.new.out) (O.faults c.stop_at.new.out) (stop_line why 0 c.args.file.now) refl
-    (c.write_feed.ensures.paid all.world all.stands) (c.in-Err-write_feed.ensures.failed all.world all.stands)
+    (comes_unmade command first (source_moves c.args.job.steps) last
+    (start_of first c.args.job) plan refl _ _ _ all why
+    (seen (F.told c.write_feed.new.folder) (O.written c.write_feed.new.out)
+    (O.faults c.write_feed.new.out) c.write_feed.new.steps)
+    (O.written c.stop_at.new.out) (O.faults c.stop_at.new.out)
+    (stop_line why 0 c.args.file.now) refl
+    (c.write_feed.ensures.paid all.world all.stands)
+    (c.in-Err-write_feed.ensures.failed all.world all.stands)
     c.stop_at.ensures.closed (omega arith) _ _
-    (λ put. let rose : Rose (F.put_faults c.sources_of.new.folder) (F.put_faults c.write_feed.new.folder) =
+    (λ put.
+    let rose : Rose (F.put_faults c.sources_of.new.folder) (F.put_faults c.write_feed.new.folder) =
     c.in-Err-write_feed.ensures.put_failed (cc) in omega arith)
     (λ sink. let rose : Rose (O.faults c.sources_of.new.out) (O.faults c.write_feed.new.out) =
     c.in-Err-write_feed.ensures.sink_failed (cc) in omega arith))

@@ -15,15 +15,27 @@ use Rattle.kept_sources.proofs.speaking.Speaking.push_inside.Goals as goal
 
 pub push_feeds_inside-requires-clause-ascending : goal.push_feeds_inside-requires-clause-ascending
 push_feeds_inside-requires-clause-ascending c =
-    subst (λ (fs : List (Arc FeedPlaces Global)). All (λ (f : Arc FeedPlaces Global). IsStrictlyIncreasing (kept_places f)) fs) (sym c.as_slice.ensures.value)
-    (shared_ascend (arc_value {X = FeedPlaces}) c.self.inside.authority.feeds c.self.inside.feeds.items c.self.invariant.of_feeds)
+    subst (λ (fs : List (Arc FeedPlaces Global)).
+    All (λ (f : Arc FeedPlaces Global). IsStrictlyIncreasing (kept_places f)) fs)
+    (sym c.as_slice.ensures.value)
+    (shared_ascend (arc_value {X = FeedPlaces}) c.self.inside.authority.feeds
+    c.self.inside.feeds.items c.self.invariant.of_feeds)
 
 pub returns : goal.returns
 returns c =
-    let first : AreCutsInside (map (λ (r : Reference). r.range) (references c.args.self.now)) c.args.bounds.now c.push_inside.new.found.items =
-    gathered [] (map (λ (r : Reference). r.range) (references c.args.self.now)) c.args.bounds.now c.kept_references.result.now c.args.places.now.items c.push_inside.new.found.items
-    (subst (λ (xs : List ℕ). AreCutsInside [] c.args.bounds.now xs) (sym c.requires.none) (none_gathered c.args.bounds.now)) c.kept_references.ensures c.in_ok-push_inside.ensures in
-    gathered_feeds (arc_value {X = FeedPlaces}) (map (λ (r : Reference). r.range) (references c.args.self.now)) c.args.bounds.now c.args.self.now.feeds c.self.inside.feeds.items c.push_inside.new.found.items c.push_feeds_inside.new.places.items
-    first (subst (λ (s : InForce). AllZip HasCutsOf s.feeds (map (arc_value {X = FeedPlaces}) c.self.inside.feeds.items)) c.self.view_is c.self.invariant.of_feeds)
+    let first : AreCutsInside (map (λ (r : Reference). r.range) (references c.args.self.now))
+    c.args.bounds.now c.push_inside.new.found.items =
+    gathered [] (map (λ (r : Reference). r.range) (references c.args.self.now)) c.args.bounds.now
+    c.kept_references.result.now c.args.places.now.items c.push_inside.new.found.items
+    (subst (λ (xs : List ℕ). AreCutsInside [] c.args.bounds.now xs) (sym c.requires.none)
+    (none_gathered c.args.bounds.now)) c.kept_references.ensures c.in_ok-push_inside.ensures in
+    gathered_feeds (arc_value {X = FeedPlaces}) (map (λ (r : Reference). r.range)
+    (references c.args.self.now)) c.args.bounds.now c.args.self.now.feeds c.self.inside.feeds.items
+    c.push_inside.new.found.items c.push_feeds_inside.new.places.items
+    first (subst (λ (s : InForce). AllZip HasCutsOf s.feeds (map (arc_value {X = FeedPlaces})
+    c.self.inside.feeds.items)) c.self.view_is c.self.invariant.of_feeds)
     (λ a.
-    subst (λ (fs : List (Arc FeedPlaces Global)). Contains c.push_feeds_inside.new.places.items a ↔ (Contains c.push_inside.new.found.items a ⊎ (Any (λ (f : Arc FeedPlaces Global). Contains (kept_places f) a) fs × Any (λ r. IsWithin r a) c.args.bounds.now))) c.as_slice.ensures.value (c.in_ok-push_feeds_inside.ensures a))
+    subst (λ (fs : List (Arc FeedPlaces Global)). Contains c.push_feeds_inside.new.places.items a
+    ↔ (Contains c.push_inside.new.found.items a ⊎ (Any (λ (f : Arc FeedPlaces Global).
+    Contains (kept_places f) a) fs × Any (λ r. IsWithin r a) c.args.bounds.now)))
+    c.as_slice.ensures.value (c.in_ok-push_feeds_inside.ensures a))

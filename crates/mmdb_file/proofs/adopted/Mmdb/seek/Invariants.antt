@@ -7,8 +7,10 @@ use Rattle.mmdb_file.proofs.adopted.Mmdb.seek.Given as goal
 abbrev pub invariant-loop-record : goal.invariant-loop-record
 invariant-loop-record l = record {
   few : l.left ≤ 128;
-  same : seek (record_at l.self-inside.bits l.self-inside.tree.now) l.self-inside.nodes l.«record» (bits_of l.left l.at.0)
-      ≡ seek (record_at l.self-inside.bits l.self-inside.tree.now) l.self-inside.nodes 0 (bits_of 128 l.at.0);
+  same : seek (record_at l.self-inside.bits l.self-inside.tree.now) l.self-inside.nodes l.«record»
+      (bits_of l.left l.at.0)
+      ≡ seek (record_at l.self-inside.bits l.self-inside.tree.now) l.self-inside.nodes 0
+      (bits_of 128 l.at.0);
 }
 
 abbrev pub decreases-loop-record : goal.decreases-loop-record

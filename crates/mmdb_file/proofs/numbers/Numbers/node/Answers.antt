@@ -4,4 +4,6 @@ use Rattle.mmdb_file.proofs.WritingLemmas.{none_is_len}
 use Rattle.mmdb_file.proofs.numbers.Numbers.node.Goals as goal
 
 pub returns-in-None : goal.returns-in-None
-returns-in-None c = c.len.ensures.len ∙ sym (none_is_len (same_id c.args.id) c.args.self.now.nodes (sym c.index_of.ensures ∙ c.in-None.is))
+returns-in-None c =
+    c.len.ensures.len ∙ sym
+    (none_is_len (same_id c.args.id) c.args.self.now.nodes (sym c.index_of.ensures ∙ c.in-None.is))

@@ -9,4 +9,6 @@ use Rattle.precedence.proofs.sources.Sources.drop_rpsl.Goals as goal
 
 pub returns-clause-not_there : goal.returns-clause-not_there
 returns-clause-not_there c =
-    subst (λ (s : InForce). IfErr c.drop_dump.result (λ (fault : DropFault). fault ≡ DropFault.NotThere ↔ (find (λ t. same_text t.slot c.args.slot.now) s.dumps ≡ None))) c.self.view_is c.drop_dump.ensures.not_there
+    subst (λ (s : InForce). IfErr c.drop_dump.result (λ (fault : DropFault).
+    fault ≡ DropFault.NotThere ↔ (find (λ t. same_text t.slot c.args.slot.now) s.dumps ≡ None)))
+    c.self.view_is c.drop_dump.ensures.not_there

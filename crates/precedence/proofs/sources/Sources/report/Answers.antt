@@ -13,11 +13,21 @@ use Rattle.precedence.proofs.sources.Sources.report.Goals as goal
 pub returns : goal.returns
 returns c =
     let joint : c.in_ok-joint.joint.items ≡ in_order note_cmp (joint_notes c.args.self.now) =
-    c.in_ok-joint.ensures ∙ ap (λ (s : InForce). in_order note_cmp (joint_notes s)) c.authority.ensures ∙ ap (λ (s : InForce). in_order note_cmp (joint_notes s)) c.self.view_is in
-    let read : c.push_reader_notes.new.notes.items ≡ reader_notes c.args.self.now = c.in_ok-push_reader_notes.ensures ∙ ap (λ (ns : List Note). ns ++ reader_notes c.args.self.now) c.new-notes.ensures.items in
-    let all : c.push_alias_notes.new.notes.items ≡ (reader_notes c.args.self.now ++ in_order note_cmp (joint_notes c.args.self.now)) ++ alias_notes c.args.self.now =
+    c.in_ok-joint.ensures
+    ∙ ap (λ (s : InForce). in_order note_cmp (joint_notes s)) c.authority.ensures
+    ∙ ap (λ (s : InForce). in_order note_cmp (joint_notes s)) c.self.view_is in
+    let read : c.push_reader_notes.new.notes.items ≡ reader_notes c.args.self.now =
+    c.in_ok-push_reader_notes.ensures
+    ∙ ap (λ (ns : List Note). ns ++ reader_notes c.args.self.now) c.new-notes.ensures.items in
+    let all : c.push_alias_notes.new.notes.items ≡ (reader_notes c.args.self.now
+    ++ in_order note_cmp (joint_notes c.args.self.now)) ++ alias_notes c.args.self.now =
     c.in_ok-push_alias_notes.ensures ∙ ap (λ (ns : List Note). ns ++ alias_notes c.args.self.now)
-    (c.in_ok-append.ensures.items ∙ ap (λ (ns : List Note). ns ++ c.in_ok-joint.joint.items) read ∙ ap (λ (ns : List Note). reader_notes c.args.self.now ++ ns) joint) in
-    let sorted : IsSortedBy (λ (x y : Note). is_lt (note_cmp x y)) c.sort_unstable_by.new.self.items =
-    c.sort_unstable_by.ensures.sorted (λ (x y : Note). is_lt (note_cmp x y)) (ranks_by note_total (λ (n : Note). n)) (answers_always _ _ _ (λ f a r q k. let e : r ≡ note_cmp a.0.now a.1.0.now = search rules in ap is_lt e)) in
-    report_is_sorted c.args.self.now c.push_alias_notes.new.notes.items c.sort_unstable_by.new.self.items all c.sort_unstable_by.ensures.permutation sorted
+    (c.in_ok-append.ensures.items ∙ ap (λ (ns : List Note). ns ++ c.in_ok-joint.joint.items) read
+    ∙ ap (λ (ns : List Note). reader_notes c.args.self.now ++ ns) joint) in
+    let sorted : IsSortedBy
+    (λ (x y : Note). is_lt (note_cmp x y)) c.sort_unstable_by.new.self.items =
+    c.sort_unstable_by.ensures.sorted (λ (x y : Note). is_lt (note_cmp x y))
+    (ranks_by note_total (λ (n : Note). n)) (answers_always _ _ _
+    (λ f a r q k. let e : r ≡ note_cmp a.0.now a.1.0.now = search rules in ap is_lt e)) in
+    report_is_sorted c.args.self.now c.push_alias_notes.new.notes.items
+    c.sort_unstable_by.new.self.items all c.sort_unstable_by.ensures.permutation sorted

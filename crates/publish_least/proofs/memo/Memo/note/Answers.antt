@@ -7,4 +7,5 @@ pub returns : goal.returns
 returns c =
     IsNoted-from_updates _ _ c.args.id c.args.set.items refl
     (ap (option_map (λ v. v.items)) c.in_ok-insert.ensures.updates.1)
-    (λ other differs. ap (option_map (λ v. v.items)) (c.in_ok-insert.ensures.updates.2 other differs))
+    (λ other differs. ap (option_map (λ v. v.items))
+    (c.in_ok-insert.ensures.updates.2 other differs))

@@ -4,5 +4,7 @@ use Rattle.publish_least.proofs.memo.Memo.place_of.Goals as goal
 
 pub returns-in-Leaf : goal.returns-in-Leaf
 returns-in-Leaf c =
-    HasPlace-found c.args.self.now.order.keys c.args.rec c.in-Leaf.leaf c.get_index_of.result c.unwrap_or.result c.in-Leaf.is (known_leaf (table_of c.args.self.now) c.args.rec c.in-Leaf.leaf c.in-Leaf.is c.requires)
+    HasPlace-found c.args.self.now.order.keys
+    c.args.rec c.in-Leaf.leaf c.get_index_of.result c.unwrap_or.result c.in-Leaf.is
+    (known_leaf (table_of c.args.self.now) c.args.rec c.in-Leaf.leaf c.in-Leaf.is c.requires)
     c.get_index_of.ensures.index c.get_index_of.ensures.found c.unwrap_or.ensures

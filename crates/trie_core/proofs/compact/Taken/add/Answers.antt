@@ -6,12 +6,17 @@ use Rattle.trie_core.proofs.compact.Taken.add.Goals.{then-is_new+in_ok-insert, e
 pub returns : goal.returns
 returns c =
     let at : slice_get c.insert_full.new.self.keys c.in_ok-index.index ≡ Some c.args.id =
-    c.in_ok-index.ensures.stored.1 ∙ ap Some (sym (same_id c.args.id c.in_ok-index.ensures.stored.0 c.in_ok-index.ensures.stored.2)) in
+    c.in_ok-index.ensures.stored.1 ∙ ap Some
+    (sym (same_id c.args.id c.in_ok-index.ensures.stored.0 c.in_ok-index.ensures.stored.2)) in
     elim c.if-is_new.branch [
       | then-is_new+in_ok-insert w ↦
-          rw w.self-is (IsNumbered-new c.args.self.now.nodes.keys c.insert_full.new.self.keys c.args.self.now.pairs.keys w.insert.new.self.keys c.args.id c.args.pair c.in_ok-index.is_new c.in_ok-index.index
-          w.if-is_new.true c.in_ok-index.ensures.added c.in_ok-index.ensures.keys at w.in_ok-insert.ensures.keys)
+          rw w.self-is (IsNumbered-new c.args.self.now.nodes.keys c.insert_full.new.self.keys
+          c.args.self.now.pairs.keys w.insert.new.self.keys c.args.id c.args.pair
+          c.in_ok-index.is_new c.in_ok-index.index
+          w.if-is_new.true c.in_ok-index.ensures.added c.in_ok-index.ensures.keys at
+          w.in_ok-insert.ensures.keys)
       | else-is_new w ↦
-          rw w.self-is (IsNumbered-old c.args.self.now.nodes.keys c.insert_full.new.self.keys c.args.self.now.pairs.keys c.args.id c.args.pair c.in_ok-index.is_new c.in_ok-index.index
+          rw w.self-is (IsNumbered-old c.args.self.now.nodes.keys c.insert_full.new.self.keys
+          c.args.self.now.pairs.keys c.args.id c.args.pair c.in_ok-index.is_new c.in_ok-index.index
           w.if-is_new.false c.in_ok-index.ensures.added c.in_ok-index.ensures.keys at)
     ]

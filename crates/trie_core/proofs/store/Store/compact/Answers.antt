@@ -1,27 +1,42 @@
-use Rattle.std.proofs.Common.{◌≡◌, ◌<◌, ◌≤◌, ◌+◌, ◌∙◌, ◌++◌, [], ◌∷◌, List, length, take, get_or, sym, ap, subst, arith}
+use Rattle.std.proofs.Common.{◌≡◌, ◌<◌, ◌≤◌, ◌+◌, ◌∙◌, ◌++◌, [], ◌∷◌, List, length, take, get_or}
+use Rattle.std.proofs.Common.{sym, ap, subst, arith}
 use Rattle.std.proofs.lemmas.Grind.{take_at_read}
 use Rattle.std.proofs.lemmas.List.{take_all}
 use Rattle.trie_core.specs.declared.node.Rec.TheVariants.{Leaf}
 use Rattle.trie_core.specs.declared.node.Root.{Root}
 use Rattle.trie_core.specs.Compact.{trees_of_roots, HoldsExactly, AreRootsTaken}
-use Rattle.trie_core.proofs.CompactLemmas.{AreRootsTaken-nil, HoldsExactly-from_taken, length-le_from_taken}
+use Rattle.trie_core.proofs.CompactLemmas.{AreRootsTaken-nil, HoldsExactly-from_taken}
+use Rattle.trie_core.proofs.CompactLemmas.{length-le_from_taken}
 use Rattle.trie_core.proofs.store.Store.compact.Goals as goal
 
 pub loop-root-init : goal.loop-root-init
-loop-root-init c = rw (c.new-taken.ensures.nodes, c.new-taken.ensures.pairs, c.in_ok-made.ensures.items) (AreRootsTaken-nil c.args.self.now)
+loop-root-init c = rw (
+  c.new-taken.ensures.nodes,
+  c.new-taken.ensures.pairs,
+  c.in_ok-made.ensures.items,
+) (AreRootsTaken-nil c.args.self.now)
 
 pub loop-root-preserved : goal.loop-root-preserved
 loop-root-preserved c =
     let within : c.loop-root.root-index < length c.args.roots.now = c.loop-root-test.true in
-    let more = take_at_read c.args.roots.now c.loop-root.root-index (record { 0 = Leaf 0 }) within in
-    subst (λ (rs : List Root). AreRootsTaken c.args.self.now c.take_root.new.taken.nodes.keys c.take_root.new.taken.pairs.keys rs c.take_root.new.made.items) (sym more.1)
-    (c.in_ok-take_root.ensures.roots (take c.loop-root.root-index c.args.roots.now) c.loop-root.invariant)
+    let more =
+    take_at_read c.args.roots.now c.loop-root.root-index (record { 0 = Leaf 0 }) within in
+    subst (λ (rs : List Root). AreRootsTaken c.args.self.now c.take_root.new.taken.nodes.keys
+    c.take_root.new.taken.pairs.keys rs c.take_root.new.made.items) (sym more.1)
+    (c.in_ok-take_root.ensures.roots (take c.loop-root.root-index c.args.roots.now)
+    c.loop-root.invariant)
 
 pub returns-clause-exact : goal.returns-clause-exact
 returns-clause-exact c =
-    let all : take c.loop-root.root-index c.args.roots.now ≡ c.args.roots.now = take_all c.loop-root.root-index c.args.roots.now c.loop-root-test.false in
-    subst (λ (rs : List Root). HoldsExactly c.loop-root.taken.pairs.keys (trees_of_roots c.args.self.now rs)) all
-    (HoldsExactly-from_taken c.args.self.now c.loop-root.taken.nodes.keys c.loop-root.taken.pairs.keys (take c.loop-root.root-index c.args.roots.now) c.loop-root.made.items c.loop-root.invariant)
+    let all : take c.loop-root.root-index c.args.roots.now ≡ c.args.roots.now =
+    take_all c.loop-root.root-index c.args.roots.now c.loop-root-test.false in
+    subst (λ (rs : List Root). HoldsExactly c.loop-root.taken.pairs.keys
+    (trees_of_roots c.args.self.now rs)) all
+    (HoldsExactly-from_taken c.args.self.now
+    c.loop-root.taken.nodes.keys c.loop-root.taken.pairs.keys
+    (take c.loop-root.root-index c.args.roots.now) c.loop-root.made.items c.loop-root.invariant)
 
 pub returns-clause-few : goal.returns-clause-few
-returns-clause-few c = length-le_from_taken c.args.self.now c.loop-root.taken.nodes.keys c.loop-root.taken.pairs.keys c.loop-root.invariant.taken
+returns-clause-few c =
+    length-le_from_taken c.args.self.now c.loop-root.taken.nodes.keys c.loop-root.taken.pairs.keys
+    c.loop-root.invariant.taken

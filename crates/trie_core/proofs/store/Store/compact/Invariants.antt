@@ -3,4 +3,6 @@ use Rattle.trie_core.specs.Compact.{AreRootsTaken}
 use Rattle.trie_core.proofs.store.Store.compact.Given as goal
 
 abbrev pub invariant-loop-root : goal.invariant-loop-root
-invariant-loop-root l = AreRootsTaken l.self l.taken.nodes.keys l.taken.pairs.keys (take l.root-index l.roots) l.made.items
+invariant-loop-root l =
+    AreRootsTaken l.self l.taken.nodes.keys l.taken.pairs.keys
+    (take l.root-index l.roots) l.made.items

@@ -8,7 +8,8 @@ use Rattle.trie_core.proofs.RootLemmas.{leaves_of_painted, HoldsPainted-from_roo
 use Rattle.trie_core.proofs.store.Store.paint_all.Goals as goal
 
 pub returns-in_err-rec-clause-few_ticks : goal.returns-in_err-rec-clause-few_ticks
-returns-in_err-rec-clause-few_ticks g c = omega (arith, c.in_err-rec.ensures.cost, paint_cost-le c.args.parts.now c.requires.ascending)
+returns-in_err-rec-clause-few_ticks g c =
+    omega (arith, c.in_err-rec.ensures.cost, paint_cost-le c.args.parts.now c.requires.ascending)
 
 pub returns-in_err-rec-clause-full : goal.returns-in_err-rec-clause-full
 returns-in_err-rec-clause-full g c =
@@ -18,8 +19,10 @@ returns-in_err-rec-clause-full g c =
           let fault : c.in_err-rec.field-0.0 ≡ Full = cc (p.1, p.2, e) in
           let said = c.in_err-rec.ensures.full (ap Err fault) in (
             said.0,
-            λ held. said.1 (subst (λ t. HoldsPainted c.paint_block.new.self t 128 0 c.args.parts.now) (sym root-is)
-                (HoldsPainted-from_root c.paint_block.new.self c.in_err-rec.ensures.sound (tree_of c.args.self.now c.args.root) c.args.parts.now held)),
+            λ held. said.1 (subst
+                (λ t. HoldsPainted c.paint_block.new.self t 128 0 c.args.parts.now) (sym root-is)
+                (HoldsPainted-from_root c.paint_block.new.self c.in_err-rec.ensures.sound
+                (tree_of c.args.self.now c.args.root) c.args.parts.now held)),
           ),
       λ h. elim (fault_cases c.in_err-rec.field-0.0) [
         | inl full ↦ p.1 ∙ ap Err (p.2 ∙ full)
@@ -28,15 +31,26 @@ returns-in_err-rec-clause-full g c =
     )
 
 -- the new record is the painted tree of the root
-painted : (g : Rattle.trie_core.proofs.store.Store.paint_all.Given.Over) (c : goal.In_ok-rec g) → IsPainted (tree_of c.args.self.now c.args.root) (meaning c.paint_block.new.self c.in_ok-rec.rec) 128 0 c.args.parts.now
-painted g c = subst (λ t. IsPainted t (meaning c.paint_block.new.self c.in_ok-rec.rec) 128 0 c.args.parts.now) (ap (meaning c.args.self.now) c.rec_of-rec.ensures.same) c.in_ok-rec.ensures.painted
+painted : (g : Rattle.trie_core.proofs.store.Store.paint_all.Given.Over) (c : goal.In_ok-rec g)
+    → IsPainted (tree_of c.args.self.now c.args.root)
+    (meaning c.paint_block.new.self c.in_ok-rec.rec) 128 0 c.args.parts.now
+painted g c =
+    subst (λ t. IsPainted t (meaning c.paint_block.new.self c.in_ok-rec.rec) 128 0 c.args.parts.now)
+    (ap (meaning c.args.self.now) c.rec_of-rec.ensures.same) c.in_ok-rec.ensures.painted
 
 pub returns-clause-lookups : goal.returns-clause-lookups
 returns-clause-lookups g c = leaves_of_painted 128 _ _ c.args.parts.now (painted g c)
 
 pub returns-clause-few_ticks : goal.returns-clause-few_ticks
-returns-clause-few_ticks g c = omega (arith, c.in_ok-rec.ensures.cost, paint_cost-le c.args.parts.now c.requires.ascending)
+returns-clause-few_ticks g c =
+    omega (arith, c.in_ok-rec.ensures.cost, paint_cost-le c.args.parts.now c.requires.ascending)
 
 pub returns-clause-full : goal.returns-clause-full
-returns-clause-full g c =
-    (λ e. absurd (cc), λ h. absurd (h.1 (record { 0 = c.in_ok-rec.rec }, c.in_ok-rec.ensures.of, leaves_of_painted 128 _ _ c.args.parts.now (painted g c))))
+returns-clause-full g c = (
+  λ e. absurd (cc),
+  λ h. absurd (h.1 (
+    record { 0 = c.in_ok-rec.rec },
+    c.in_ok-rec.ensures.of,
+    leaves_of_painted 128 _ _ c.args.parts.now (painted g c),
+  )),
+)

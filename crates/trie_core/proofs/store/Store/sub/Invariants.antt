@@ -11,7 +11,8 @@ invariant-loop-bits l = record {
   low : height (meaning l.self l.rec) ≤ l.bits;
   bits : l.bits ≤ 128;
   below : l.below ≤ l.bits;
-  same : sub (meaning l.self l.rec) (take (l.bits - l.below) (bits_of l.bits l.block-inside.first)) ≡ sub (tree_of l.self l.fn.root) (way_of l.fn.block);
+  same : sub (meaning l.self l.rec) (take (l.bits - l.below) (bits_of l.bits l.block-inside.first))
+      ≡ sub (tree_of l.self l.fn.root) (way_of l.fn.block);
 }
 
 abbrev pub decreases-loop-bits : goal.decreases-loop-bits

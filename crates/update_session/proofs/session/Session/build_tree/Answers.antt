@@ -2,8 +2,15 @@ use Rattle.update_session.proofs.KeptLemmas.{IsSession-emitted, IsSession-grown}
 use Rattle.update_session.proofs.session.Session.build_tree.Goals as goal
 
 pub invariant_of-self : goal.invariant_of-self
-invariant_of-self g c = (c.self.invariant.0, IsSession-grown _ _ _ _ _ _ _ _ _ _ c.repaint.ensures.grows c.repaint.ensures.places c.self.invariant.1)
+invariant_of-self g c = (
+  c.self.invariant.0,
+  IsSession-grown _ _ _ _ _ _ _ _ _ _ c.repaint.ensures.grows c.repaint.ensures.places
+      c.self.invariant.1,
+)
 
 pub invariant_of-self-2 : goal.invariant_of-self-2
-invariant_of-self-2 g c =
-    (c.self.invariant.0, IsSession-emitted _ _ _ _ _ _ _ _ _ _ _ _ c.repaint.ensures.grows c.repaint.ensures.places c.self.invariant.1 c.in_ok-root.ensures.of c.in_ok-root.ensures.answers c.clear.ensures.items)
+invariant_of-self-2 g c = (
+  c.self.invariant.0,
+  IsSession-emitted _ _ _ _ _ _ _ _ _ _ _ _ c.repaint.ensures.grows c.repaint.ensures.places
+      c.self.invariant.1 c.in_ok-root.ensures.of c.in_ok-root.ensures.answers c.clear.ensures.items,
+)

@@ -9,11 +9,18 @@ use Rattle.update_session.proofs.session.Session.drop_feed.Goals as goal
 
 pub invariant_of-self-2 : goal.invariant_of-self-2
 invariant_of-self-2 c =
-    let old : c.entries_of-old.result.now ≡ entries_in (named (λ x. x.url) c.args.url.now c.self.inside.sources.feeds) =
+    let old : c.entries_of-old.result.now
+    ≡ entries_in (named (λ x. x.url) c.args.url.now c.self.inside.sources.feeds) =
     c.entries_of-old.ensures ∙ ap entries_in c.in-Some.ensures in
-    let same : IsPermutation (changes (DropFeed c.args.url.now) c.self.inside.sources) c.in_ok-grounds.grounds.items =
-    subst (λ (xs : List Entry). IsPermutation (entry_changes xs []) c.in_ok-grounds.grounds.items) old c.in_ok-grounds.ensures in (
+    let same : IsPermutation
+    (changes (DropFeed c.args.url.now) c.self.inside.sources) c.in_ok-grounds.grounds.items =
+    subst (λ (xs : List Entry). IsPermutation (entry_changes xs []) c.in_ok-grounds.grounds.items)
+    old c.in_ok-grounds.ensures in (
       c.self.invariant.0,
-      IsSession-changed c.sources_stay.ensures c.kept_by_one_more.ensures c.self.inside.sources c.drop_feed.new.self (DropFeed c.args.url.now) _ _ _ c.self.inside.touched.items c.add.new.touched.items c.in_ok-grounds.grounds.items _
-          c.self.invariant.1 tt c.in_ok-drop_feed.ensures.sources (c.add.ensures ∙ ap (λ (rs : List Ends). rs ++ c.in_ok-grounds.grounds.items) c.in_ok-make_room.ensures.items) same,
+      IsSession-changed c.sources_stay.ensures c.kept_by_one_more.ensures c.self.inside.sources
+          c.drop_feed.new.self (DropFeed c.args.url.now) _ _ _ c.self.inside.touched.items
+          c.add.new.touched.items c.in_ok-grounds.grounds.items _
+          c.self.invariant.1 tt c.in_ok-drop_feed.ensures.sources
+          (c.add.ensures ∙ ap (λ (rs : List Ends). rs ++ c.in_ok-grounds.grounds.items)
+          c.in_ok-make_room.ensures.items) same,
     )

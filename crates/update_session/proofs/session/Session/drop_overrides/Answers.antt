@@ -9,10 +9,17 @@ use Rattle.update_session.proofs.session.Session.drop_overrides.Goals as goal
 
 pub invariant_of-self-2 : goal.invariant_of-self-2
 invariant_of-self-2 c =
-    let old : c.rows_of-old.result.now ≡ override_rows c.self.inside.sources = c.rows_of-old.ensures ∙ ap rows_in c.in-Some.ensures in
-    let same : IsPermutation (changes DropOverrides c.self.inside.sources) c.in_ok-grounds.grounds.items =
-    subst (λ (xs : List Override). IsPermutation (override_changes xs []) c.in_ok-grounds.grounds.items) old c.in_ok-grounds.ensures in (
+    let old : c.rows_of-old.result.now ≡ override_rows c.self.inside.sources =
+    c.rows_of-old.ensures ∙ ap rows_in c.in-Some.ensures in
+    let same : IsPermutation
+    (changes DropOverrides c.self.inside.sources) c.in_ok-grounds.grounds.items =
+    subst (λ (xs : List Override). IsPermutation (override_changes xs [])
+    c.in_ok-grounds.grounds.items) old c.in_ok-grounds.ensures in (
       c.self.invariant.0,
-      IsSession-changed c.sources_stay.ensures c.kept_by_one_more.ensures c.self.inside.sources c.drop_overrides.new.self (DropOverrides) _ _ _ c.self.inside.touched.items c.add.new.touched.items c.in_ok-grounds.grounds.items _
-          c.self.invariant.1 tt c.in_ok-drop_overrides.ensures.sources (c.add.ensures ∙ ap (λ (rs : List Ends). rs ++ c.in_ok-grounds.grounds.items) c.in_ok-make_room.ensures.items) same,
+      IsSession-changed c.sources_stay.ensures c.kept_by_one_more.ensures c.self.inside.sources
+          c.drop_overrides.new.self (DropOverrides) _ _ _ c.self.inside.touched.items
+          c.add.new.touched.items c.in_ok-grounds.grounds.items _
+          c.self.invariant.1 tt c.in_ok-drop_overrides.ensures.sources
+          (c.add.ensures ∙ ap (λ (rs : List Ends). rs ++ c.in_ok-grounds.grounds.items)
+          c.in_ok-make_room.ensures.items) same,
     )

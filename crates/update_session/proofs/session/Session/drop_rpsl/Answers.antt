@@ -9,11 +9,19 @@ use Rattle.update_session.proofs.session.Session.drop_rpsl.Goals as goal
 
 pub invariant_of-self-2 : goal.invariant_of-self-2
 invariant_of-self-2 c =
-    let old : c.references_of-old.result.now ≡ references_in (named (λ x. x.slot) c.args.slot.now c.self.inside.sources.dumps) =
-    c.references_of-old.ensures ∙ ap (λ (xs : List DumpParts). references_in (named (λ x. x.slot) c.args.slot.now xs)) c.dumps-2.ensures.dumps in
-    let same : IsPermutation (changes (DropDump c.args.slot.now) c.self.inside.sources) c.in_ok-grounds.grounds.items =
-    subst (λ (xs : List Reference). IsPermutation (reference_changes xs []) c.in_ok-grounds.grounds.items) old c.in_ok-grounds.ensures in (
+    let old : c.references_of-old.result.now
+    ≡ references_in (named (λ x. x.slot) c.args.slot.now c.self.inside.sources.dumps) =
+    c.references_of-old.ensures ∙ ap (λ (xs : List DumpParts).
+    references_in (named (λ x. x.slot) c.args.slot.now xs)) c.dumps-2.ensures.dumps in
+    let same : IsPermutation
+    (changes (DropDump c.args.slot.now) c.self.inside.sources) c.in_ok-grounds.grounds.items =
+    subst (λ (xs : List Reference). IsPermutation (reference_changes xs [])
+    c.in_ok-grounds.grounds.items) old c.in_ok-grounds.ensures in (
       c.self.invariant.0,
-      IsSession-changed c.sources_stay.ensures c.kept_by_one_more.ensures c.self.inside.sources c.drop_rpsl.new.self (DropDump c.args.slot.now) _ _ _ c.self.inside.touched.items c.add.new.touched.items c.in_ok-grounds.grounds.items _
-          c.self.invariant.1 tt c.in_ok-drop_rpsl.ensures.sources (c.add.ensures ∙ ap (λ (rs : List Ends). rs ++ c.in_ok-grounds.grounds.items) c.in_ok-make_room.ensures.items) same,
+      IsSession-changed c.sources_stay.ensures c.kept_by_one_more.ensures c.self.inside.sources
+          c.drop_rpsl.new.self (DropDump c.args.slot.now) _ _ _ c.self.inside.touched.items
+          c.add.new.touched.items c.in_ok-grounds.grounds.items _
+          c.self.invariant.1 tt c.in_ok-drop_rpsl.ensures.sources
+          (c.add.ensures ∙ ap (λ (rs : List Ends). rs ++ c.in_ok-grounds.grounds.items)
+          c.in_ok-make_room.ensures.items) same,
     )

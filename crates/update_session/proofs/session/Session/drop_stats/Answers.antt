@@ -3,17 +3,26 @@ use Rattle.std.specs.List.Sorted.{IsPermutation}
 use Rattle.geo_addr.specs.Ranges.{Ends}
 use Rattle.geo_terms.specs.DelegationForm.{DelegationParts}
 use Rattle.geo_terms.specs.SourceForm.{StatsParts}
-use Rattle.source_changes.specs.Changes.{DropStats, changes, delegations_in, named, delegation_changes}
+use Rattle.source_changes.specs.Changes.{DropStats, changes, delegations_in, named}
+use Rattle.source_changes.specs.Changes.{delegation_changes}
 use Rattle.update_session.proofs.KeptLemmas.{IsSession-changed}
 use Rattle.update_session.proofs.session.Session.drop_stats.Goals as goal
 
 pub invariant_of-self-2 : goal.invariant_of-self-2
 invariant_of-self-2 c =
-    let old : c.delegations_of-old.result.now ≡ delegations_in (named (λ x. x.slot) c.args.slot.now c.self.inside.sources.stats) =
-    c.delegations_of-old.ensures ∙ ap (λ (xs : List StatsParts). delegations_in (named (λ x. x.slot) c.args.slot.now xs)) c.stats-2.ensures.files in
-    let same : IsPermutation (changes (DropStats c.args.slot.now) c.self.inside.sources) c.in_ok-grounds.grounds.items =
-    subst (λ (xs : List DelegationParts). IsPermutation (delegation_changes xs []) c.in_ok-grounds.grounds.items) old c.in_ok-grounds.ensures in (
+    let old : c.delegations_of-old.result.now
+    ≡ delegations_in (named (λ x. x.slot) c.args.slot.now c.self.inside.sources.stats) =
+    c.delegations_of-old.ensures ∙ ap (λ (xs : List StatsParts).
+    delegations_in (named (λ x. x.slot) c.args.slot.now xs)) c.stats-2.ensures.files in
+    let same : IsPermutation
+    (changes (DropStats c.args.slot.now) c.self.inside.sources) c.in_ok-grounds.grounds.items =
+    subst (λ (xs : List DelegationParts). IsPermutation (delegation_changes xs [])
+    c.in_ok-grounds.grounds.items) old c.in_ok-grounds.ensures in (
       c.self.invariant.0,
-      IsSession-changed c.sources_stay.ensures c.kept_by_one_more.ensures c.self.inside.sources c.drop_stats.new.self (DropStats c.args.slot.now) _ _ _ c.self.inside.touched.items c.add.new.touched.items c.in_ok-grounds.grounds.items _
-          c.self.invariant.1 tt c.in_ok-drop_stats.ensures.sources (c.add.ensures ∙ ap (λ (rs : List Ends). rs ++ c.in_ok-grounds.grounds.items) c.in_ok-make_room.ensures.items) same,
+      IsSession-changed c.sources_stay.ensures c.kept_by_one_more.ensures c.self.inside.sources
+          c.drop_stats.new.self (DropStats c.args.slot.now) _ _ _ c.self.inside.touched.items
+          c.add.new.touched.items c.in_ok-grounds.grounds.items _
+          c.self.invariant.1 tt c.in_ok-drop_stats.ensures.sources
+          (c.add.ensures ∙ ap (λ (rs : List Ends). rs ++ c.in_ok-grounds.grounds.items)
+          c.in_ok-make_room.ensures.items) same,
     )

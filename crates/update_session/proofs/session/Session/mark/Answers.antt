@@ -7,13 +7,24 @@ use Rattle.update_session.proofs.session.Session.mark.Goals as goal
 
 pub invariant_of-self-2 : goal.invariant_of-self-2
 invariant_of-self-2 c =
-    let is = c.in_ok-mark.ensures ∙ ap (λ (rs : List Ends). record { name = c.args.name.now; sources = c.self.inside.sources; root = c.self.inside.root; touched = rs }) c.as_slice-touched.ensures.value in
-    let one : IsBased c.in_ok-mark.mark.sources c.self.inside.store c.self.inside.places c.in_ok-mark.mark.root c.in_ok-mark.mark.touched =
-    subst (λ (m : Mark). IsBased m.sources c.self.inside.store c.self.inside.places m.root m.touched) (sym is) c.self.invariant.1.now in (
+    let is = c.in_ok-mark.ensures ∙ ap (λ (rs : List Ends). record {
+      name = c.args.name.now;
+      sources = c.self.inside.sources;
+      root = c.self.inside.root;
+      touched = rs;
+    }) c.as_slice-touched.ensures.value in
+    let one : IsBased c.in_ok-mark.mark.sources c.self.inside.store c.self.inside.places
+    c.in_ok-mark.mark.root c.in_ok-mark.mark.touched =
+    subst (λ (m : Mark). IsBased m.sources c.self.inside.store c.self.inside.places m.root
+    m.touched) (sym is) c.self.invariant.1.now in (
       c.self.invariant.0,
       record {
         now = c.self.invariant.1.now;
-        marks = subst (AreBased c.self.inside.store c.self.inside.places) (sym c.in_ok-put_mark.ensures.ok)
-            (all_with_one (λ m. m.name) (λ m. IsBased m.sources c.self.inside.store c.self.inside.places m.root m.touched) c.in_ok-mark.mark c.self.inside.marks.items one c.self.invariant.1.marks);
+        marks =
+            subst (AreBased c.self.inside.store c.self.inside.places)
+            (sym c.in_ok-put_mark.ensures.ok)
+            (all_with_one (λ m. m.name)
+            (λ m. IsBased m.sources c.self.inside.store c.self.inside.places m.root m.touched)
+            c.in_ok-mark.mark c.self.inside.marks.items one c.self.invariant.1.marks);
       },
     )

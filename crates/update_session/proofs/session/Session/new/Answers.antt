@@ -5,7 +5,11 @@ use Rattle.update_session.proofs.KeptLemmas.{AnswersAll-none, IsSession-begun}
 use Rattle.update_session.proofs.session.Session.new.Goals as goal
 
 pub invariant_of-result : goal.invariant_of-result
-invariant_of-result c = (c.requires, IsSession-begun _ _ _ _ _ _ c.new.ensures c.new-3.ensures.items c.new-4.ensures.items c.empty-root.ensures.of c.empty-root.ensures.tree)
+invariant_of-result c = (
+  c.requires,
+  IsSession-begun _ _ _ _ _ _ c.new.ensures c.new-3.ensures.items c.new-4.ensures.items
+      c.empty-root.ensures.of c.empty-root.ensures.tree,
+)
 
 -- what a session with these sources stands for
 abbrev standing : (epoch : ℕ) (name : List ℕ) → InForce → State
@@ -18,5 +22,8 @@ returns c = record {
   places = c.new-2.ensures;
   touched = c.new-3.ensures.items;
   marks = c.new-4.ensures.items;
-  root = record { of = c.empty-root.ensures.of; answers = AnswersAll-none _ _ _ c.empty-root.ensures.tree };
+  root = record {
+    of = c.empty-root.ensures.of;
+    answers = AnswersAll-none _ _ _ c.empty-root.ensures.tree;
+  };
 }

@@ -15,17 +15,29 @@ pub invariant_of-self-2 : goal.invariant_of-self-2
 invariant_of-self-2 c =
     let entries = ap (λ (f : FeedParts). f.entries) c.feed.view_is in
     let new : c.as_slice-new.result.now ≡ c.args.feed.entries = c.as_slice-new.ensures ∙ entries in
-    let name : c.as_str.result.now ≡ c.args.feed.url = c.as_str.ensures ∙ ap (λ (f : FeedParts). f.url) c.feed.view_is in
-    let old : c.entries_of-old.result.now ≡ entries_in (named (λ x. x.url) c.args.feed.url c.self.inside.sources.feeds) =
-    c.entries_of-old.ensures ∙ ap entries_in c.feed_of.ensures ∙ (λ i. entries_in (named (λ x. x.url) (name i) c.self.inside.sources.feeds)) in
+    let name : c.as_str.result.now ≡ c.args.feed.url =
+    c.as_str.ensures ∙ ap (λ (f : FeedParts). f.url) c.feed.view_is in
+    let old : c.entries_of-old.result.now
+    ≡ entries_in (named (λ x. x.url) c.args.feed.url c.self.inside.sources.feeds) =
+    c.entries_of-old.ensures ∙ ap entries_in c.feed_of.ensures
+    ∙ (λ i. entries_in (named (λ x. x.url) (name i) c.self.inside.sources.feeds)) in
     let sound : AreEntries c.args.feed.entries = record {
       blocks = subst (λ (es : List Entry). All (λ e. IsBlock e.block) es) new c.keep_all.ensures;
-      distinct = subst (λ (es : List Entry). AllPairs (λ x y. x.block ≢ y.block) es) entries c.feed.invariant.distinct;
+      distinct =
+          subst (λ (es : List Entry). AllPairs (λ x y. x.block ≢ y.block) es) entries
+          c.feed.invariant.distinct;
     } in
-    let same : IsPermutation (changes (SetFeed c.args.feed) c.self.inside.sources) c.in_ok-grounds.grounds.items =
-    subst (λ (xs : List Entry). IsPermutation (entry_changes xs c.args.feed.entries) c.in_ok-grounds.grounds.items) old
-    (subst (λ (xs : List Entry). IsPermutation (entry_changes c.entries_of-old.result.now xs) c.in_ok-grounds.grounds.items) new c.in_ok-grounds.ensures) in (
+    let same : IsPermutation
+    (changes (SetFeed c.args.feed) c.self.inside.sources) c.in_ok-grounds.grounds.items =
+    subst (λ (xs : List Entry). IsPermutation (entry_changes xs c.args.feed.entries)
+    c.in_ok-grounds.grounds.items) old
+    (subst (λ (xs : List Entry). IsPermutation (entry_changes c.entries_of-old.result.now xs)
+    c.in_ok-grounds.grounds.items) new c.in_ok-grounds.ensures) in (
       c.self.invariant.0,
-      IsSession-changed c.sources_stay.ensures c.kept_by_one_more.ensures c.self.inside.sources c.set_feed.new.self (SetFeed c.args.feed) _ _ _ c.self.inside.touched.items c.add.new.touched.items c.in_ok-grounds.grounds.items _
-          c.self.invariant.1 sound c.in_ok-set_feed.ensures.sources (c.add.ensures ∙ ap (λ (rs : List Ends). rs ++ c.in_ok-grounds.grounds.items) c.in_ok-make_room.ensures.items) same,
+      IsSession-changed c.sources_stay.ensures c.kept_by_one_more.ensures c.self.inside.sources
+          c.set_feed.new.self (SetFeed c.args.feed) _ _ _ c.self.inside.touched.items
+          c.add.new.touched.items c.in_ok-grounds.grounds.items _
+          c.self.invariant.1 sound c.in_ok-set_feed.ensures.sources
+          (c.add.ensures ∙ ap (λ (rs : List Ends). rs ++ c.in_ok-grounds.grounds.items)
+          c.in_ok-make_room.ensures.items) same,
     )

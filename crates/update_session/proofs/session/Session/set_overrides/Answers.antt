@@ -13,12 +13,20 @@ pub invariant_of-self-2 : goal.invariant_of-self-2
 invariant_of-self-2 c =
     let rows = ap (λ (o : OverridesParts). o.rows) c.rows.view_is in
     let new : c.as_slice.result.now ≡ c.args.rows.rows = c.as_slice.ensures ∙ rows in
-    let old : c.rows_of-old.result.now ≡ override_rows c.self.inside.sources = c.rows_of-old.ensures ∙ ap rows_in c.overrides.ensures in
+    let old : c.rows_of-old.result.now ≡ override_rows c.self.inside.sources =
+    c.rows_of-old.ensures ∙ ap rows_in c.overrides.ensures in
     let sound : AreOverrides c.args.rows.rows = subst AreOverrides rows c.rows.invariant.distinct in
-    let same : IsPermutation (changes (SetOverrides c.args.rows) c.self.inside.sources) c.in_ok-grounds.grounds.items =
-    subst (λ (xs : List Override). IsPermutation (override_changes xs c.args.rows.rows) c.in_ok-grounds.grounds.items) old
-    (subst (λ (xs : List Override). IsPermutation (override_changes c.rows_of-old.result.now xs) c.in_ok-grounds.grounds.items) new c.in_ok-grounds.ensures) in (
+    let same : IsPermutation
+    (changes (SetOverrides c.args.rows) c.self.inside.sources) c.in_ok-grounds.grounds.items =
+    subst (λ (xs : List Override). IsPermutation (override_changes xs c.args.rows.rows)
+    c.in_ok-grounds.grounds.items) old
+    (subst (λ (xs : List Override). IsPermutation (override_changes c.rows_of-old.result.now xs)
+    c.in_ok-grounds.grounds.items) new c.in_ok-grounds.ensures) in (
       c.self.invariant.0,
-      IsSession-changed c.sources_stay.ensures c.kept_by_one_more.ensures c.self.inside.sources c.set_overrides.new.self (SetOverrides c.args.rows) _ _ _ c.self.inside.touched.items c.add.new.touched.items c.in_ok-grounds.grounds.items _
-          c.self.invariant.1 sound c.in_ok-set_overrides.ensures.sources (c.add.ensures ∙ ap (λ (rs : List Ends). rs ++ c.in_ok-grounds.grounds.items) c.in_ok-make_room.ensures.items) same,
+      IsSession-changed c.sources_stay.ensures c.kept_by_one_more.ensures c.self.inside.sources
+          c.set_overrides.new.self (SetOverrides c.args.rows) _ _ _ c.self.inside.touched.items
+          c.add.new.touched.items c.in_ok-grounds.grounds.items _
+          c.self.invariant.1 sound c.in_ok-set_overrides.ensures.sources
+          (c.add.ensures ∙ ap (λ (rs : List Ends). rs ++ c.in_ok-grounds.grounds.items)
+          c.in_ok-make_room.ensures.items) same,
     )

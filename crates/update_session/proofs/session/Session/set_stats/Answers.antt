@@ -3,22 +3,36 @@ use Rattle.std.specs.List.Sorted.{IsPermutation}
 use Rattle.geo_addr.specs.Ranges.{Ends}
 use Rattle.geo_terms.specs.DelegationForm.{DelegationParts}
 use Rattle.geo_terms.specs.SourceForm.{StatsParts}
-use Rattle.source_changes.specs.Changes.{SetStats, changes, delegations_in, named, delegation_changes}
+use Rattle.source_changes.specs.Changes.{SetStats, changes, delegations_in, named}
+use Rattle.source_changes.specs.Changes.{delegation_changes}
 use Rattle.source_changes.specs.Keeping.{AreDelegations}
 use Rattle.update_session.proofs.KeptLemmas.{IsSession-changed}
 use Rattle.update_session.proofs.session.Session.set_stats.Goals as goal
 
 pub invariant_of-self-2 : goal.invariant_of-self-2
 invariant_of-self-2 c =
-    let new : c.as_slice-new.result.now ≡ c.args.stats.rows = c.as_slice-new.ensures ∙ ap (λ (x : StatsParts). x.rows) c.stats.view_is in
-    let name : c.as_str.result.now ≡ c.args.stats.slot = c.as_str.ensures ∙ ap (λ (x : StatsParts). x.slot) c.stats.view_is in
-    let old : c.delegations_of-old.result.now ≡ delegations_in (named (λ x. x.slot) c.args.stats.slot c.self.inside.sources.stats) =
-    c.delegations_of-old.ensures ∙ (λ i. delegations_in (named (λ x. x.slot) (name i) (c.stats-2.ensures.files i))) in
-    let sound : AreDelegations c.args.stats.rows = subst AreDelegations new (λ k d below. (c.keep_all.ensures k d below).place) in
-    let same : IsPermutation (changes (SetStats c.args.stats) c.self.inside.sources) c.in_ok-grounds.grounds.items =
-    subst (λ (xs : List DelegationParts). IsPermutation (delegation_changes xs c.args.stats.rows) c.in_ok-grounds.grounds.items) old
-    (subst (λ (xs : List DelegationParts). IsPermutation (delegation_changes c.delegations_of-old.result.now xs) c.in_ok-grounds.grounds.items) new c.in_ok-grounds.ensures) in (
+    let new : c.as_slice-new.result.now ≡ c.args.stats.rows =
+    c.as_slice-new.ensures ∙ ap (λ (x : StatsParts). x.rows) c.stats.view_is in
+    let name : c.as_str.result.now ≡ c.args.stats.slot =
+    c.as_str.ensures ∙ ap (λ (x : StatsParts). x.slot) c.stats.view_is in
+    let old : c.delegations_of-old.result.now
+    ≡ delegations_in (named (λ x. x.slot) c.args.stats.slot c.self.inside.sources.stats) =
+    c.delegations_of-old.ensures
+    ∙ (λ i. delegations_in (named (λ x. x.slot) (name i) (c.stats-2.ensures.files i))) in
+    let sound : AreDelegations c.args.stats.rows =
+    subst AreDelegations new (λ k d below. (c.keep_all.ensures k d below).place) in
+    let same : IsPermutation
+    (changes (SetStats c.args.stats) c.self.inside.sources) c.in_ok-grounds.grounds.items =
+    subst (λ (xs : List DelegationParts). IsPermutation (delegation_changes xs c.args.stats.rows)
+    c.in_ok-grounds.grounds.items) old
+    (subst (λ (xs : List DelegationParts). IsPermutation
+    (delegation_changes c.delegations_of-old.result.now xs) c.in_ok-grounds.grounds.items) new
+    c.in_ok-grounds.ensures) in (
       c.self.invariant.0,
-      IsSession-changed c.sources_stay.ensures c.kept_by_one_more.ensures c.self.inside.sources c.set_stats.new.self (SetStats c.args.stats) _ _ _ c.self.inside.touched.items c.add.new.touched.items c.in_ok-grounds.grounds.items _
-          c.self.invariant.1 sound c.in_ok-set_stats.ensures.sources (c.add.ensures ∙ ap (λ (rs : List Ends). rs ++ c.in_ok-grounds.grounds.items) c.in_ok-make_room.ensures.items) same,
+      IsSession-changed c.sources_stay.ensures c.kept_by_one_more.ensures c.self.inside.sources
+          c.set_stats.new.self (SetStats c.args.stats) _ _ _ c.self.inside.touched.items
+          c.add.new.touched.items c.in_ok-grounds.grounds.items _
+          c.self.invariant.1 sound c.in_ok-set_stats.ensures.sources
+          (c.add.ensures ∙ ap (λ (rs : List Ends). rs ++ c.in_ok-grounds.grounds.items)
+          c.in_ok-make_room.ensures.items) same,
     )
