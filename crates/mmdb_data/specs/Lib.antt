@@ -1,4 +1,5 @@
 pub mod Tree
+pub mod Kinds
 pub mod Spelling
 pub mod Reading
 pub mod View

@@ -8,8 +8,9 @@ ghost use Rattle.mmdb_data.specs.View.{tree, budget, items_view, members_view};
 
 use crate::budget::{BYTES, Left, VALUES};
 use crate::fault::{DataCause, DataFault};
+use crate::kind::Kind;
 use crate::leaves::leaf_at;
-use crate::reading::{Head, bad, byte_at, head_at, pointer_at};
+use crate::reading::{Head, bad, byte_at, head_at, is_pointer, pointer_at};
 use crate::sizes::LEVELS;
 use crate::value::Value;
 use geo_addr::Text;
@@ -70,7 +71,7 @@ fn value_at(
         bytes: left.bytes,
     };
     let control = byte_at(section, at, at, DataCause::Truncated)?;
-    if control / 32 == 1 {
+    if is_pointer(control) {
         target_at(alloc, section, levels - 1, is_key, at, control, rest)
     } else {
         plain_at(alloc, section, levels - 1, is_key, at, rest)
@@ -95,7 +96,7 @@ fn target_at(
 {
     let (target, after) = pointer_at(section, at, control)?;
     let first = byte_at(section, target, at, DataCause::OutOfSection)?;
-    if first / 32 == 1 {
+    if is_pointer(first) {
         return Err(bad(target, DataCause::PointerToPointer));
     }
     let (value, _, left) = plain_at(alloc, section, levels, is_key, target, left)?;
@@ -138,9 +139,9 @@ fn content_at(
         head.offset (budget left)) }
     ensures room { IfOk result (λ x. x.1 ≤ length section.now) }
 {
-    match head.kind {
-        7 | 11 if is_key => Err(bad(at, DataCause::Key)),
-        7 => {
+    match Kind::of(head.kind) {
+        Some(Kind::Map | Kind::List) if is_key => Err(bad(at, DataCause::Key)),
+        Some(Kind::Map) => {
             let (pairs, after, left) = members_at(
                 alloc,
                 section,
@@ -151,7 +152,7 @@ fn content_at(
             )?;
             Ok((Value::Map(pairs), after, left))
         }
-        11 => {
+        Some(Kind::List) => {
             let (values, after, left) = items_at(
                 alloc,
                 section,

@@ -37,8 +37,8 @@ pub enum DataCause {
     /// The size is not allowed for the type.
     #[error("of a size that its type does not have")]
     Size = 9,
-    /// More than 67,108,864 bytes of texts, keys and byte strings,
-    /// pointed-to ones as often as they are met.
+    /// More than 67,108,864 bytes of texts, keys and byte strings, pointed-to ones as often as they
+    /// are met.
     #[error("one byte of text too many")]
     Big = 10,
 }

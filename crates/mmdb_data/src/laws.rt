@@ -23,8 +23,8 @@ pub fn packed_reads_back()
 {}
 
 /// The law that a pointer leads to the least offset at which an equal value stands in full: values
-/// are noted by their spellings, which tell them apart, where they first stand.
-/// Calling it does nothing.
+/// are noted by their spellings, which tell them apart, where they first stand. Calling it does
+/// nothing.
 pub fn packed_at_the_least_offset()
     ensures noted { NewValueIsNoted }
     ensures stay { NotesStay }
@@ -32,8 +32,8 @@ pub fn packed_at_the_least_offset()
 {}
 
 /// The law that each pointer that is written is read back: one of two bytes to an offset below
-/// 2,048, of three below 526,336, of four below 134,744,064, and of five below 2^32.
-/// Calling it does nothing.
+/// 2,048, of three below 526,336, of four below 134,744,064, and of five below 2^32. Calling it
+/// does nothing.
 pub fn pointers_read_back()
     ensures { PointersReadBack }
 {}

@@ -9,6 +9,7 @@ ghost use Rattle.mmdb_data.specs.View.{tree, budget};
 
 use crate::budget::Left;
 use crate::fault::{DataCause, DataFault};
+use crate::kind::Kind;
 use crate::reading::{Head, bad, bytes_at, number_of};
 use crate::value::Value;
 use geo_addr::{Bytes, Text};
@@ -30,16 +31,16 @@ pub(crate) fn leaf_at(
         (leaf_from section.now is_key at head.kind head.size head.offset (budget left)) }
     ensures room { IfOk result (λ x. x.1 ≤ length section.now) }
 {
-    match head.kind {
-        2 => {
+    match Kind::of(head.kind) {
+        Some(Kind::Text) => {
             let (text, left) = text_at(alloc, section, at, head, left)?;
             Ok((Value::Text(text), head.offset + head.size, left))
         }
-        4 => {
+        Some(Kind::Bytes) => {
             let (content, left) = byte_string_at(alloc, section, is_key, at, head, left)?;
             Ok((Value::Bytes(content), head.offset + head.size, left))
         }
-        14 => {
+        Some(Kind::Bool) => {
             let b = bool_at(is_key, at, head.size)?;
             Ok((Value::Bool(b), head.offset, left))
         }
@@ -131,33 +132,33 @@ fn scalar_at(section: &[u8], is_key: bool, at: usize, head: Head) -> Result<Valu
         (scalar_from section.now is_key at head.kind head.size head.offset) }
     ensures room { OnOk result (head.offset + head.size ≤ length section.now) }
 {
-    match head.kind {
-        3 => {
+    match Kind::of(head.kind) {
+        Some(Kind::Double) => {
             let mut raw = [0; 8];
             raw.copy_from_slice(scalar_bytes(section, is_key, at, head, 8, 8)?);
             Ok(Value::Raw8(raw))
         }
-        5 => {
+        Some(Kind::U16) => {
             let content = scalar_bytes(section, is_key, at, head, 0, 2)?;
             Ok(Value::U16(number_of(content, 2) as u16))
         }
-        6 => {
+        Some(Kind::U32) => {
             let content = scalar_bytes(section, is_key, at, head, 0, 4)?;
             Ok(Value::U32(number_of(content, 4) as u32))
         }
-        8 => {
+        Some(Kind::I32) => {
             let content = scalar_bytes(section, is_key, at, head, 0, 4)?;
             Ok(Value::I32((number_of(content, 4) as u32).cast_signed()))
         }
-        9 => {
+        Some(Kind::U64) => {
             let content = scalar_bytes(section, is_key, at, head, 0, 8)?;
             Ok(Value::U64(number_of(content, 8) as u64))
         }
-        10 => {
+        Some(Kind::U128) => {
             let content = scalar_bytes(section, is_key, at, head, 0, 16)?;
             Ok(Value::U128(number_of(content, 16)))
         }
-        15 => {
+        Some(Kind::Float) => {
             let mut raw = [0; 4];
             raw.copy_from_slice(scalar_bytes(section, is_key, at, head, 4, 4)?);
             Ok(Value::Raw4(raw))
@@ -179,8 +180,8 @@ fn scalar_bytes(
     requires { head.offset ≤ length section.now }
     ensures gives { Gives (λ content. content.now) result
         (scalar_bytes_from section.now is_key at least greatest head.size head.offset) }
-    ensures len { IfOk result (λ content. (length content.now ≡ head.size) × (least ≤ head.size)
-        × (head.size ≤ greatest)) }
+    ensures len { IfOk result (λ content.
+        (length content.now ≡ head.size) × (least ≤ head.size) × (head.size ≤ greatest)) }
     ensures room { OnOk result (head.offset + head.size ≤ length section.now) }
 {
     if head.size < least || greatest < head.size {

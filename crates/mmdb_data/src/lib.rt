@@ -4,6 +4,7 @@
 mod budget;
 mod decoding;
 mod fault;
+mod kind;
 mod laws;
 mod leaves;
 mod packer;

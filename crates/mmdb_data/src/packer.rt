@@ -16,8 +16,8 @@ use std::marker::Model;
 /// A data section to which values are appended one after another.
 ///
 /// A value that is put stands in full. Each key and each part of it that stands in full already is
-/// a pointer to where it first does, if that takes fewer bytes (MaxMind DB 2.0,
-/// "Output Data Section").
+/// a pointer to where it first does, if that takes fewer bytes (MaxMind DB 2.0, "Output Data
+/// Section").
 #[derive(Debug, Drop)]
 pub struct Packer {
     section: Section,
@@ -52,8 +52,8 @@ impl Packer {
         ensures typed { OnOk result (IsTyped (tree value.now)) }
 
         // Reading there gives the value, whatever is appended later.
-        ensures read { IfOk result
-            (λ at. (before : List Tree) (later : List ℕ) → All CanBePacked before
+        ensures read { IfOk result (λ at. (before : List Tree) (later : List ℕ)
+            → All CanBePacked before
             → self.old ≡ all_in_full before nothing_packed → IsWithinLimits (tree value.now)
             → reads (self.new.bytes ++ later) at ≡ Ok (tree value.now)) }
         ensures refused { OnErr result (self.new ≡ self.old) }

@@ -8,6 +8,7 @@ ghost use Rattle.mmdb_data.specs.Packing.{offset_of, part_by, content_in, member
 ghost use Rattle.mmdb_data.specs.Packing.{in_full, IsKept};
 ghost use Rattle.mmdb_data.specs.Section.{packed_of};
 
+use crate::kind::Kind;
 use crate::section::{Section, shorter};
 use crate::value::Value;
 use geo_addr::{Memory, Text};
@@ -70,11 +71,11 @@ fn append_content(section: &mut Section, value: &Value) -> Result<(), Memory>
 {
     match value {
         Value::Map(pairs) => {
-            section.append_head(7, pairs.len())?;
+            section.append_head(Kind::Map, pairs.len())?;
             append_members(section, pairs)
         }
         Value::List(values) => {
-            section.append_head(11, values.len())?;
+            section.append_head(Kind::List, values.len())?;
             append_items(section, values)
         }
         Value::Text(_) | Value::Bytes(_) | Value::Bool(_) => section.append(),

@@ -1,17 +1,16 @@
 //! Reading the value at an offset of a data section.
 
-ghost use Rattle.std.specs.Prelude.{◌≡◌, ◌≤◌, ◌<◌, ◌+◌, ◌^◌, ℕ, List, length, OnOk, IfOk, Ok};
-ghost use Rattle.std.specs.Prelude.{false};
+ghost use Rattle.std.specs.Prelude.{◌≡◌, ◌≤◌, ◌<◌, ◌+◌, ◌^◌, length, OnOk, IfOk};
 ghost use Rattle.byteorder.specs.Endian.{big_number};
 ghost use Rattle.mmdb_data.specs.Tree.{most as most_size};
-ghost use Rattle.mmdb_data.specs.Reading.{Budget, Gives, byte_from, bytes_from, number_from};
+ghost use Rattle.mmdb_data.specs.Reading.{Gives, byte_from, bytes_from, number_from};
 ghost use Rattle.mmdb_data.specs.Reading.{kind_from, size_from, head_from, pointer_from};
-ghost use Rattle.mmdb_data.specs.Reading.{scalar_bytes_from};
+ghost use Rattle.mmdb_data.specs.Reading.{is_pointer as is_control_of_pointer};
 ghost use Rattle.mmdb_data.specs.declared.fault.DataCause.TheVariants.{Truncated};
 ghost use Rattle.mmdb_data.specs.declared.fault.DataFault.TheVariants as faults;
-ghost use Rattle.mmdb_data.specs.View.{tree, items_view, members_view};
 
 use crate::fault::{DataCause, DataFault};
+use crate::kind::Kind;
 use byteorder::{BigEndian, ByteOrder};
 
 /// What stands before the content of a value.
@@ -139,6 +138,13 @@ pub(crate) fn head_at(section: &[u8], at: usize) -> Result<Head, DataFault>
     let (kind, offset) = kind_at(section, at, control)?;
     let (size, offset) = size_at(section, at, control % 32, offset)?;
     Ok(Head { kind, size, offset })
+}
+
+/// Whether the control byte is a pointer's.
+pub(crate) fn is_pointer(control: u8) -> bool
+    ensures { result ≡ is_control_of_pointer control }
+{
+    control / 32 == Kind::Pointer.code()
 }
 
 #[tactic(auto, unfolding(crate::specs::Reading::pointer_from))]

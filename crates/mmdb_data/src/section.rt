@@ -4,12 +4,14 @@ ghost use Rattle.std.specs.Prelude.{◌≡◌, ◌≤◌, ◌<◌, ◌^◌, ◌+
 ghost use Rattle.std.specs.Prelude.{option_map, is_some};
 ghost use Rattle.std.specs.Int.{bytes_high_first};
 ghost use Rattle.mmdb_data.specs.Tree.{most, IsNarrow, IsTyped};
+ghost use Rattle.mmdb_data.specs.Kinds.{kind_code};
 ghost use Rattle.mmdb_data.specs.Spelling.{head, sized, spelling};
 ghost use Rattle.mmdb_data.specs.View.{tree};
 ghost use Rattle.mmdb_data.specs.Packing.{pointer, nothing_packed, offset_of, with_bytes, noted};
 ghost use Rattle.mmdb_data.specs.Packing.{full_by, shorter_pointer, part_by, key_part, IsKept};
 ghost use Rattle.mmdb_data.specs.Section.{packed_of};
 
+use crate::kind::Kind;
 use crate::value::Value;
 use crate::writing::{put_head, put_sized, put_value};
 use byteorder::{BigEndian, ByteOrder};
@@ -54,7 +56,7 @@ impl Section {
         ensures same { packed_of self.new ≡ packed_of self.old }
     {
         self.piece.clear();
-        put_sized(&mut self.piece, 2, key.as_bytes())
+        put_sized(&mut self.piece, Kind::Text, key.as_bytes())
     }
 
     /// Where the value that the piece spells stands in full.
@@ -73,11 +75,10 @@ impl Section {
         Ok(())
     }
 
-    pub(crate) fn append_head(&mut self, kind: u8, size: usize) -> Result<(), Memory>
-        requires known { kind < 16 }
-        requires narrow { size ≤ most }
+    pub(crate) fn append_head(&mut self, kind: Kind, size: usize) -> Result<(), Memory>
+        requires { size ≤ most }
         ensures appended { OnOk result
-            (packed_of self.new ≡ with_bytes (head kind size) (packed_of self.old)) }
+            (packed_of self.new ≡ with_bytes (head (kind_code kind) size) (packed_of self.old)) }
         ensures refused { OnErr result (packed_of self.new ≡ packed_of self.old) }
     {
         self.piece.clear();

@@ -3,8 +3,8 @@ use geo_addr::{Bytes, Text};
 /// A value of the data section (MaxMind DB 2.0, "Output Data Section").
 ///
 /// Contracts see the tree that it stands for, with lists in place of the vectors. The pairs of a
-/// map keep their order, and keys may repeat. Doubles and floats are kept as their bytes,
-/// the highest first.
+/// map keep their order, and keys may repeat. Doubles and floats are kept as their bytes, the
+/// highest first.
 #[derive(Debug, Drop, PartialEq, Eq)]
 pub enum Value {
     Map(Vec<(Text, Value)>),

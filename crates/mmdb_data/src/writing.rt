@@ -8,9 +8,11 @@ ghost use Rattle.mmdb_data.specs.Tree.{ItemsAreTyped};
 ghost use Rattle.mmdb_data.specs.Spelling.{size_code, size_bytes, kind_bytes, head, sized};
 ghost use Rattle.mmdb_data.specs.Spelling.{without_zeros as bytes_without_zeros, spelling};
 ghost use Rattle.mmdb_data.specs.Spelling.{members_spelling, items_spelling};
+ghost use Rattle.mmdb_data.specs.Kinds.{kind_code};
 ghost use Rattle.mmdb_data.specs.Reading.{reads};
 ghost use Rattle.mmdb_data.specs.View.{tree, items_view, members_view};
 
+use crate::kind::Kind;
 use crate::value::Value;
 use byteorder::{BigEndian, ByteOrder};
 use geo_addr::{Memory, Text};
@@ -44,23 +46,23 @@ pub(crate) fn put_value(out: &mut Vec<u8>, value: &Value) -> Result<(), Memory>
 {
     match value {
         Value::Map(pairs) => {
-            put_head(out, 7, pairs.len())?;
+            put_head(out, Kind::Map, pairs.len())?;
             put_members(out, pairs)
         }
         Value::List(values) => {
-            put_head(out, 11, values.len())?;
+            put_head(out, Kind::List, values.len())?;
             put_items(out, values)
         }
-        Value::Text(text) => put_sized(out, 2, text.as_str().as_bytes()),
-        Value::Bytes(bytes) => put_sized(out, 4, bytes.as_slice()),
+        Value::Text(text) => put_sized(out, Kind::Text, text.as_str().as_bytes()),
+        Value::Bytes(bytes) => put_sized(out, Kind::Bytes, bytes.as_slice()),
         Value::U16(n) => put_u16(out, *n),
-        Value::U32(n) => put_u32(out, 6, *n),
-        Value::I32(n) => put_u32(out, 8, n.cast_unsigned()),
+        Value::U32(n) => put_u32(out, Kind::U32, *n),
+        Value::I32(n) => put_u32(out, Kind::I32, n.cast_unsigned()),
         Value::U64(n) => put_u64(out, *n),
         Value::U128(n) => put_u128(out, *n),
-        Value::Bool(b) => put_head(out, 14, usize::from(*b)),
-        Value::Raw8(content) => put_sized(out, 3, content),
-        Value::Raw4(content) => put_sized(out, 15, content),
+        Value::Bool(b) => put_head(out, Kind::Bool, usize::from(*b)),
+        Value::Raw8(content) => put_sized(out, Kind::Double, content),
+        Value::Raw4(content) => put_sized(out, Kind::Float, content),
     }
 }
 
@@ -72,7 +74,7 @@ fn put_members(out: &mut Vec<u8>, pairs: &[(Text, Value)]) -> Result<(), Memory>
     ensures typed { OnOk result (MembersAreTyped (members_view pairs.now)) }
 {
     for (key, value) in pairs {
-        put_sized(out, 2, key.as_str().as_bytes())?;
+        put_sized(out, Kind::Text, key.as_str().as_bytes())?;
         put_value(out, value)?;
     }
     Ok(())
@@ -97,13 +99,12 @@ fn put_u16(out: &mut Vec<u8>, n: u16) -> Result<(), Memory>
 {
     let mut bytes = [0; 2];
     BigEndian::write_u16(&mut bytes, n);
-    put_sized(out, 5, without_zeros(&bytes))
+    put_sized(out, Kind::U16, without_zeros(&bytes))
 }
 
-fn put_u32(out: &mut Vec<u8>, kind: u8, n: u32) -> Result<(), Memory>
-    requires { kind < 16 }
-    ensures { OnOk result
-        (out.new.items ≡ out.old.items ++ sized kind (bytes_without_zeros (bytes_high_first 4 n))) }
+fn put_u32(out: &mut Vec<u8>, kind: Kind, n: u32) -> Result<(), Memory>
+    ensures { OnOk result (out.new.items
+        ≡ out.old.items ++ sized (kind_code kind) (bytes_without_zeros (bytes_high_first 4 n))) }
 {
     let mut bytes = [0; 4];
     BigEndian::write_u32(&mut bytes, n);
@@ -116,7 +117,7 @@ fn put_u64(out: &mut Vec<u8>, n: u64) -> Result<(), Memory>
 {
     let mut bytes = [0; 8];
     BigEndian::write_u64(&mut bytes, n);
-    put_sized(out, 9, without_zeros(&bytes))
+    put_sized(out, Kind::U64, without_zeros(&bytes))
 }
 
 fn put_u128(out: &mut Vec<u8>, n: u128) -> Result<(), Memory>
@@ -125,7 +126,7 @@ fn put_u128(out: &mut Vec<u8>, n: u128) -> Result<(), Memory>
 {
     let mut bytes = [0; 16];
     BigEndian::write_u128(&mut bytes, n);
-    put_sized(out, 10, without_zeros(&bytes))
+    put_sized(out, Kind::U128, without_zeros(&bytes))
 }
 
 fn without_zeros(bytes: &[u8]) -> &[u8]
@@ -140,10 +141,9 @@ fn without_zeros(bytes: &[u8]) -> &[u8]
 }
 
 #[tactic(auto, unfolding(crate::specs::Spelling::sized))]
-pub(crate) fn put_sized(out: &mut Vec<u8>, kind: u8, content: &[u8]) -> Result<(), Memory>
-    requires known { kind < 16 }
-    requires narrow { length content.now ≤ most }
-    ensures { OnOk result (out.new.items ≡ out.old.items ++ sized kind content.now) }
+pub(crate) fn put_sized(out: &mut Vec<u8>, kind: Kind, content: &[u8]) -> Result<(), Memory>
+    requires { length content.now ≤ most }
+    ensures { OnOk result (out.new.items ≡ out.old.items ++ sized (kind_code kind) content.now) }
 {
     put_head(out, kind, content.len())?;
     out.extend_from_slice(content)?;
@@ -151,25 +151,24 @@ pub(crate) fn put_sized(out: &mut Vec<u8>, kind: u8, content: &[u8]) -> Result<(
 }
 
 #[tactic(auto, unfolding(crate::specs::Spelling::head))]
-pub(crate) fn put_head(out: &mut Vec<u8>, kind: u8, size: usize) -> Result<(), Memory>
-    requires known { kind < 16 }
-    requires narrow { size ≤ most }
-    ensures { OnOk result (out.new.items ≡ out.old.items ++ head kind size) }
+pub(crate) fn put_head(out: &mut Vec<u8>, kind: Kind, size: usize) -> Result<(), Memory>
+    requires { size ≤ most }
+    ensures { OnOk result (out.new.items ≡ out.old.items ++ head (kind_code kind) size) }
 {
     put_kind(out, kind, code_of(size))?;
     put_size(out, size)
 }
 
 #[tactic(auto, unfolding(crate::specs::Spelling::kind_bytes))]
-fn put_kind(out: &mut Vec<u8>, kind: u8, code: u8) -> Result<(), Memory>
-    requires known { kind < 16 }
-    requires small { code < 32 }
-    ensures { OnOk result (out.new.items ≡ out.old.items ++ kind_bytes kind code) }
+fn put_kind(out: &mut Vec<u8>, kind: Kind, size_code: u8) -> Result<(), Memory>
+    requires { size_code < 32 }
+    ensures { OnOk result (out.new.items ≡ out.old.items ++ kind_bytes (kind_code kind) size_code) }
 {
-    if kind < 8 {
-        out.push(kind * 32 + code)?;
+    let code = kind.code();
+    if code < 8 {
+        out.push(code * 32 + size_code)?;
     } else {
-        out.extend_from_slice(&[code, kind - 7])?;
+        out.extend_from_slice(&[size_code, code - 7])?;
     }
     Ok(())
 }

@@ -34,11 +34,9 @@ use Rattle.least_nodes.proofs.Elements.{In-each_once-new, In-filter, In-from_fil
 use Rattle.least_nodes.proofs.Elements.{none-from_not_In, each_once-new, IsDistinct-from_none}
 use Rattle.least_nodes.proofs.TreeParts.{leaves-inside}
 use Rattle.least_nodes.proofs.WalkLemmas.{id_equality, tree_equality}
-use Rattle.mmdb_file.specs.FileImage.{answer_value, spots, section, record_for, node_for}
-use Rattle.mmdb_file.specs.FileImage.{node_records, records_end, file_with, file_of}
-use Rattle.mmdb_data.specs.Packing.{packed, packed_offsets}
-use Rattle.mmdb_file.specs.Section.{section_of}
-use Rattle.mmdb_file.specs.Writing.{same_id, record_number, node_numbers, nodes_from}
+use Rattle.mmdb_file.specs.FileImage.{spots, section, record_for, node_for, node_records}
+use Rattle.mmdb_file.specs.FileImage.{records_end, file_with, file_of}
+use Rattle.mmdb_file.specs.Writing.{same_id, record_number, node_numbers, nodes_from, section_for}
 
 module _ {X : Type 0} where
   -- no element stands twice
@@ -345,22 +343,19 @@ module _ (pairs : List Pair) (sound : IsSound pairs) (places : List PlaceParts) 
   -- the file image
   pub image_is : (bits : Bits) (epoch : ℕ) (name : List ℕ) (n : ℕ)
       → n ≡ max (length (inner nat_eq (meaning pairs root))) 1
-      → smallest (n + 16 + length (packed
-      (map (λ k. answer_value (place_at places k)) (place_order (meaning pairs root))))) ≡ Some bits
+      → smallest (n + 16 + length (section_for places (meaning pairs root)).bytes) ≡ Some bits
       → file_with nat_eq (place_at places) (meaning pairs root) epoch name
       ≡ Some (file_of bits
-      (nodes_from pairs (record_number n ids (place_order (meaning pairs root)) (packed_offsets
-      (map (λ k. answer_value (place_at places k)) (place_order (meaning pairs root))))) root ids)
-      (packed (map (λ k. answer_value (place_at places k)) (place_order (meaning pairs root))))
-      epoch name)
-  unfolding file_with node_records records_end section section_of
+      (nodes_from pairs (record_number n ids (place_order (meaning pairs root))
+      (section_for places (meaning pairs root)).starts) root ids)
+      (section_for places (meaning pairs root)).bytes epoch name)
+  unfolding file_with node_records records_end section
   image_is bits epoch name n count fits =
       let t : Tree ℕ = meaning pairs root in
       let len : length (laid nat_eq t) ≡ n = laid_len t ∙ sym count in
-      rw (spots_are places t all, len, fits) (ap (λ nodes. Some (file_of bits nodes
-      (packed (map (λ k. answer_value (place_at places k)) (place_order t))) epoch name))
-      (sym (nodes_are n
-      (packed_offsets (map (λ k. answer_value (place_at places k)) (place_order t))) t refl)))
+      rw (spots_are places t all, len, fits)
+      (ap (λ nodes. Some (file_of bits nodes (section_for places t).bytes epoch name))
+      (sym (nodes_are n (section_for places t).starts t refl)))
 
 -- equal parts make equal files
 pub written_is : (bits : Bits) (pairs : List Pair) (epoch : ℕ) (name items : List ℕ) (n n' : ℕ)

@@ -5,5 +5,7 @@ pub mod AdoptLemmas
 pub mod PlaceLemmas
 pub mod WritingLemmas
 pub mod ImageLemmas
+pub mod OpenedLemmas
+pub mod SectionLemmas
 pub mod WalkLemmas
 pub mod PlaceTreeLemmas

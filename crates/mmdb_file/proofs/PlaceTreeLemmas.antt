@@ -21,7 +21,7 @@ use Rattle.trie_core.specs.Store.{IsSound, IsRootOf, tree_of, record_of, leaf_at
 use Rattle.trie_core.proofs.TreeLemmas.{nat_equality}
 use Rattle.trie_core.proofs.RenameLemmas.{leaf-AllLeaves, map_tree-is_tree, Renamed-holds}
 use Rattle.least_nodes.specs.NodeList.{Member, at, says, go, map_member, map_pair}
-use Rattle.least_nodes.specs.Layout.{inner, leaf_order, laid, place_order}
+use Rattle.least_nodes.specs.Layout.{inner, leaf_order, laid}
 use Rattle.least_nodes.proofs.Elements.{In, In-from_filter}
 use Rattle.least_nodes.proofs.Positions.{Least-holds}
 use Rattle.least_nodes.proofs.RenameLemmas.{position-map, inner-map_tree, leaf_order-map_tree}
@@ -30,9 +30,8 @@ use Rattle.mmdb_tree.specs.Nodes.{smallest}
 use Rattle.mmdb_file.specs.FileImage.{answer_value, spots, section, record_for, node_for}
 use Rattle.mmdb_file.specs.FileImage.{node_records, records_end, file_with, file_of, same_answer}
 use Rattle.mmdb_file.specs.FileImage.{file, file_nodes, file_section, file_end}
-use Rattle.mmdb_data.specs.Packing.{packed}
 use Rattle.mmdb_file.specs.Section.{Section, section_of}
-use Rattle.mmdb_file.specs.Writing.{count_for}
+use Rattle.mmdb_file.specs.Writing.{count_for, values_of, section_for, end_for}
 use Rattle.mmdb_file.specs.Laws.{NumbersStandForPlaces}
 use Rattle.mmdb_file.proofs.ImageLemmas.{laid_len, spots_are}
 
@@ -221,21 +220,22 @@ module _ (places : List PlaceParts) (distinct : IsDistinct same_place places) wh
     unfolding file_nodes
     nodes_named = laid_named_len ∙ laid_len t
 
-    pub bytes_named : file_section (map_tree (place_at places) t)
-        ≡ packed (map (λ k. answer_value (place_at places k)) (place_order t))
-    unfolding file_section section section_of
-    bytes_named =
-        ap (λ (s : Section). s.bytes) section_named ∙ ap (λ (ks : List ℕ).
-        packed (map (λ k. answer_value (place_at places k)) ks)) (spots_are places t known)
+    -- its section is the one that is written
+    section_is : section nat_eq (place_at places) t ≡ section_for places t
+    unfolding section
+    section_is = ap (λ ks. section_of (values_of places ks)) (spots_are places t known)
 
-    pub end_is : file_end (map_tree (place_at places) t) ≡ count_for t + 16
-        + length (packed (map (λ k. answer_value (place_at places k)) (place_order t)))
-    unfolding file_end records_end section section_of
+    pub bytes_named :
+        file_section (map_tree (place_at places) t) ≡ (section_for places t).bytes
+    unfolding file_section
+    bytes_named = ap (λ (s : Section). s.bytes) (section_named ∙ section_is)
+
+    -- and so is the end of its records
+    pub end_is : file_end (map_tree (place_at places) t) ≡ end_for places t
+    unfolding file_end records_end
     end_is =
         end_named
-        ∙ ap₂ (λ (n : ℕ) (ks : List ℕ). n
-        + 16 + length (packed (map (λ k. answer_value (place_at places k)) ks))) (laid_len t)
-        (spots_are places t known)
+        ∙ ap₂ (λ (n : ℕ) (s : Section). n + 16 + length s.bytes) (laid_len t) section_is
 
 pub NumbersStandForPlaces-holds : NumbersStandForPlaces
 NumbersStandForPlaces-holds places distinct t known = file_named places distinct t known

@@ -15,8 +15,9 @@ use Rattle.trie_core.specs.Tree.{Tree, map_tree}
 use Rattle.trie_core.specs.Store.{leaf_at, tree_of}
 use Rattle.least_nodes.specs.NodeList.{Member, at, go}
 use Rattle.least_nodes.specs.Layout.{inner, place_order}
+use Rattle.mmdb_data.specs.Tree.{Tree as Value}
 use Rattle.mmdb_file.specs.FileImage.{answer_value}
-use Rattle.mmdb_data.specs.Packing.{packed}
+use Rattle.mmdb_file.specs.Section.{Section, section_of}
 
 -- whether two nodes of a store are the same
 abbrev pub same_id : NodeId → NodeId → Bool
@@ -68,10 +69,14 @@ FindsPlaces places pairs root nodes =
 abbrev pub count_for : Tree ℕ → ℕ
 count_for t = max (length (inner nat_eq t)) 1
 
+-- the values of the places with these numbers
+abbrev pub values_of : List PlaceParts → List ℕ → List Value
+values_of places numbers = map (λ k. answer_value (place_at places k)) numbers
+
 -- the data section that is written for a tree of place numbers
-abbrev pub section_for : List PlaceParts → Tree ℕ → List ℕ
-section_for places t = packed (map (λ k. answer_value (place_at places k)) (place_order t))
+abbrev pub section_for : List PlaceParts → Tree ℕ → Section
+section_for places t = section_of (values_of places (place_order t))
 
 -- no record is above this number
 abbrev pub end_for : List PlaceParts → Tree ℕ → ℕ
-end_for places t = count_for t + 16 + length (section_for places t)
+end_for places t = count_for t + 16 + length (section_for places t).bytes

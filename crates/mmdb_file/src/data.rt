@@ -1,10 +1,12 @@
 //! The data section of a file.
-ghost use Rattle.std.specs.Prelude.{◌≡◌, ◌++◌, [], ◌∷◌, length, map as map_list, IfOk, OnOk, All};
+ghost use Rattle.std.specs.Prelude.{◌≡◌, ◌++◌, [], ◌∷◌, length, IfOk, OnOk};
 ghost use Rattle.mmdb_data.specs.Tree.{CanBeReadBack};
-ghost use Rattle.mmdb_data.specs.Packing.{packed, packed_offsets, in_full};
+ghost use Rattle.mmdb_data.specs.Packing.{in_full};
 ghost use Rattle.mmdb_data.specs.View.{tree as value_tree};
 ghost use Rattle.geo_terms.specs.Numbers.{place_at};
 ghost use Rattle.mmdb_file.specs.FileImage.{answer_value};
+ghost use Rattle.mmdb_file.specs.Section.{Holds, section_of};
+ghost use Rattle.mmdb_file.specs.Writing.{values_of};
 
 use crate::place::place_value;
 use geo_addr::Memory;
@@ -20,15 +22,15 @@ pub(crate) struct Data {
 }
 
 /// The data section of the places with these numbers, in this order.
+#[tactic(auto, unfolding(crate::specs::Section::section_of))]
 pub(crate) fn data_of(alloc: Global, places: &Places, numbers: &[u32]) -> Result<Data, Memory>
     ensures section { IfOk result
-        (λ made. made.section.bytes
-        ≡ packed (map_list (λ k. answer_value (place_at places.now k)) numbers.now)) }
+        (λ made. made.section.bytes ≡ (section_of (values_of places.now numbers.now)).bytes) }
     ensures starts { IfOk result
-        (λ made. made.starts.items
-        ≡ packed_offsets (map_list (λ k. answer_value (place_at places.now k)) numbers.now)) }
-    ensures readable { IfOk result
-        (λ _. All (λ k. CanBeReadBack (answer_value (place_at places.now k))) numbers.now) }
+        (λ made. made.starts.items ≡ (section_of (values_of places.now numbers.now)).starts) }
+    ensures holds { IfOk result
+        (λ _. Holds (section_of (values_of places.now numbers.now))
+        (values_of places.now numbers.now)) }
 {
     let mut made = Data {
         section: Packer::new(alloc),

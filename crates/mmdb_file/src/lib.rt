@@ -14,7 +14,10 @@ mod writing;
 
 pub use adopted::Mmdb;
 pub use fault::{FileFault, OpenFault, WalkFault};
-pub use laws::{last_marker_is_the_writers, numbers_stand_for_places, written_file_is_walked};
+pub use laws::{
+    last_marker_is_the_writers, numbers_stand_for_places, written_file_is_walked,
+    written_section_holds,
+};
 pub use metadata::Meta;
 pub use place::place_value;
 pub use writing::{Emitted, numbers_to_places, write_file};

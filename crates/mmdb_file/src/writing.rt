@@ -136,7 +136,7 @@ pub fn numbers_to_places(store: &Store, root: Root, places: &Places)
         → FindsPlaces places.now store.now root nodes
         → count_for (tree_of store.now root) ≤ length nodes }
     ensures section { file_section (place_tree places.now store.now root)
-        ≡ section_for places.now (tree_of store.now root) }
+        ≡ (section_for places.now (tree_of store.now root)).bytes }
     ensures end { file_end (place_tree places.now store.now root)
         ≡ end_for places.now (tree_of store.now root) }
 {

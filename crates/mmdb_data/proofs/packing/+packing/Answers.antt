@@ -8,16 +8,16 @@ use Rattle.mmdb_data.proofs.Appending.{map_packed, list_packed, known_full, stil
 use Rattle.mmdb_data.proofs.Appending.{kept_either}
 use Rattle.mmdb_data.proofs.packing.+packing.Goals as goal
 
-pub append_content-append_head-requires-clause-narrow
-    : goal.append_content-append_head-requires-clause-narrow
-append_content-append_head-requires-clause-narrow t c =
+pub append_content-append_head-requires
+    : goal.append_content-append_head-requires
+append_content-append_head-requires t c =
     let pairs = c.in-Map.pairs in
     let narrow = subst IsNarrow (ap tree c.in-Map.is ∙ tree-Map pairs) c.requires.narrow in
     omega (arith, narrow.0, len-members_view pairs.items, pairs.ok.0)
 
-pub append_content-append_head-requires-in-List-clause-narrow
-    : goal.append_content-append_head-requires-in-List-clause-narrow
-append_content-append_head-requires-in-List-clause-narrow t c =
+pub append_content-append_head-requires-in-List
+    : goal.append_content-append_head-requires-in-List
+append_content-append_head-requires-in-List t c =
     let values = c.in-List.values in
     let narrow = subst IsNarrow (ap tree c.in-List.is ∙ tree-List values) c.requires.narrow in
     omega (arith, narrow.0, len-items_view values.items, values.ok.0)
