@@ -17,8 +17,9 @@ mod words;
 pub use act::{Act, Gone};
 pub use fault::JobFault;
 pub use job::{Job, Step, read_job};
-pub use names::{is_name, is_slot};
+pub use names::{has_name_bytes, has_slot_bytes, has_visible_bytes, is_name, is_slot, is_text};
 pub use operands::feed_key;
+pub use words::next_word;
 
 #[cfg(test)]
 mod tests;

@@ -28,7 +28,7 @@ pub fn is_name(word: &[u8]) -> bool
 
 /// Whether bytes are UTF-8.
 #[tactic(auto, using(crate::proofs::TextLemmas::text_tests))]
-pub(crate) fn is_text(word: &[u8]) -> bool
+pub fn is_text(word: &[u8]) -> bool
     ensures { result ≡ is_utf8 word.now }
 {
     match str::from_utf8(word) {
@@ -37,7 +37,8 @@ pub(crate) fn is_text(word: &[u8]) -> bool
     }
 }
 
-fn has_name_bytes(word: &[u8]) -> bool
+/// Whether the bytes of a word may stand in the name of a file: there are no blanks and line ends.
+pub fn has_name_bytes(word: &[u8]) -> bool
     ensures { result ≡ list_all is_name_byte word.now }
 {
     word.iter().all(|b| is_name_byte(*b))
@@ -79,7 +80,8 @@ pub fn is_slot(word: &[u8]) -> bool
     !word.is_empty() && word.len() <= LONGEST_WORD && has_slot_bytes(word)
 }
 
-fn has_slot_bytes(word: &[u8]) -> bool
+/// Whether the bytes of a word may stand in a slot.
+pub fn has_slot_bytes(word: &[u8]) -> bool
     ensures { result ≡ list_all is_slot_byte word.now }
 {
     word.iter().all(|b| b.is_ascii_alphanumeric() || *b == b'-' || *b == b'.' || *b == b'_')
@@ -93,7 +95,8 @@ pub(crate) fn is_type_name(word: &[u8]) -> bool
     !word.is_empty() && word.len() <= LONGEST_WORD && has_visible_bytes(word)
 }
 
-fn has_visible_bytes(word: &[u8]) -> bool
+/// Whether the bytes of a word may stand in a database type.
+pub fn has_visible_bytes(word: &[u8]) -> bool
     ensures { result ≡ list_all is_visible word.now }
 {
     word.iter().all(|b| *b >= b'!' && *b <= b'~')

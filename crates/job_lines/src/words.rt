@@ -27,7 +27,7 @@ fn is_comment(word: &[u8]) -> bool
 }
 
 /// The first word of a text and what stands behind it, or `None` where the text has no words.
-pub(crate) fn next_word(text: &[u8]) -> Option<(&[u8], &[u8])>
+pub fn next_word(text: &[u8]) -> Option<(&[u8], &[u8])>
     ensures { MatchOption result (words text.now ≡ [])
         (λ found. words text.now ≡ found.0.now ∷ words found.1.now) }
 {

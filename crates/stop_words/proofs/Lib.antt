@@ -1,5 +1,3 @@
 pub mod CommandLemmas
 pub mod FormLemmas
 pub mod NameLemmas
-pub mod TextLemmas
-pub mod WordLemmas

@@ -15,7 +15,6 @@ mod shown;
 mod steps;
 mod stop;
 mod told;
-mod words;
 
 pub use command::{CommandFault, command_fault};
 pub use fault::WordFault;

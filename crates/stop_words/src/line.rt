@@ -8,8 +8,8 @@ ghost use Rattle.stop_words.specs.Shapes.{fits};
 use crate::fault::WordFault;
 use crate::grammar::{gone_operand, line_operands};
 use crate::shape::{Operands, Shape, word_fault};
-use crate::words::next_word;
 use geo_addr::Memory;
+use job_lines::next_word;
 use std::alloc::Global;
 
 /// Why the words of a line fit no form.

@@ -1,14 +1,13 @@
 //! What is wrong with the name of a file, a slot or a database type.
 ghost use Rattle.std.specs.Prelude.{◌≡◌, [], true, IfSome, is_none};
 ghost use Rattle.std.specs.List.{list_all};
-ghost use Rattle.std.specs.Str.{is_utf8};
 ghost use Rattle.geo_addr.specs.Lines.{pieces};
-ghost use Rattle.job_lines.specs.Names.{is_name, is_name_byte, is_part, is_slot, is_slot_byte};
-ghost use Rattle.job_lines.specs.Names.{is_type_name, is_visible};
+ghost use Rattle.job_lines.specs.Names.{is_name, is_part, is_slot, is_type_name};
 ghost use Rattle.stop_words.specs.Faults.{has_part, is_absolute, IsSo};
 
 use crate::fault::WordFault;
-use geo_addr::{cut_at, is_blank};
+use geo_addr::cut_at;
+use job_lines::{has_name_bytes, has_slot_bytes, has_visible_bytes, is_text};
 
 /// The most bytes of a file's name.
 const LONGEST_NAME: usize = 255;
@@ -35,28 +34,6 @@ pub fn name_fault(word: &[u8]) -> Option<WordFault>
         return Some(WordFault::Blank);
     }
     parts_fault(word)
-}
-
-#[tactic(auto, using(crate::proofs::TextLemmas::text_tests))]
-fn is_text(word: &[u8]) -> bool
-    ensures { result ≡ is_utf8 word.now }
-{
-    match str::from_utf8(word) {
-        Ok(_) => true,
-        Err(_) => false,
-    }
-}
-
-fn has_name_bytes(word: &[u8]) -> bool
-    ensures { result ≡ list_all is_name_byte word.now }
-{
-    word.iter().all(|b| is_name_byte(*b))
-}
-
-fn is_name_byte(byte: u8) -> bool
-    ensures { result ≡ is_name_byte byte }
-{
-    !(is_blank(byte) || byte == b'\n' || byte == b'\r')
 }
 
 // What is wrong with the first part that is none.
@@ -122,12 +99,6 @@ pub(crate) fn slot_fault(word: &[u8]) -> Option<WordFault>
     None
 }
 
-fn has_slot_bytes(word: &[u8]) -> bool
-    ensures { result ≡ list_all is_slot_byte word.now }
-{
-    word.iter().all(|b| b.is_ascii_alphanumeric() || *b == b'-' || *b == b'.' || *b == b'_')
-}
-
 /// What is wrong with a database type.
 #[tactic(auto, unfolding(job_lines::specs::Names::is_type_name))]
 pub(crate) fn type_fault(word: &[u8]) -> Option<WordFault>
@@ -144,10 +115,4 @@ pub(crate) fn type_fault(word: &[u8]) -> Option<WordFault>
         return Some(WordFault::TypeByte);
     }
     None
-}
-
-fn has_visible_bytes(word: &[u8]) -> bool
-    ensures { result ≡ list_all is_visible word.now }
-{
-    word.iter().all(|b| *b >= b'!' && *b <= b'~')
 }

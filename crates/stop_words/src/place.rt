@@ -6,8 +6,8 @@ ghost use Rattle.stop_words.specs.Places.{fault_where, is_form_refusal, kind_of,
 ghost use Rattle.stop_words.specs.Places.{place_fault, seen_with, setting_fault};
 
 use crate::line::{LineFault, line_fault};
-use crate::words::next_word;
 use geo_addr::{Lines, Memory};
+use job_lines::next_word;
 use std::alloc::Global;
 
 /// What the lines of a job before this one have said.

@@ -5,8 +5,8 @@ use crate::line::LineFault;
 use crate::place::{PlaceFault, Refusal, line_at, refusal_of};
 use crate::shape::shape_name;
 use crate::shown::shown;
-use crate::words::next_word;
 use geo_addr::Memory;
+use job_lines::next_word;
 use std::alloc::Global;
 
 /// Why the words are no command.
