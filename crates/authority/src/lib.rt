@@ -6,8 +6,6 @@ mod fault;
 mod feeds;
 mod force;
 mod notes;
-#[cfg(test)]
-mod tests;
 
 pub use fault::DropFault;
 pub use force::Authority;

@@ -12,6 +12,7 @@ mod publishing;
 mod reads;
 mod rows;
 mod stops;
+mod texts;
 
 use geo_outside::{Gate, MemFolder, MemSink, OpenGate, Steps};
 use geofeed_cmd::{Status, run};

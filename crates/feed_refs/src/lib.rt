@@ -7,8 +7,6 @@ mod found;
 mod kinds;
 mod modified;
 mod reference;
-#[cfg(test)]
-mod tests;
 
 pub use dump::DumpReader;
 pub use feed_url::{UrlRead, read_url};

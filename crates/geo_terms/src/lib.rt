@@ -14,8 +14,6 @@ mod places;
 pub mod plain;
 mod source;
 mod statement;
-#[cfg(test)]
-mod tests;
 mod texts;
 
 pub use alias::{home, is_alias, lies_in_alias};

@@ -13,3 +13,4 @@ mod whole;
 pub use command::run;
 pub use laws::lookup_ends_by_cases;
 pub use status::Status;
+pub use stop::stop_line;

@@ -36,7 +36,7 @@ pub(crate) fn status_of(why: Stop) -> Status
 /// The line that is printed at a stop: `line` is that of the job, or 0, and `name` what was read,
 /// written or asked for.
 #[tactic(auto, unfolding(crate::specs::Run::Lines::stop_line))]
-pub(crate) fn stop_line(alloc: Global, why: Stop, line: u64, name: &str) -> Result<Text, Memory>
+pub fn stop_line(alloc: Global, why: Stop, line: u64, name: &str) -> Result<Text, Memory>
     ensures { IfOk result (λ text. text ≡ stop_line why line name.now) }
 {
     match why {

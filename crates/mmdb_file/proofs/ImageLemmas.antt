@@ -234,111 +234,133 @@ module _ (pairs : List Pair) (sound : IsSound pairs) (places : List PlaceParts) 
       ap₂ (λ (b : Bool) (n : ℕ). cond (not b) (1 + n) 0) (eq_same id j of (xs-of j (inl refl)))
       (position_same id of js (λ i is. xs-of i (inr is)))
 
+  -- the tree, the number of a record in the store, and the record and the node of a file
+  abbrev root_tree : Tree ℕ
+  root_tree = meaning pairs root
+
+  abbrev number : (n : ℕ) (starts : List ℕ) → Rec → ℕ
+  number n starts = record_number n ids (place_order root_tree) starts
+
+  abbrev written_record : (n : ℕ) (starts : List ℕ) → Member ℕ → ℕ
+  written_record n starts = record_for nat_eq (place_at places) n (place_order root_tree) starts
+
+  abbrev written_node : (n : ℕ) (starts : List ℕ) → Member ℕ × Member ℕ → ℕ × ℕ
+  written_node n starts = node_for nat_eq (place_at places) n (place_order root_tree) starts
+
+  abbrev member_for : Tree ℕ → Member ℕ
+  member_for t = member nat_eq (inner nat_eq root_tree) t
+
+  abbrev pair_for : Tree ℕ → Member ℕ × Member ℕ
+  pair_for t = pair_of nat_eq (inner nat_eq root_tree) t
+
+  -- a leaf of the tree is among the written places where it is one
+  place_found : (k : ℕ) → In k (leaves root_tree)
+      → list_any (nat_eq k) (place_order root_tree) ≡ is_some (place_at places k)
+  place_found k leaf-of =
+      let ordered : In k (leaf_order nat_eq root_tree) =
+      In-each_once-new nat_eq nat_equality k [] (leaves root_tree) leaf-of in
+      any-filter nat_eq nat_equality is_place k (leaf_order nat_eq root_tree) ordered
+      ∙ sym (place_or_none places k (leaf_fits (λ i. i ≤ length places) root_tree all k leaf-of))
+
   -- the number of a record that a node of the tree leads to
   number_is : (n : ℕ) (starts : List ℕ) (rec : Rec) → IsOf pairs rec
-      → ((k : ℕ) → rec ≡ Leaf k → In k (leaves (meaning pairs root)))
-      → record_number n ids (place_order (meaning pairs root)) starts rec
-      ≡ record_for nat_eq (place_at places) n (place_order (meaning pairs root)) starts
-      (member nat_eq (inner nat_eq (meaning pairs root)) (meaning pairs rec))
+      → ((k : ℕ) → rec ≡ Leaf k → In k (leaves root_tree))
+      → number n starts rec ≡ written_record n starts (member_for (meaning pairs rec))
   number_is n starts (Leaf k) of inside =
-      let leaf_of : In k (leaves (meaning pairs root)) = inside k refl in
-      let ordered : In k (leaf_order nat_eq (meaning pairs root)) =
-      In-each_once-new nat_eq nat_equality k [] (leaves (meaning pairs root)) leaf_of in
-      let found : list_any (nat_eq k) (place_order (meaning pairs root))
-      ≡ is_some (place_at places k) =
-      any-filter nat_eq nat_equality is_place k (leaf_order nat_eq (meaning pairs root)) ordered
-      ∙ sym (place_or_none places k
-      (leaf_fits (λ i. i ≤ length places) (meaning pairs root) all k leaf_of)) in
-      ap (λ (b : Bool). if b then n + 16 + slice_index starts
-      (position_or_len (nat_eq k) (place_order (meaning pairs root))) else n) found
-      ∙ sym
-      (ap (λ (t : Tree ℕ). record_for nat_eq (place_at places) n (place_order (meaning pairs root))
-      starts (member nat_eq (inner nat_eq (meaning pairs root)) t)) (meaning-leaf pairs k))
+      ap (λ (b : Bool). if b then n + 16
+      + slice_index starts (position_or_len (nat_eq k) (place_order root_tree)) else n)
+      (place_found k (inside k refl))
+      ∙ sym (ap (λ (t : Tree ℕ). written_record n starts (member_for t)) (meaning-leaf pairs k))
   number_is n starts (Node id) of inside =
       let p = pair_at pairs sound.earlier id of in
-      let own : meaning pairs (Node id) ≡ node (meaning pairs p.0.left) (meaning pairs p.0.right) =
+      let own : meaning pairs (Node id)
+      ≡ node (meaning pairs p.0.left) (meaning pairs p.0.right) =
       meaning_node pairs sound.earlier id p.0 p.1 in
       sym (position_same id of ids (All-In (λ i. IsOf pairs (Node i)) ids ids-of))
       ∙ ap (position_or_len (tree_eq nat_eq (meaning pairs (Node id)))) trees
-      ∙ ap (λ (t : Tree ℕ). position_or_len (tree_eq nat_eq t) (inner nat_eq (meaning pairs root)))
-      own
-      ∙ sym
-      (ap (λ (t : Tree ℕ). record_for nat_eq (place_at places) n (place_order (meaning pairs root))
-      starts (member nat_eq (inner nat_eq (meaning pairs root)) t)) own)
+      ∙ ap (λ (t : Tree ℕ). position_or_len (tree_eq nat_eq t) (inner nat_eq root_tree)) own
+      ∙ sym (ap (λ (t : Tree ℕ). written_record n starts (member_for t)) own)
 
+  -- the leaves below a node that is written are leaves of the tree
+  node_leaf : (id : NodeId) → In id ids → (k : ℕ) → In k (leaves (meaning pairs (Node id)))
+      → In k (leaves root_tree)
+  node_leaf id is k below =
+      let tree : Tree ℕ = meaning pairs (Node id) in
+      let among : In tree (inner nat_eq root_tree) =
+      subst (In tree) trees (In-map (λ i. meaning pairs (Node i)) id ids is) in
+      let under : In tree (preorder root_tree) =
+      elim (In-each_once (tree_eq nat_eq) tree_equality tree [] (preorder root_tree) among) [
+        | inl none ↦ absurd none
+        | inr found ↦ found
+      ] in
+      leaves-inside k tree root_tree under below
+
+  -- a record that is a leaf is the one leaf of its tree
+  own_leaf : (rec : Rec) (k : ℕ) → rec ≡ Leaf k → In k (leaves (meaning pairs rec))
+  own_leaf rec k is =
+      subst (λ (t : Tree ℕ). In k (leaves t)) (sym (ap (meaning pairs) is ∙ meaning-leaf pairs k))
+      (inl refl)
+
+  -- the numbers of a node that is written, by its children
+  children_are : (n : ℕ) (starts : List ℕ) (id : NodeId) → In id ids → (p : Pair)
+      → slice_get pairs id.0 ≡ Some p
+      → (number n starts p.left, number n starts p.right)
+      ≡ written_node n starts
+      (member_for (meaning pairs p.left), member_for (meaning pairs p.right))
+  children_are n starts id is p at =
+      let left : Tree ℕ = meaning pairs p.left in
+      let right : Tree ℕ = meaning pairs p.right in
+      let own : meaning pairs (Node id) ≡ node left right =
+      meaning_node pairs sound.earlier id p at in
+      let of = children_of pairs sound.earlier id.0 p at in
+      let down = λ (k : ℕ) (has : In k (leaves (node left right))). node_leaf id is k
+      (subst (λ (t : Tree ℕ). In k (leaves t)) (sym own) has) in
+      ap₂ (λ (x y : ℕ). (x, y))
+      (number_is n starts p.left of.0
+      (λ k e. down k (In-left k (leaves left) (leaves right) (own_leaf p.left k e))))
+      (number_is n starts p.right of.1
+      (λ k e. down k (In-right k (leaves left) (leaves right) (own_leaf p.right k e))))
+
+  -- the numbers of a node that is written
   node_is : (n : ℕ) (starts : List ℕ) (id : NodeId) → In id ids
-      → node_numbers pairs (record_number n ids (place_order (meaning pairs root)) starts) id
-      ≡ node_for nat_eq (place_at places) n (place_order (meaning pairs root)) starts
-      (pair_of nat_eq (inner nat_eq (meaning pairs root)) (meaning pairs (Node id)))
+      → node_numbers pairs (number n starts) id
+      ≡ written_node n starts (pair_for (meaning pairs (Node id)))
   node_is n starts id is =
-      let number : Rec → ℕ = record_number n ids (place_order (meaning pairs root)) starts in
       let of : IsOf pairs (Node id) = All-In (λ i. IsOf pairs (Node i)) ids ids-of id is in
       let p = pair_at pairs sound.earlier id of in
-      let left : Rec = p.0.left in
-      let right : Rec = p.0.right in
-      let own : meaning pairs (Node id) ≡ node (meaning pairs left) (meaning pairs right) =
+      let at : get_or pairs id.0 (record { left = Leaf 0; right = Leaf 0 }) ≡ p.0 =
+      get_or_from_slice_get pairs id.0 p.0 (record { left = Leaf 0; right = Leaf 0 }) p.1 in
+      let own : meaning pairs (Node id)
+      ≡ node (meaning pairs p.0.left) (meaning pairs p.0.right) =
       meaning_node pairs sound.earlier id p.0 p.1 in
-      let children = children_of pairs sound.earlier id.0 p.0 p.1 in
-      let among : In (meaning pairs (Node id)) (inner nat_eq (meaning pairs root)) =
-      subst (In (meaning pairs (Node id))) trees (In-map (λ i. meaning pairs (Node i)) id ids is) in
-      let under : In (meaning pairs (Node id)) (preorder (meaning pairs root)) =
-      elim (In-each_once (tree_eq nat_eq) tree_equality (meaning pairs (Node id)) []
-      (preorder (meaning pairs root)) among) [ inl none ↦ absurd none | inr found ↦ found ] in
-      let down = λ (k : ℕ) (has : In k (leaves (node (meaning pairs left) (meaning pairs right)))).
-      leaves-inside k (meaning pairs (Node id)) (meaning pairs root) under
-      (subst (λ (t : Tree ℕ). In k (leaves t)) (sym own) has) in
-      let left_leaf = λ (k : ℕ) (e : left ≡ Leaf k). down k (In-left k (leaves (meaning pairs left))
-      (leaves (meaning pairs right)) (subst (λ (t : Tree ℕ). In k (leaves t))
-      (sym (ap (meaning pairs) e ∙ meaning-leaf pairs k)) (inl refl))) in
-      let right_leaf =
-      λ (k : ℕ) (e : right ≡ Leaf k). down k (In-right k (leaves (meaning pairs left))
-      (leaves (meaning pairs right)) (subst (λ (t : Tree ℕ). In k (leaves t))
-      (sym (ap (meaning pairs) e ∙ meaning-leaf pairs k)) (inl refl))) in
-      let numbers : node_numbers pairs number id ≡ (number left, number right) =
-      ap (λ (q : Pair). (number q.left, number q.right))
-      (get_or_from_slice_get pairs id.0 p.0 (record { left = Leaf 0; right = Leaf 0 }) p.1) in
-      numbers
-      ∙ ap₂ (λ (x y : ℕ). (x, y)) (number_is n starts left children.0 left_leaf)
-      (number_is n starts right children.1 right_leaf)
-      ∙ sym
-      (ap (λ (t : Tree ℕ). node_for nat_eq (place_at places) n (place_order (meaning pairs root))
-      starts (pair_of nat_eq (inner nat_eq (meaning pairs root)) t)) own)
+      ap (λ (q : Pair). (number n starts q.left, number n starts q.right)) at
+      ∙ children_are n starts id is p.0 p.1
+      ∙ sym (ap (λ (t : Tree ℕ). written_node n starts (pair_for t)) own)
 
   -- the numbers of all nodes
-  pub nodes_are : (n : ℕ) (starts : List ℕ) (u : Tree ℕ) → meaning pairs root ≡ u
-      → nodes_from pairs (record_number n ids (place_order (meaning pairs root)) starts) root ids
-      ≡ map (node_for nat_eq (place_at places) n (place_order (meaning pairs root)) starts)
-      (laid nat_eq u)
+  pub nodes_are : (n : ℕ) (starts : List ℕ) (u : Tree ℕ) → root_tree ≡ u
+      → nodes_from pairs (number n starts) root ids ≡ map (written_node n starts) (laid nat_eq u)
   nodes_are n starts (leaf a) is =
-      let number : Rec → ℕ = record_number n ids (place_order (meaning pairs root)) starts in
       let none : ids ≡ [] =
       map-nil (λ i. meaning pairs (Node i)) ids (trees ∙ ap (inner nat_eq) is) in
-      let here : number root
-      ≡ record_for nat_eq (place_at places) n (place_order (meaning pairs root)) starts (says a) =
-      number_is n starts root root-of (λ k e. subst (λ (t : Tree ℕ). In k (leaves t))
-      (sym (ap (meaning pairs) e ∙ meaning-leaf pairs k)) (inl refl))
-      ∙ ap (λ (t : Tree ℕ). record_for nat_eq (place_at places) n (place_order (meaning pairs root))
-      starts (member nat_eq (inner nat_eq (meaning pairs root)) t)) is in
-      ap (nodes_from pairs number root) none ∙ ap (λ (x : ℕ). (x, x) ∷ []) here
+      let here : number n starts root ≡ written_record n starts (says a) =
+      number_is n starts root root-of (own_leaf root)
+      ∙ ap (λ (t : Tree ℕ). written_record n starts (member_for t)) is in
+      ap (nodes_from pairs (number n starts) root) none ∙ ap (λ (x : ℕ). (x, x) ∷ []) here
   nodes_are n starts (node l r) is =
-      let number : Rec → ℕ = record_number n ids (place_order (meaning pairs root)) starts in
-      let f : Member ℕ × Member ℕ → ℕ × ℕ =
-      node_for nat_eq (place_at places) n (place_order (meaning pairs root)) starts in
-      let nodes_same : inner nat_eq (node l r) ≡ trees_of pairs ids =
+      let same : inner nat_eq (node l r) ≡ trees_of pairs ids =
       sym (ap (inner nat_eq) is) ∙ sym trees in
       let some : ids ≡ [] → ⊥ =
-      λ none. subst (In (node l r)) (nodes_same ∙ ap (trees_of pairs) none) (In-each_once-new
-      (tree_eq nat_eq) tree_equality (node l r) [] (preorder (node l r)) (inl refl)) in
-      nodes_from_some pairs number root ids some
-      ∙ map-same (node_numbers pairs number)
-      (λ id. f (pair_of nat_eq (inner nat_eq (meaning pairs root)) (meaning pairs (Node id)))) ids
-      (node_is n starts)
-      ∙ sym (map-three f (pair_of nat_eq (inner nat_eq (meaning pairs root)))
-      (λ id. meaning pairs (Node id)) ids)
-      ∙ ap (λ ts. map f (map (pair_of nat_eq (inner nat_eq (meaning pairs root))) ts))
-      (sym nodes_same)
-      ∙ ap (λ (t : Tree ℕ). map f (map (pair_of nat_eq (inner nat_eq t)) (inner nat_eq (node l r))))
-      is
+      λ none. subst (In (node l r)) (same ∙ ap (trees_of pairs) none)
+      (In-each_once-new (tree_eq nat_eq) tree_equality (node l r) [] (preorder (node l r))
+      (inl refl)) in
+      nodes_from_some pairs (number n starts) root ids some
+      ∙ map-same (node_numbers pairs (number n starts))
+      (λ id. written_node n starts (pair_for (meaning pairs (Node id)))) ids (node_is n starts)
+      ∙ sym (map-three (written_node n starts) pair_for (λ id. meaning pairs (Node id)) ids)
+      ∙ ap (λ ts. map (written_node n starts) (map pair_for ts)) (sym same)
+      ∙ ap (λ (t : Tree ℕ). map (written_node n starts)
+      (map (pair_of nat_eq (inner nat_eq t)) (inner nat_eq (node l r)))) is
 
   -- the file image
   pub image_is : (bits : Bits) (epoch : ℕ) (name : List ℕ) (n : ℕ)

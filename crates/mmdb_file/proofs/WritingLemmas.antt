@@ -156,25 +156,32 @@ node_by_children pairs number id left right is =
 abbrev Pairs : Type 0
 Pairs = List (List ℕ × Tree)
 
-pub with_value : (new old : Pairs) (key : List ℕ) (v w : Tree) → new ≡ old ++ (key, v) ∷ [] → v ≡ w
-    → new ≡ old ++ (key, w) ∷ []
-with_value new old key v w is same = is ∙ ap (λ t. old ++ (key, t) ∷ []) same
+-- a member that was added with an equal value
+pub added_value : (new old : Pairs) (key : List ℕ) (v w : Tree)
+    → new ≡ old ++ (key, v) ∷ [] → v ≡ w → new ≡ old ++ (key, w) ∷ []
+added_value new old key v w is same = is ∙ ap (λ t. old ++ (key, t) ∷ []) same
 
-next : (old new later : Pairs) (xs : Pairs) (b : List ℕ × Tree) → new ≡ old ++ xs
-    → later ≡ new ++ b ∷ [] → later ≡ old ++ (xs ++ b ∷ [])
-next old new later xs b is more = more ∙ ap (λ n. n ++ b ∷ []) is ∙ append_assoc old xs (b ∷ [])
+-- one more behind some
+added_one : (old new later xs : Pairs) (b : List ℕ × Tree)
+    → new ≡ old ++ xs → later ≡ new ++ b ∷ [] → later ≡ old ++ (xs ++ b ∷ [])
+added_one old new later xs b is more =
+    more ∙ ap (λ n. n ++ b ∷ []) is ∙ append_assoc old xs (b ∷ [])
 
-pub four : (old x1 x2 x3 x4 : Pairs) (a b c d : List ℕ × Tree) → x1 ≡ old ++ a ∷ []
-    → x2 ≡ x1 ++ b ∷ [] → x3 ≡ x2 ++ c ∷ [] → x4 ≡ x3 ++ d ∷ [] → x4 ≡ old ++ a ∷ b ∷ c ∷ d ∷ []
-four old x1 x2 x3 x4 a b c d e1 e2 e3 e4 =
-    next old x3 x4 (a ∷ b ∷ c ∷ []) d
-    (next old x2 x3 (a ∷ b ∷ []) c (next old x1 x2 (a ∷ []) b e1 e2) e3) e4
+-- the four members of the tree
+pub added_four : (old x1 x2 x3 x4 : Pairs) (a b c d : List ℕ × Tree)
+    → x1 ≡ old ++ a ∷ [] → x2 ≡ x1 ++ b ∷ [] → x3 ≡ x2 ++ c ∷ [] → x4 ≡ x3 ++ d ∷ []
+    → x4 ≡ old ++ a ∷ b ∷ c ∷ d ∷ []
+added_four old x1 x2 x3 x4 a b c d e1 e2 e3 e4 =
+    added_one old x3 x4 (a ∷ b ∷ c ∷ []) d
+    (added_one old x2 x3 (a ∷ b ∷ []) c (added_one old x1 x2 (a ∷ []) b e1 e2) e3) e4
 
-pub five : (old x1 x2 x3 x4 x5 : Pairs) (a b c d e : List ℕ × Tree) → x1 ≡ old ++ a ∷ []
-    → x2 ≡ x1 ++ b ∷ [] → x3 ≡ x2 ++ c ∷ [] → x4 ≡ x3 ++ d ∷ [] → x5 ≡ x4 ++ e ∷ []
-    → x5 ≡ old ++ a ∷ b ∷ c ∷ d ∷ e ∷ []
-five old x1 x2 x3 x4 x5 a b c d e e1 e2 e3 e4 e5 =
-    next old x4 x5 (a ∷ b ∷ c ∷ d ∷ []) e (four old x1 x2 x3 x4 a b c d e1 e2 e3 e4) e5
+-- the five members of the kind
+pub added_five : (old x1 x2 x3 x4 x5 : Pairs) (a b c d e : List ℕ × Tree)
+    → x1 ≡ old ++ a ∷ [] → x2 ≡ x1 ++ b ∷ [] → x3 ≡ x2 ++ c ∷ [] → x4 ≡ x3 ++ d ∷ []
+    → x5 ≡ x4 ++ e ∷ [] → x5 ≡ old ++ a ∷ b ∷ c ∷ d ∷ e ∷ []
+added_five old x1 x2 x3 x4 x5 a b c d e e1 e2 e3 e4 e5 =
+    added_one old x4 x5 (a ∷ b ∷ c ∷ d ∷ []) e
+    (added_four old x1 x2 x3 x4 a b c d e1 e2 e3 e4) e5
 
 -- the metadata can be written
 pub told_spelled : (epoch : ℕ) (name : List ℕ) (nodes size : ℕ) → length name ≤ 64

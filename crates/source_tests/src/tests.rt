@@ -2,7 +2,11 @@
 mod acts;
 mod given;
 mod orders;
+mod plain;
 mod realistic;
+mod references;
 mod rows;
 mod shapes;
+mod speakers;
+mod terms;
 mod told;

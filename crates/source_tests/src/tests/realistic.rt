@@ -6,7 +6,7 @@ use precedence::Sources;
 use std::alloc::Global;
 use std::test::Fail;
 
-const DUMP: &str = "% This is an extract.\n\n\
+pub const DUMP: &str = "% This is an extract.\n\n\
     inetnum:        192.0.2.0 - 192.0.2.255\nnetname:        EXAMPLE-NET\n\
     country:        DE\nremarks:        Geofeed https://geo.example.net/a.csv\n\
     last-modified:  2023-05-04T10:11:12Z\nsource:         RIPE\n\n\

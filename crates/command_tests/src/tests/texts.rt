@@ -1,5 +1,5 @@
-//! The texts of stops.
-use crate::stop::stop_line;
+//! The texts of stops, where no command of the other tables comes to one.
+use geofeed_cmd::stop_line;
 use job_lines::JobFault;
 use job_run::{Cause, Stop};
 use std::test::Fail;
