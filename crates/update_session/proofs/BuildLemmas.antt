@@ -1,16 +1,14 @@
 -- What a root answers after the segments were painted on it.
 use Rattle.std.proofs.Common.{◌≡◌, ℕ, zero, suc, ◌+◌, ◌*◌, ◌^◌, ◌<◌, ◌≤◌, Bool, true, false, cond}
-use Rattle.std.proofs.Common.{◌&&◌, leb, List, [], ◌∷◌, ◌++◌, length, map, take, get_or, add-one}
-use Rattle.std.proofs.Common.{Option, Some, None, refl, sym, ap, ap₂, ◌∙◌, subst, arith}
-use Rattle.std.proofs.Common.{length-append, append_assoc, append-nil, Bor}
+use Rattle.std.proofs.Common.{◌&&◌, leb, List, [], ◌∷◌, ◌++◌, length, map, get_or}
+use Rattle.std.proofs.Common.{Option, Some, None, refl, sym, ap, ◌∙◌, subst, arith}
+use Rattle.std.proofs.Common.{length-append, append_assoc, append-nil}
 use Rattle.std.specs.Prelude.{slice_get}
-use Rattle.std.specs.List.{All, Any, AllByRecursion, AllZip}
+use Rattle.std.specs.List.{All, Any, AllByRecursion}
 use Rattle.std.proofs.lemmas.Bool.Decides.{nat_tests}
-use Rattle.std.proofs.lemmas.List.{length-map, map-append}
+use Rattle.std.proofs.lemmas.List.{length-map}
 use Rattle.std.proofs.Math.ListN.{get_or-map}
-use Rattle.std.proofs.Math.Seq.{take-suc}
-use Rattle.std.proofs.lemmas.Slice.Zip.{all_zipped_more}
-use Rattle.std.proofs.lemmas.List.Elements.{All-from_recursion, recursion_from_All}
+use Rattle.std.proofs.lemmas.List.Elements.{recursion_from_All}
 use Rattle.geo_addr.specs.Ranges.{Ends, IsRange, IsWithin}
 use Rattle.geo_terms.specs.Numbers.{place_at}
 use Rattle.geo_terms.specs.PlaceForm.{PlaceParts}
@@ -23,7 +21,7 @@ use Rattle.trie_core.specs.declared.node.Root.{Root}
 use Rattle.trie_core.specs.declared.paint.Part.{Part}
 use Rattle.trie_core.specs.Paint.{IsAscending, leaf_in, over}
 use Rattle.trie_core.specs.Store.{leaf_at}
-use Rattle.update_session.specs.Build.{AreSteady, HasNumber, IsNumbered, IsSaid}
+use Rattle.update_session.specs.Build.{AreSteady, HasNumber}
 use Rattle.update_session.specs.Touch.{bound, few_places}
 use Rattle.update_session.specs.Kept.{Answers, AnswersSpoken, GrowsBy}
 
@@ -36,7 +34,7 @@ slice_get-grown (x ∷ xs) more zero below = refl
 slice_get-grown (x ∷ xs) more (suc i) below = slice_get-grown xs more i (omega arith)
 
 -- a number keeps its place
-place_at-grown : (before more : List PlaceParts) (k : ℕ) → k ≤ length before
+pub place_at-grown : (before more : List PlaceParts) (k : ℕ) → k ≤ length before
     → place_at (before ++ more) k ≡ place_at before k
 place_at-grown before more zero few = refl
 place_at-grown before more (suc i) few = slice_get-grown before more i (omega arith)
@@ -51,71 +49,6 @@ GrowsBy-trans x y z m n all (more, y-is, few) (late, z-is, few') le = (
   z-is ∙ ap (λ (ps : List PlaceParts). ps ++ late) y-is ∙ append_assoc x more late,
   omega (arith, few, few', le, length-append more late),
 )
-
-IsNumbered-grown : (before after : List PlaceParts) (n : ℕ) (said : Option (Bor PlaceParts))
-    (p : Part) → GrowsBy before after n → IsNumbered before said p → IsNumbered after said p
-IsNumbered-grown before after n said p (more, after-is, few) h =
-    subst (λ (places : List PlaceParts). IsNumbered places said p) (sym after-is)
-    (record {
-      few = omega (arith, h.few, length-append before more);
-      place = place_at-grown before more p.leaf h.few ∙ h.place;
-    })
-
--- parts with numbers keep them
-pub AllZip-IsNumbered-grown : (before after : List PlaceParts) (n : ℕ)
-    (said : List (Option (Bor PlaceParts))) (ps : List Part) → GrowsBy before after n
-    → AllZip (IsNumbered before) said ps → AllZip (IsNumbered after) said ps
-AllZip-IsNumbered-grown before after n [] [] grown h = h
-AllZip-IsNumbered-grown before after n [] (p ∷ ps) grown h = absurd h
-AllZip-IsNumbered-grown before after n (x ∷ xs) [] grown h = absurd h
-AllZip-IsNumbered-grown before after n (x ∷ xs) (p ∷ ps) grown h = (
-  IsNumbered-grown before after n x p grown h.0,
-  AllZip-IsNumbered-grown before after n xs ps grown h.1,
-)
-
--- one part more, for one more thing that is said
-pub one_more_numbered : (places : List PlaceParts) (said : List (Option (Bor PlaceParts)))
-    (ps all : List Part) (i : ℕ) (x : Option (Bor PlaceParts)) (p : Part) → i < length said
-    → x ≡ get_or said i x → AllZip (IsNumbered places) (take i said) ps → IsNumbered places x p
-    → all ≡ ps ++ p ∷ [] → AllZip (IsNumbered places) (take (i + 1) said) all
-one_more_numbered places said ps all i x p below is h one pushed =
-    let longer : take (i + 1) said ≡ take i said ++ x ∷ [] =
-    ap (λ n. take n said) (add-one i) ∙ take-suc said i x below
-    ∙ ap (λ y. take i said ++ y ∷ []) (sym is) in
-    subst (λ (qs : List Part). AllZip (IsNumbered places) (take (i + 1) said) qs) (sym pushed)
-    (subst (λ (ys : List (Option (Bor PlaceParts))). AllZip (IsNumbered places) ys (ps ++ p ∷ []))
-    (sym longer) (all_zipped_more (IsNumbered places) (take i said) ps x p h one))
-
--- one part more, for one segment more
-pub one_more_range : (segments : List Ends) (ps all : List Part) (i : ℕ) (r : Ends) (p : Part)
-    → i < length segments → r ≡ get_or segments i r → map (λ q. q.range) ps ≡ take i segments
-    → p.range ≡ r → all ≡ ps ++ p ∷ [] → map (λ q. q.range) all ≡ take (i + 1) segments
-one_more_range segments ps all i r p below is h one pushed =
-    ap (map (λ (q : Part). q.range)) pushed ∙ map-append (λ (q : Part). q.range) ps (p ∷ [])
-    ∙ ap₂ (λ (xs : List Ends) (x : Ends). xs ++ x ∷ []) h (one ∙ is)
-    ∙ sym (ap (λ n. take n segments) (add-one i) ∙ take-suc segments i r below)
-
-numbers_by_recursion : (s : InForce) (places : List PlaceParts)
-    (said : List (Option (Bor PlaceParts))) (ps : List Part)
-    → AllZip (IsSaid s) (map (λ p. p.range) ps) said → AllZip (IsNumbered places) said ps
-    → AllByRecursion (HasNumber s places) ps
-numbers_by_recursion s places said [] are_said numbered = tt
-numbers_by_recursion s places [] (p ∷ ps) are_said numbered = absurd numbered
-numbers_by_recursion s places (x ∷ xs) (p ∷ ps) are_said numbered = (
-  (numbered.0.few, numbered.0.place ∙ are_said.0),
-  numbers_by_recursion s places xs ps are_said.1 numbered.1,
-)
-
--- the parts of segments have the numbers of what is said of these
-pub numbers_of_parts : (s : InForce) (places : List PlaceParts) (segments : List Ends)
-    (said : List (Option (Bor PlaceParts))) (ps : List Part) → map (λ p. p.range) ps ≡ segments
-    → AllZip (IsSaid s) segments said → AllZip (IsNumbered places) said ps
-    → All (HasNumber s places) ps
-numbers_of_parts s places segments said ps ranges are_said numbered =
-    let of_parts : AllZip (IsSaid s) (map (λ p. p.range) ps) said =
-    subst (λ (rs : List Ends). AllZip (IsSaid s) rs said) (sym ranges) are_said in
-    All-from_recursion (HasNumber s places) ps
-    (numbers_by_recursion s places said ps of_parts numbered)
 
 -- an emit gives numbers to no more places than the segments are, and paints no more parts
 pub few_places_of : (s : InForce) (touched segments : List Ends) (n : ℕ)

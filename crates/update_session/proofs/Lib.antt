@@ -3,6 +3,7 @@ pub mod BuildLemmas
 pub mod CompactLemmas
 pub mod KeptLemmas
 pub mod MarkLemmas
+pub mod NumberingLemmas
 pub mod StandingLemmas
 pub mod TouchLemmas
 pub mod WriteLemmas

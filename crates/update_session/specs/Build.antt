@@ -1,9 +1,9 @@
 -- How the tree is painted anew: the touched grounds are cut, each segment gets its place's number,
 -- and all are painted.
-use Rattle.std.specs.Prelude.{◌≡◌, ℕ, ◌<◌, ◌≤◌, IsTrue, List, length, Option, All, Any}
-use Rattle.std.specs.List.{AllAdjacentBelow}
-use Rattle.std.specs.Borrow.{Bor}
-use Rattle.std.specs.Option.{option_copied}
+use Rattle.std.specs.Prelude.{◌≡◌, ℕ, ◌+◌, ◌<◌, ◌≤◌, IsTrue, List, [], ◌∷◌, length, map, Option}
+use Rattle.std.specs.Prelude.{All}
+use Rattle.std.specs.Prelude.{Any, zero, suc, get_or}
+use Rattle.std.specs.List.{AllAdjacentBelow, AllByRecursion}
 use Rattle.geo_addr.specs.Ranges.{Ends, IsRange, IsWithin}
 use Rattle.geo_terms.specs.Cuts.{statement_ranges}
 use Rattle.geo_terms.specs.Numbers.{place_at}
@@ -13,6 +13,7 @@ use Rattle.geo_terms.specs.Sources.{InForce}
 use Rattle.source_changes.specs.Touched.{is_touched}
 use Rattle.trie_core.specs.declared.paint.Part.{Part}
 use Rattle.update_session.specs.Touch.{touch}
+use Rattle.update_session.specs.declared.choosing.Chosen.{Chosen}
 
 -- ascending ranges that have the touched addresses and no others, of all of each the same is said,
 -- and there are no more of them than the touch
@@ -29,12 +30,31 @@ abbrev pub HasNumber : InForce → List PlaceParts → Part → Type 0
 HasNumber s places p =
     (p.leaf ≤ length places) × (place_at places p.leaf ≡ spoken_at s p.range.first)
 
--- what is said of a segment: what is said of its first address
-abbrev pub IsSaid : InForce → Ends → Option (Bor PlaceParts) → Type 0
-IsSaid s segment place = option_copied place ≡ spoken_at s segment.first
-
--- a part has the number of what is said
-pub record IsNumbered (places : List PlaceParts) (said : Option (Bor PlaceParts)) (part : Part)
+-- numbers of a list of places, and what they stand for
+pub record StandFor (places : List PlaceParts) (leaves : List ℕ) (said : List (Option PlaceParts))
     : Type 0 where
-  pub few : part.leaf ≤ length places
-  pub place : place_at places part.leaf ≡ option_copied said
+  pub known : AllByRecursion (λ leaf. leaf ≤ length places) leaves
+  pub means : map (place_at places) leaves ≡ said
+
+-- what the numbers of a run stand for among its own places
+abbrev pub said_in : Chosen → List (Option PlaceParts)
+said_in c = map (place_at c.places) c.leaves.items
+
+-- each number of a run is one of its places, or 0
+abbrev pub IsKnown : Chosen → Type 0
+IsKnown c = AllByRecursion (λ leaf. leaf ≤ length c.places) c.leaves.items
+
+-- how many places runs have together
+abbrev pub places_in : List Chosen → ℕ
+places_in [] = 0
+places_in (c ∷ cs) = length c.places + places_in cs
+
+-- what is said in a run of segments: of each that of its first address; it has no more places
+pub record IsChosen (s : InForce) (run : List Ends) (c : Chosen) : Type 0 where
+  pub stands : StandFor c.places c.leaves.items (map (λ r. spoken_at s r.first) run)
+  pub few : length c.places ≤ length run
+
+-- the number for one of a run, where the run's places have these numbers
+abbrev pub renamed : List ℕ → ℕ → ℕ
+renamed names zero = 0
+renamed names (suc at) = get_or names at 0

@@ -2,23 +2,22 @@
 //! gets its number, all segments are painted in one pass, and the blocks
 //! that carry IPv4 addresses follow.
 ghost use Rattle.std.specs.Prelude.{◌≡◌, ℕ, ◌+◌, ◌-◌, ◌*◌, ◌^◌, ◌<◌, ◌≤◌, ◌⊎◌, [], length, map};
-ghost use Rattle.std.specs.Prelude.{All, IfOk, Ok, Some, Err};
-ghost use Rattle.std.specs.List.{AllZip};
+ghost use Rattle.std.specs.Prelude.{All, IfOk, Ok, Err};
 ghost use Rattle.geo_terms.specs.Cuts.{statement_ranges};
-ghost use Rattle.geo_terms.specs.Numbers.{place_at};
 ghost use Rattle.trie_core.specs.Paint.{IsAscending, leaf_in, over};
 ghost use Rattle.trie_core.specs.Store.{leaf_at, IsRootOf, GrowsBy};
-ghost use Rattle.update_session.specs.Build.{AreSteady, IsNumbered};
+ghost use Rattle.update_session.specs.Build.{AreSteady, HasNumber};
 ghost use Rattle.update_session.specs.Kept.{AnswersAll, GrowsBy as PlacesGrowBy, HasBase};
 ghost use Rattle.update_session.specs.Touch.{bound, few_places, touch};
 
 use crate::alias::with_aliases;
-use crate::choosing::choose;
+use crate::choosing::{choose, runs_of};
 use crate::fault::EmitFault;
+use crate::numbering::leaves_of;
 use fan_work::Forks;
 use geo_addr::{Memory, Range};
 use geo_outside::{Gate, Steps};
-use geo_terms::{Place, Places, PlacesFault};
+use geo_terms::Places;
 use precedence::Sources;
 use std::alloc::Global;
 use std::marker::Sync;
@@ -58,9 +57,7 @@ pub(crate) fn repaint<R: Threads + Sync, G: Gate, L: Ledger>(
         return Ok(root);
     }
     let segments = cut(sources, touched)?;
-    let said = choose(forks, sources, segments.as_slice())?;
-    let parts = parts_of(forks.alloc, segments.as_slice(), said.as_slice(), places)?;
-    drop(said);
+    let parts = numbered(forks, sources, segments.as_slice(), places)?;
     drop(segments);
     let painted = paint(store, root, parts.as_slice(), steps)?;
     with_aliases(store, painted, steps)
@@ -75,53 +72,36 @@ fn cut(sources: &Sources, touched: &[Range]) -> Result<Vec<Range>, Memory>
 }
 
 // Each segment with the number of what is said of it.
-fn parts_of(
-    alloc: Global,
+fn numbered<R: Threads + Sync, G: Gate>(
+    forks: &Forks<R, G>,
+    sources: &Sources,
     segments: &[Range],
-    said: &[Option<&Place>],
     places: &mut Places,
 ) -> Result<Vec<Part>, EmitFault>
-    requires { length said.now ≡ length segments.now }
-    ensures ranges { IfOk result (λ parts. map (λ p. p.range) parts.items ≡ segments.entry.now) }
-    ensures numbered { IfOk result
-        (λ parts. AllZip (IsNumbered places.new) said.entry.now parts.items) }
-    ensures places { PlacesGrowBy places.old places.new (length segments.entry.now) }
+    ensures ranges { IfOk result (λ parts. map (λ p. p.range) parts.items ≡ segments.now) }
+    ensures numbers { IfOk result (λ parts. All (HasNumber sources.now places.new) parts.items) }
+    ensures places { PlacesGrowBy places.old places.new (length segments.now) }
     ensures full { result ≡ Err EmitFault.TooLarge → length places.new + 1 ≡ 2 ^ 32 }
 {
-    let mut parts = Vec::with_capacity(alloc, segments.len())?;
-    for (at, range) in segments.iter().enumerate() {
-        let part = part_of(*range, said[at], places)?;
-        parts.push(part)?;
-    }
+    let runs = runs_of(forks.alloc, segments, forks.pieces)?;
+    let chosen = choose(forks, sources, runs.as_slice())?;
+    let leaves = leaves_of(forks.alloc, chosen.as_slice(), segments.len(), places)?;
+    let parts = parts_of(forks.alloc, segments, leaves.as_slice())?;
     Ok(parts)
 }
 
-// A segment with the number of what is said of it.
-fn part_of(range: Range, said: Option<&Place>, places: &mut Places) -> Result<Part, EmitFault>
-    ensures range { IfOk result (λ part. part.range ≡ range) }
-    ensures numbered { IfOk result (IsNumbered places.new said.entry) }
-    ensures places { PlacesGrowBy places.old places.new 1 }
-    ensures full { result ≡ Err EmitFault.TooLarge → length places.new + 1 ≡ 2 ^ 32 }
+// Each segment with its number.
+fn parts_of(alloc: Global, segments: &[Range], leaves: &[u32]) -> Result<Vec<Part>, Memory>
+    requires { length leaves.now ≡ length segments.now }
+    ensures ranges { IfOk result (λ parts. map (λ p. p.range) parts.items ≡ segments.now) }
+    ensures leaves { IfOk result (λ parts. map (λ p. p.leaf) parts.items ≡ leaves.now) }
 {
-    let leaf = match said {
-        Some(place) => number_of(places, place)?,
-        None => 0,
-    };
-    Ok(Part { range, leaf })
-}
-
-// The number of a place.
-fn number_of(places: &mut Places, place: &Place) -> Result<u32, EmitFault>
-    ensures held { IfOk result
-        (λ number. (number ≤ length places.new) × (place_at places.new number ≡ Some place.now)) }
-    ensures places { PlacesGrowBy places.old places.new 1 }
-    ensures full { result ≡ Err EmitFault.TooLarge → length places.new + 1 ≡ 2 ^ 32 }
-{
-    match places.intern(place) {
-        Ok(number) => Ok(number),
-        Err(PlacesFault::Full) => Err(EmitFault::TooLarge),
-        Err(PlacesFault::Memory) => Err(EmitFault::Memory),
+    let mut parts = Vec::with_capacity(alloc, segments.len())?;
+    for (at, range) in segments.iter().enumerate() {
+        let (range, leaf) = (*range, leaves[at]);
+        parts.push(Part { range, leaf })?;
     }
+    Ok(parts)
 }
 
 // The root with the parts painted on it.

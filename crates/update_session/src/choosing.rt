@@ -1,40 +1,88 @@
 //! What the sources say of each segment, looked up by pieces side by side.
-ghost use Rattle.std.specs.Prelude.{IfOk};
+ghost use Rattle.std.specs.Prelude.{◌≡◌, ◌<◌, flat_map, IfOk};
 ghost use Rattle.std.specs.List.{AllZip};
-ghost use Rattle.update_session.specs.Build.{IsSaid};
+ghost use Rattle.update_session.specs.Build.{IsChosen};
 
+use crate::numbering::leaf_of;
 use fan_work::{Forks, Work, map_pieces};
 use geo_addr::{Memory, Range};
 use geo_outside::Gate;
-use geo_terms::Place;
+use geo_terms::Places;
 use precedence::Sources;
 use std::alloc::Global;
 use std::marker::Sync;
 use std::thread::Threads;
 
-/// Work that asks what the sources say of a segment.
+/// What is said in a run of segments: the places that are, and for each segment the number of its
+/// own among them, or 0 where nothing is said of it.
+#[derive(Drop)]
+pub(crate) struct Chosen {
+    pub(crate) places: Places,
+    pub(crate) leaves: Vec<u32>,
+}
+
+/// Work that asks what the sources say of the segments of a run.
 #[derive(Drop)]
 struct Choosing<'a> {
     sources: &'a Sources,
 }
 
-impl<'a> Work<Range, Option<&'a Place>> for Choosing<'a> {
-    ghost use Rattle.update_session.specs.Build.{IsSaid};
+impl<'a, 'b> Work<&'b [Range], Chosen> for Choosing<'a> {
+    ghost use Rattle.update_session.specs.Build.{IsChosen};
 
-    ghost related = { λ work range place. IsSaid work.sources.now range place };
+    ghost related = { λ work run chosen. IsChosen work.sources.now run.now chosen };
 
-    fn done(&self, _alloc: Global, item: &Range) -> Result<Option<&'a Place>, Memory> {
-        Ok(self.sources.choice(*item))
+    fn done(&self, alloc: Global, item: &&'b [Range]) -> Result<Chosen, Memory> {
+        let chosen = chosen_in(alloc, self.sources, item)?;
+        Ok(chosen)
     }
 }
 
-/// What the sources say of each segment, looked up by pieces that enter the gate.
-pub(crate) fn choose<'a, R: Threads + Sync, G: Gate>(
+/// What the sources say in each run of segments, looked up by pieces that enter the gate.
+pub(crate) fn choose<R: Threads + Sync, G: Gate>(
     forks: &Forks<R, G>,
-    sources: &'a Sources,
-    segments: &[Range],
-) -> Result<Vec<Option<&'a Place>>, Memory>
-    ensures { IfOk result (λ said. AllZip (IsSaid sources.entry.now) segments.now said.items) }
+    sources: &Sources,
+    runs: &[&[Range]],
+) -> Result<Vec<Chosen>, Memory>
+    ensures { IfOk result (λ chosen. AllZip (λ run one. IsChosen sources.entry.now run.now one)
+        runs.now chosen.items) }
 {
-    map_pieces(forks, segments, &Choosing { sources })
+    let chosen = map_pieces(forks, runs, &Choosing { sources })?;
+    Ok(chosen)
+}
+
+/// The segments as runs of neighbours, of which there are no more than pieces.
+pub(crate) fn runs_of(
+    alloc: Global,
+    segments: &[Range],
+    pieces: u32,
+) -> Result<Vec<&[Range]>, Memory>
+    requires { 0 < pieces }
+    ensures { IfOk result (λ runs. flat_map (λ r. r.now) runs.items ≡ segments.entry.now) }
+{
+    let longest = segments.len() / pieces as usize + 1;
+    let mut runs = Vec::new(alloc);
+    let mut left = segments;
+    while !left.is_empty() {
+        let (run, rest) = left.split_at(longest.min(left.len()));
+        runs.push(run)?;
+        left = rest;
+    }
+    Ok(runs)
+}
+
+// What the sources say in a run.
+fn chosen_in(alloc: Global, sources: &Sources, run: &[Range]) -> Result<Chosen, Memory>
+    ensures { IfOk result (IsChosen sources.now run.now) }
+{
+    let mut places = Places::new(alloc);
+    let mut leaves = Vec::with_capacity(alloc, run.len())?;
+    for segment in run {
+        // A table of a run is full only where no memory holds the run.
+        let Ok(leaf) = leaf_of(&mut places, sources.choice(*segment)) else {
+            return Err(Memory);
+        };
+        leaves.push(leaf)?;
+    }
+    Ok(Chosen { places, leaves })
 }

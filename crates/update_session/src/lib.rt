@@ -10,6 +10,7 @@ mod fault;
 pub mod laws;
 mod marking;
 mod marks;
+mod numbering;
 mod replaced;
 mod session;
 mod setting;
