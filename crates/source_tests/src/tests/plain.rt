@@ -50,10 +50,15 @@ fn made_feed(alloc: Global, line: u64, number: &mut u64) -> Result<Feed, Fail> {
     let url = url_of(alloc, line)?;
     let place = next(number) & 0xFF;
     if next(number) & 1 == 1 {
-        return feed(alloc, url.as_str(), line + 1, "255.255.255.128/25");
+        return feed(
+            alloc,
+            url.as_str(),
+            line.saturating_add(1),
+            "255.255.255.128/25",
+        );
     }
     let block = format!(in alloc; "255.255.255.{place}/32")?;
-    feed(alloc, url.as_str(), line + 1, block.as_str())
+    feed(alloc, url.as_str(), line.saturating_add(1), block.as_str())
 }
 
 // Feeds with a block near that border.
