@@ -51,7 +51,10 @@ pub(crate) fn choose<R: Threads + Sync, G: Gate>(
     Ok(chosen)
 }
 
-/// The segments as runs of neighbours, of which there are no more than pieces.
+/// The segments as runs of neighbours, a run for each piece that has any.
+///
+/// The segments are shared out as items are to pieces, so each piece is at its gate as if it had the
+/// segments themselves.
 pub(crate) fn runs_of(
     alloc: Global,
     segments: &[Range],
@@ -60,13 +63,19 @@ pub(crate) fn runs_of(
     requires { 0 < pieces }
     ensures { IfOk result (λ runs. flat_map (λ r. r.now) runs.items ≡ segments.entry.now) }
 {
-    let longest = segments.len() / pieces as usize + 1;
     let mut runs = Vec::new(alloc);
     let mut left = segments;
-    while !left.is_empty() {
-        let (run, rest) = left.split_at(longest.min(left.len()));
-        runs.push(run)?;
+    let mut shares = pieces as usize;
+    while shares > 1 {
+        let (run, rest) = left.split_at(left.len() / shares);
+        if !run.is_empty() {
+            runs.push(run)?;
+        }
         left = rest;
+        shares -= 1;
+    }
+    if !left.is_empty() {
+        runs.push(left)?;
     }
     Ok(runs)
 }
