@@ -1,4 +1,4 @@
--- Sources behind their owners: put in place, taken out and found, with their indexes.
+-- Sources behind their owners: put in, taken out and found, with their indexes.
 use Rattle.std.proofs.Common.{◌≡◌, ℕ, zero, suc, ◌+◌, ◌<◌, ◌≤◌, ◌^◌, true, false, cond, not, Less}
 use Rattle.std.proofs.Common.{Equal, Greater, List, [], ◌∷◌, ◌++◌, length, get_or, map, take, drop}
 use Rattle.std.proofs.Common.{set, Option, Some, None, Ok, Err, slice_get, refl, sym, ap, ◌∙◌}
@@ -17,7 +17,7 @@ use Rattle.geo_terms.specs.First.{first_of}
 use Rattle.geo_terms.specs.Precedence.{entries_within, entry_before, text_cmp}
 use Rattle.geo_terms.specs.Sources.{entries_in}
 use Rattle.geo_terms.specs.SlotOrder.{AreInOrder, placed, removed}
-use Rattle.geo_terms.proofs.SlotLemmas.{not_there, placed_in_order, put_between, put_in_place}
+use Rattle.geo_terms.proofs.SlotLemmas.{not_there, placed_in_order, put_between, put_over}
 use Rattle.geo_terms.proofs.SlotLemmas.{removed_in_order, taken_out}
 use Rattle.geo_terms.specs.SourceForm.{DumpParts, FeedParts}
 use Rattle.geo_terms.specs.declared.boundaries.Boundary.{Boundary}
@@ -100,9 +100,9 @@ module _ {A X : Type 0} (v : A → X) (name : X → List ℕ) (n : List ℕ) (ys
       out.1 ∙ sym (slice_get-get_or ys i old (long_found i below)) ∙ is in
       ap (option_map v) (sym there) ∙ find_map v name n ys
 
-  pub place_found : (i : ℕ) → i < length seen → Found seen i
+  pub index_found : (i : ℕ) → i < length seen → Found seen i
       → option_map v (slice_get ys i) ≡ find (λ x. same_text (name x) n) (map v ys)
-  place_found i below found = here ys refl (long_found i below)
+  index_found i below found = here ys refl (long_found i below)
     where
       here : (zs : List A) → zs ≡ ys → i < length zs
           → option_map v (slice_get ys i) ≡ find (λ x. same_text (name x) n) (map v ys)
@@ -137,7 +137,7 @@ module _ {A X : Type 0} (v : A → X) (name : X → List ℕ) (n : List ℕ) (ys
       subst (λ m. IsBinarySearchResult (λ a. text_cmp (name (v a)) m) ys (Ok i)) e
       (subst (λ zs. Found zs i) same found) in
       let out : new ≡ placed (λ a. name (v a)) x ys =
-      is ∙ put_in_place (λ a. name (v a)) x ys i up (long_found i below) here in (
+      is ∙ put_over (λ a. name (v a)) x ys i up (long_found i below) here in (
         subst (λ zs. AreInOrder (λ a. name (v a)) zs) (sym out)
             (placed_in_order (λ a. name (v a)) x ys up),
         ap (map v) out ∙ placed_map v name x ys,
@@ -194,8 +194,8 @@ module _ {Z : Type 0} where
   abbrev own : Arc DumpParts Z → List Reference
   own d = (arc_value d).refs
 
-  -- the references of the dumps before a place, of a dump, and of those behind it are those of the
-  -- dumps with it in that place
+  -- the references of the dumps before an index, of a dump, and of those behind it are those of the
+  -- dumps with it at that index
   pub refs_set : (ds : List (Arc DumpParts Z)) (i : ℕ) (x : Arc DumpParts Z) → i < length ds
       → (refs (take i ds) ++ own x) ++ refs (drop (i + 1) ds) ≡ refs (set ds i x)
   refs_set [] i x lt = absurd (omega arith)
@@ -273,17 +273,17 @@ module _ {Z : Type 0} where
 
   -- the speaking entry of a feed, by what its index tells
   pub speaks : (fs : List (Arc FeedParts Z)) (xs : List (Arc (List Boundary) Z))
-      (place : ℕ) (o : Option FeedParts) (r : Ends) (a : ℕ) → TellFeeds fs xs
-      → option_map arc_value (slice_get fs place) ≡ o → a < 2 ^ 128
-      → first_of entry_before (entries_within (entries_in o) r a) ≡ kept r (told_at fs xs place a)
-  speaks [] xs place o r a h e lt =
+      (index : ℕ) (o : Option FeedParts) (r : Ends) (a : ℕ) → TellFeeds fs xs
+      → option_map arc_value (slice_get fs index) ≡ o → a < 2 ^ 128
+      → first_of entry_before (entries_within (entries_in o) r a) ≡ kept r (told_at fs xs index a)
+  speaks [] xs index o r a h e lt =
       subst (λ (o : Option FeedParts). first_of entry_before (entries_within (entries_in o) r a)
       ≡ None) e refl
-  speaks (f ∷ fs) [] place o r a h e lt = absurd h
+  speaks (f ∷ fs) [] index o r a h e lt = absurd h
   speaks (f ∷ fs) (x ∷ xs) zero o r a h e lt =
       subst (λ (o : Option FeedParts). first_of entry_before (entries_within (entries_in o) r a)
       ≡ kept r (told_at (f ∷ fs) (x ∷ xs) zero a)) e
       (longest_within r a (arc_value {X = FeedParts} f).entries (recursion_from_All
       (λ (e : Entry). IsBlock e.block) (arc_value {X = FeedParts} f).entries h.0.blocks)
       ∙ ap (kept r) (sym (h.0.first a lt)))
-  speaks (f ∷ fs) (x ∷ xs) (suc place) o r a h e lt = speaks fs xs place o r a h.1 e lt
+  speaks (f ∷ fs) (x ∷ xs) (suc index) o r a h e lt = speaks fs xs index o r a h.1 e lt

@@ -45,12 +45,12 @@ module _ {Z : Type 0} where
   abbrev pub TellFeeds : List (Arc FeedParts Z) → List (Arc (List Boundary) Z) → Type 0
   TellFeeds = AllZip (λ f i. TellsEntries (arc_value f) (arc_value i))
 
-  -- the entry of the feed at a place that the index at this place tells
+  -- the entry of one feed of the list that its own index tells
   abbrev pub told_at : List (Arc FeedParts Z) → List (Arc (List Boundary) Z) → ℕ → ℕ → Option Entry
-  told_at fs xs place a =
+  told_at fs xs index a =
       option_and_then
       (λ f. option_and_then (λ x. option_and_then (slice_get (arc_value {X = FeedParts} f).entries)
-      (told None (arc_value x) a)) (slice_get xs place)) (slice_get fs place)
+      (told None (arc_value x) a)) (slice_get xs index)) (slice_get fs index)
 
   -- what an authority keeps
   pub record IsHeld (dumps : List (Arc DumpParts Z)) (refs : Option (Arc (List Reference) Z))

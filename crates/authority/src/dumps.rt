@@ -17,31 +17,31 @@ use std::mem;
 use std::sync::Arc;
 
 /// Where the dump of a slot stands, or where one is to be put.
-pub fn place_of_dump(dumps: &[Arc<Dump>], slot: &str) -> Result<usize, usize>
+pub fn search_dumps(dumps: &[Arc<Dump>], slot: &str) -> Result<usize, usize>
     ensures within { IsSearchInRange result (length dumps.now) }
     ensures found { IsBinarySearchResult (λ d. text_cmp (slot_of d) slot.now) dumps.now result }
 {
     dumps.binary_search_by(|dump| dump.slot.as_str().cmp(slot))
 }
 
-/// Puts a dump in the place of another one, which is handed back.
+/// Puts a dump over another one, which is handed back.
 pub fn replace_dump(
     alloc: Global,
     dumps: &mut Vec<Arc<Dump>>,
     refs: &mut Option<Arc<Index>>,
-    place: usize,
+    at: usize,
     dump: Arc<Dump>,
 ) -> Result<Arc<Dump>, Memory>
-    requires { place < length dumps.old.items }
-    ensures dumps { OnOk result (dumps.new.items ≡ slice_set dumps.old.items place dump) }
+    requires { at < length dumps.old.items }
+    ensures dumps { OnOk result (dumps.new.items ≡ slice_set dumps.old.items at dump) }
     ensures index { OnOk result
         (AnswerAlike (references_in (map arc_value dumps.new.items)) (indexed refs.new)) }
-    ensures old { IfOk result (λ old. slice_get dumps.old.items place ≡ Some old) }
+    ensures old { IfOk result (λ old. slice_get dumps.old.items at ≡ Some old) }
     ensures err_dumps { OnErr result (dumps.new.items ≡ dumps.old.items) }
     ensures err_refs { OnErr result (refs.new ≡ refs.old) }
 {
-    let index = index_with(alloc, dumps.as_slice(), place, place + 1, &dump)?;
-    let old = mem::replace(&mut dumps[place], dump);
+    let index = index_with(alloc, dumps.as_slice(), at, at + 1, &dump)?;
+    let old = mem::replace(&mut dumps[at], dump);
     *refs = Some(index);
     Ok(old)
 }
@@ -51,18 +51,18 @@ pub fn insert_dump(
     alloc: Global,
     dumps: &mut Vec<Arc<Dump>>,
     refs: &mut Option<Arc<Index>>,
-    place: usize,
+    at: usize,
     dump: Arc<Dump>,
 ) -> Result<(), Memory>
-    requires { place ≤ length dumps.old.items }
-    ensures dumps { OnOk result (dumps.new.items ≡ insert dumps.old.items place dump) }
+    requires { at ≤ length dumps.old.items }
+    ensures dumps { OnOk result (dumps.new.items ≡ insert dumps.old.items at dump) }
     ensures index { OnOk result
         (AnswerAlike (references_in (map arc_value dumps.new.items)) (indexed refs.new)) }
     ensures err_dumps { OnErr result (dumps.new.items ≡ dumps.old.items) }
     ensures err_refs { OnErr result (refs.new ≡ refs.old) }
 {
-    let index = index_with(alloc, dumps.as_slice(), place, place, &dump)?;
-    dumps.insert(place, dump)?;
+    let index = index_with(alloc, dumps.as_slice(), at, at, &dump)?;
+    dumps.insert(at, dump)?;
     *refs = Some(index);
     Ok(())
 }
@@ -72,22 +72,22 @@ pub fn remove_dump(
     alloc: Global,
     dumps: &mut Vec<Arc<Dump>>,
     refs: &mut Option<Arc<Index>>,
-    place: usize,
+    at: usize,
 ) -> Result<Arc<Dump>, Memory>
-    requires { place < length dumps.old.items }
-    ensures dumps { OnOk result (dumps.new.items ≡ remove dumps.old.items place) }
+    requires { at < length dumps.old.items }
+    ensures dumps { OnOk result (dumps.new.items ≡ remove dumps.old.items at) }
     ensures index { OnOk result
         (AnswerAlike (references_in (map arc_value dumps.new.items)) (indexed refs.new)) }
-    ensures old { IfOk result (λ old. slice_get dumps.old.items place ≡ Some old) }
+    ensures old { IfOk result (λ old. slice_get dumps.old.items at ≡ Some old) }
     ensures err_dumps { OnErr result (dumps.new.items ≡ dumps.old.items) }
     ensures err_refs { OnErr result (refs.new ≡ refs.old) }
 {
-    let index = index_without(alloc, dumps.as_slice(), place)?;
+    let index = index_without(alloc, dumps.as_slice(), at)?;
     *refs = Some(index);
-    Ok(dumps.remove(place))
+    Ok(dumps.remove(at))
 }
 
-// The index of the references of these dumps, with one more dump in the place of those from `from`
+// The index of the references of these dumps, with one more dump instead of those from `from`
 // up to `to`.
 fn index_with(
     alloc: Global,
@@ -114,14 +114,14 @@ fn index_with(
 }
 
 // The index of the references of all dumps but one.
-fn index_without(alloc: Global, dumps: &[Arc<Dump>], place: usize) -> Result<Arc<Index>, Memory>
-    requires { place < length dumps.now }
+fn index_without(alloc: Global, dumps: &[Arc<Dump>], at: usize) -> Result<Arc<Index>, Memory>
+    requires { at < length dumps.now }
     ensures { IfOk result
-        (λ index. AnswerAlike (references_in (map arc_value (take place dumps.now))
-        ++ references_in (map arc_value (drop (place + 1) dumps.now))) (arc_value index)) }
+        (λ index. AnswerAlike (references_in (map arc_value (take at dumps.now))
+        ++ references_in (map arc_value (drop (at + 1) dumps.now))) (arc_value index)) }
 {
-    let (before, _) = dumps.split_at(place);
-    let (_, after) = dumps.split_at(place + 1);
+    let (before, _) = dumps.split_at(at);
+    let (_, after) = dumps.split_at(at + 1);
     let mut refs = Vec::new(alloc);
     push_all(&mut refs, before)?;
     push_all(&mut refs, after)?;

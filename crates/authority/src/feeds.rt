@@ -1,6 +1,7 @@
 //! Feeds in the order of their URLs, each with the index of its longest entry at each address.
 ghost use Rattle.std.specs.Prelude.{◌≡◌, ◌<◌, ◌≤◌, ◌^◌, if◌then◌else◌, map, find, IfOk, OnOk};
-ghost use Rattle.std.specs.Prelude.{OnErr, Some, None, length, slice_get, slice_set, insert};
+ghost use Rattle.std.specs.Prelude.{OnErr, Ok, Some, None, length, slice_get, slice_set, insert};
+ghost use Rattle.std.specs.Prelude.{IsTrue};
 ghost use Rattle.std.specs.Prelude.{remove, option_and_then, option_map};
 ghost use Rattle.std.specs.Arc.{arc_value};
 ghost use Rattle.std.specs.List.Sorted.{IsBinarySearchResult, IsSearchInRange};
@@ -20,7 +21,7 @@ use std::mem;
 use std::sync::Arc;
 
 /// Where the feed of a URL stands, or where one is to be put.
-pub fn place_of_feed(feeds: &[Arc<Feed>], url: &str) -> Result<usize, usize>
+pub fn search_feeds(feeds: &[Arc<Feed>], url: &str) -> Result<usize, usize>
     ensures within { IsSearchInRange result (length feeds.now) }
     ensures found { IsBinarySearchResult (λ f. text_cmp (url_of f) url.now) feeds.now result }
 {
@@ -47,44 +48,44 @@ fn borrowed<'a>(alloc: Global, entries: &'a [Entry]) -> Result<Vec<&'a Entry>, M
     Ok(borrowed)
 }
 
-/// Puts a feed and its index in the place of others; the old feed is handed back.
+/// Puts a feed and its index over others; the old feed is handed back.
 pub fn replace_feed(
     feeds: &mut Vec<Arc<Feed>>,
     firsts: &mut Vec<Arc<FirstIndex>>,
-    place: usize,
+    index: usize,
     feed: Arc<Feed>,
     first: Arc<FirstIndex>,
 ) -> Arc<Feed>
-    requires feeds { place < length feeds.old.items }
-    requires firsts { place < length firsts.old.items }
-    ensures feeds { feeds.new.items ≡ slice_set feeds.old.items place feed }
-    ensures firsts { firsts.new.items ≡ slice_set firsts.old.items place first }
-    ensures old { slice_get feeds.old.items place ≡ Some result }
+    requires feeds { index < length feeds.old.items }
+    requires firsts { index < length firsts.old.items }
+    ensures feeds { feeds.new.items ≡ slice_set feeds.old.items index feed }
+    ensures firsts { firsts.new.items ≡ slice_set firsts.old.items index first }
+    ensures old { slice_get feeds.old.items index ≡ Some result }
 {
-    firsts[place] = first;
-    mem::replace(&mut feeds[place], feed)
+    firsts[index] = first;
+    mem::replace(&mut feeds[index], feed)
 }
 
 /// Puts a feed and its index between others.
 pub fn insert_feed(
     feeds: &mut Vec<Arc<Feed>>,
     firsts: &mut Vec<Arc<FirstIndex>>,
-    place: usize,
+    index: usize,
     feed: Arc<Feed>,
     first: Arc<FirstIndex>,
 ) -> Result<(), Memory>
-    requires feeds { place ≤ length feeds.old.items }
-    requires firsts { place ≤ length firsts.old.items }
-    ensures feeds { OnOk result (feeds.new.items ≡ insert feeds.old.items place feed) }
-    ensures firsts { OnOk result (firsts.new.items ≡ insert firsts.old.items place first) }
+    requires feeds { index ≤ length feeds.old.items }
+    requires firsts { index ≤ length firsts.old.items }
+    ensures feeds { OnOk result (feeds.new.items ≡ insert feeds.old.items index feed) }
+    ensures firsts { OnOk result (firsts.new.items ≡ insert firsts.old.items index first) }
     ensures err_feeds { OnErr result (feeds.new.items ≡ feeds.old.items) }
     ensures err_firsts { OnErr result (firsts.new.items ≡ firsts.old.items) }
 {
-    firsts.insert(place, first)?;
-    match feeds.insert(place, feed) {
+    firsts.insert(index, first)?;
+    match feeds.insert(index, feed) {
         Ok(()) => Ok(()),
         Err(_) => {
-            firsts.remove(place);
+            firsts.remove(index);
             Err(Memory)
         }
     }
@@ -94,16 +95,16 @@ pub fn insert_feed(
 pub fn remove_feed(
     feeds: &mut Vec<Arc<Feed>>,
     firsts: &mut Vec<Arc<FirstIndex>>,
-    place: usize,
+    index: usize,
 ) -> Arc<Feed>
-    requires feeds { place < length feeds.old.items }
-    requires firsts { place < length firsts.old.items }
-    ensures feeds { feeds.new.items ≡ remove feeds.old.items place }
-    ensures firsts { firsts.new.items ≡ remove firsts.old.items place }
-    ensures old { slice_get feeds.old.items place ≡ Some result }
+    requires feeds { index < length feeds.old.items }
+    requires firsts { index < length firsts.old.items }
+    ensures feeds { feeds.new.items ≡ remove feeds.old.items index }
+    ensures firsts { firsts.new.items ≡ remove firsts.old.items index }
+    ensures old { slice_get feeds.old.items index ≡ Some result }
 {
-    firsts.remove(place);
-    feeds.remove(place)
+    firsts.remove(index);
+    feeds.remove(index)
 }
 
 /// Where the feed of a URL stands.
@@ -112,9 +113,35 @@ pub fn find_feed(feeds: &[Arc<Feed>], url: &str) -> Option<usize>
     ensures { option_map arc_value (option_and_then (slice_get feeds.now) result)
         ≡ find (λ f. same_text f.url url.now) (map arc_value feeds.now) }
 {
-    match place_of_feed(feeds, url) {
-        Ok(place) => Some(place),
+    match search_feeds(feeds, url) {
+        Ok(index) => Some(index),
         Err(_) => None,
+    }
+}
+
+// Where the feed of a URL stands. It is looked for first where the last one was found.
+fn find_feed_near(feeds: &[Arc<Feed>], url: &str, near: &mut usize) -> Option<usize>
+    requires { AreInOrder url_of feeds.now }
+    ensures { option_map arc_value (option_and_then (slice_get feeds.now) result)
+        ≡ find (λ f. same_text f.url url.now) (map arc_value feeds.now) }
+{
+    if is_at(feeds, *near, url) {
+        return Some(*near);
+    }
+    let found = find_feed(feeds, url)?;
+    *near = found;
+    Some(found)
+}
+
+// Whether the feed of a URL stands at an index.
+fn is_at(feeds: &[Arc<Feed>], at: usize, url: &str) -> bool
+    ensures within { IsTrue result → at < length feeds.now }
+    ensures found { IsTrue result
+        → IsBinarySearchResult (λ f. text_cmp (url_of f) url.now) feeds.now (Ok at) }
+{
+    match feeds.get(at) {
+        Some(feed) => feed.url.as_str().cmp(url).is_eq(),
+        None => false,
     }
 }
 
@@ -124,25 +151,27 @@ pub fn feed_in<'a>(feeds: &'a [Arc<Feed>], url: &str) -> Option<&'a Feed>
     ensures { option_copied result
         ≡ find (λ f. same_text f.url url.now) (map arc_value feeds.entry.now) }
 {
-    let place = find_feed(feeds, url)?;
-    feed_at(feeds, place)
+    let index = find_feed(feeds, url)?;
+    feed_at(feeds, index)
 }
 
-fn feed_at(feeds: &[Arc<Feed>], place: usize) -> Option<&Feed>
-    ensures { option_copied result ≡ option_map arc_value (slice_get feeds.now place) }
+fn feed_at(feeds: &[Arc<Feed>], index: usize) -> Option<&Feed>
+    ensures { option_copied result ≡ option_map arc_value (slice_get feeds.now index) }
 {
-    let feed = feeds.get(place)?;
+    let feed = feeds.get(index)?;
     Some(feed)
 }
 
 /// The entry that speaks for a speaker at an address: the longest one of its feed that holds the
 /// address, if it lies within the speaker's range. Blocks that hold one address are nested, so
-/// where the longest one does not lie within, no shorter one does.
+/// where the longest one does not lie within, no shorter one does. The feed is looked for first
+/// where the last one was found.
 pub fn entry_of<'a>(
     feeds: &'a [Arc<Feed>],
     firsts: &[Arc<FirstIndex>],
     speaker: &Reference,
     at: Addr,
+    near: &mut usize,
 ) -> Option<&'a Entry>
     requires urls { AreInOrder url_of feeds.now }
     requires entries { TellFeeds feeds.now firsts.now }
@@ -150,23 +179,23 @@ pub fn entry_of<'a>(
         (entries_in (find (λ f. same_text f.url speaker.now.url) (map arc_value feeds.entry.now)))
         speaker.now.range at.0) }
 {
-    let place = find_feed(feeds, speaker.url.as_str())?;
-    let entry = longest_in(feeds, firsts, place, at)?;
+    let index = find_feed_near(feeds, speaker.url.as_str(), near)?;
+    let entry = longest_in(feeds, firsts, index, at)?;
     within(entry, speaker.range)
 }
 
-// The longest entry of the feed at a place that holds an address, by the index at that place.
+// The longest entry of one feed of the list that holds an address, by its own index.
 fn longest_in<'a>(
     feeds: &'a [Arc<Feed>],
     firsts: &[Arc<FirstIndex>],
-    place: usize,
+    index: usize,
     at: Addr,
 ) -> Option<&'a Entry>
-    ensures told { option_copied result ≡ told_at feeds.entry.now firsts.now place at.0 }
+    ensures told { option_copied result ≡ told_at feeds.entry.now firsts.now index at.0 }
     ensures range { at.0 < 2 ^ 128 }
 {
-    let feed = feeds.get(place)?;
-    let first = firsts.get(place)?;
+    let feed = feeds.get(index)?;
+    let first = firsts.get(index)?;
     longest_at(feed, first, at)
 }
 
@@ -176,8 +205,8 @@ fn longest_at<'a>(feed: &'a Feed, first: &FirstIndex, at: Addr) -> Option<&'a En
         ≡ option_and_then (slice_get feed.entry.now.entries) (told None first.entry.now at.0) }
     ensures range { at.0 < 2 ^ 128 }
 {
-    let place = first.place_at(at)?;
-    feed.entries.as_slice().get(place)
+    let index = first.index_at(at)?;
+    feed.entries.as_slice().get(index)
 }
 
 // The entry, if it lies within a range.

@@ -1,8 +1,7 @@
-use crate::dumps::{best_at, insert_dump, place_of_dump, remove_dump, replace_dump, shared};
+use crate::dumps::{best_at, insert_dump, remove_dump, replace_dump, search_dumps, shared};
 use crate::fault::DropFault;
-use crate::feeds::{
-    entry_of, feed_in, index_of, insert_feed, place_of_feed, remove_feed, replace_feed,
-};
+use crate::feeds::{entry_of, feed_in, insert_feed, remove_feed, replace_feed, search_feeds};
+use crate::indexed::IndexedFeed;
 use crate::notes::joint_notes;
 use geo_addr::{Addr, Block, Memory};
 use geo_terms::{Dump, Entry, Feed, FirstIndex, Note, Reference};
@@ -15,9 +14,9 @@ use std::sync::Arc;
 ///
 /// The references of all dumps have one index, and the entries of each feed have one of their own:
 /// a dump that is set or dropped builds the index of references anew and leaves those of the feeds
-/// alone, and a feed builds its own. From a reference to its feed the way is one halving over the
-/// URLs of the feeds, so nothing is kept of it that a set or a drop would have to change. Sources
-/// and indexes are shared with every snapshot.
+/// alone, and a feed comes with its own. From a reference to its feed the way is one halving over
+/// the URLs of the feeds, so nothing is kept of it that a set or a drop would have to change.
+/// Sources and indexes are shared with every snapshot.
 #[derive(Debug, Drop)]
 pub struct Authority {
     alloc: Global,
@@ -68,7 +67,7 @@ impl Authority {
         }
     }
 
-    /// Puts a dump in the place of the one with the same slot, and hands the old one back.
+    /// Sets a dump, which replaces the one with the same slot, and hands the old one back.
     ///
     /// The references of all dumps are put in order anew. After `Memory` the given dump is dropped.
     pub fn set_dump(&mut self, dump: Dump) -> Result<Option<Arc<Dump>>, Memory>
@@ -79,13 +78,13 @@ impl Authority {
         ensures err { OnErr result (self.new ≡ self.old) }
     {
         let dump = Arc::new(self.alloc, dump)?;
-        match place_of_dump(self.dumps.as_slice(), dump.slot.as_str()) {
-            Ok(place) => {
-                let old = replace_dump(self.alloc, &mut self.dumps, &mut self.refs, place, dump)?;
+        match search_dumps(self.dumps.as_slice(), dump.slot.as_str()) {
+            Ok(index) => {
+                let old = replace_dump(self.alloc, &mut self.dumps, &mut self.refs, index, dump)?;
                 Ok(Some(old))
             }
-            Err(place) => {
-                insert_dump(self.alloc, &mut self.dumps, &mut self.refs, place, dump)?;
+            Err(index) => {
+                insert_dump(self.alloc, &mut self.dumps, &mut self.refs, index, dump)?;
                 Ok(None)
             }
         }
@@ -101,34 +100,33 @@ impl Authority {
             ↔ (find (λ d. same_text d.slot slot.now) self.old.dumps ≡ None)) }
         ensures err { OnErr result (self.new ≡ self.old) }
     {
-        match place_of_dump(self.dumps.as_slice(), slot) {
-            Ok(place) => {
-                let old = remove_dump(self.alloc, &mut self.dumps, &mut self.refs, place)?;
+        match search_dumps(self.dumps.as_slice(), slot) {
+            Ok(index) => {
+                let old = remove_dump(self.alloc, &mut self.dumps, &mut self.refs, index)?;
                 Ok(old)
             }
             Err(_) => Err(DropFault::NotThere),
         }
     }
 
-    /// Puts a feed in the place of the one with the same URL, and hands the old one back.
+    /// Sets a feed, which replaces the one with the same URL, and hands the old one back.
     ///
-    /// The entries of this feed alone are put in order. After `Memory` the given feed is dropped.
-    pub fn set_feed(&mut self, feed: Feed) -> Result<Option<Arc<Feed>>, Memory>
+    /// Nothing is put in order: the feed has its index. After `Memory` the given feed is dropped.
+    pub fn set_feed(&mut self, feed: IndexedFeed) -> Result<Option<Arc<Feed>>, Memory>
         ensures sources { OnOk result
             (self.new ≡ record self.old { feeds = placed (λ f. f.url) feed self.old.feeds }) }
         ensures old { IfOk result (λ old. option_map arc_value old
             ≡ find (λ f. same_text f.url feed.url) self.old.feeds) }
         ensures err { OnErr result (self.new ≡ self.old) }
     {
-        let first = index_of(self.alloc, &feed)?;
-        let feed = Arc::new(self.alloc, feed)?;
-        match place_of_feed(self.feeds.as_slice(), feed.url.as_str()) {
-            Ok(place) => {
-                let old = replace_feed(&mut self.feeds, &mut self.firsts, place, feed, first);
+        let (feed, first) = feed.parts();
+        match search_feeds(self.feeds.as_slice(), feed.url.as_str()) {
+            Ok(index) => {
+                let old = replace_feed(&mut self.feeds, &mut self.firsts, index, feed, first);
                 Ok(Some(old))
             }
-            Err(place) => {
-                insert_feed(&mut self.feeds, &mut self.firsts, place, feed, first)?;
+            Err(index) => {
+                insert_feed(&mut self.feeds, &mut self.firsts, index, feed, first)?;
                 Ok(None)
             }
         }
@@ -144,8 +142,8 @@ impl Authority {
             ↔ (find (λ f. same_text f.url url.now) self.old.feeds ≡ None)) }
         ensures err { OnErr result (self.new ≡ self.old) }
     {
-        match place_of_feed(self.feeds.as_slice(), url) {
-            Ok(place) => Ok(remove_feed(&mut self.feeds, &mut self.firsts, place)),
+        match search_feeds(self.feeds.as_slice(), url) {
+            Ok(index) => Ok(remove_feed(&mut self.feeds, &mut self.firsts, index)),
             Err(_) => Err(DropFault::NotThere),
         }
     }
@@ -199,8 +197,23 @@ impl Authority {
     pub fn entry_at(&self, at: Addr) -> Option<&Entry>
         ensures { option_copied result ≡ speaking_entry self.now at.0 }
     {
+        let mut near = 0;
+        self.entry_near(at, &mut near)
+    }
+
+    /// The entry that speaks at an address. The speaker's feed is looked for first at the index
+    /// where the last one was found, which spares a halving where addresses ascend.
+    pub fn entry_near(&self, at: Addr, near: &mut usize) -> Option<&Entry>
+        ensures { option_copied result ≡ speaking_entry self.now at.0 }
+    {
         let speaker = self.speaker_at(at)?;
-        entry_of(self.feeds.as_slice(), self.firsts.as_slice(), speaker, at)
+        entry_of(
+            self.feeds.as_slice(),
+            self.firsts.as_slice(),
+            speaker,
+            at,
+            near,
+        )
     }
 
     /// The first reference of this URL, in the order of references, whose range is of the block's

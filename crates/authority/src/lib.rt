@@ -5,7 +5,9 @@ mod dumps;
 mod fault;
 mod feeds;
 mod force;
+mod indexed;
 mod notes;
 
 pub use fault::DropFault;
 pub use force::Authority;
+pub use indexed::IndexedFeed;

@@ -15,11 +15,11 @@ use Rattle.geo_terms.specs.PlaceForm.{PlaceParts, same_text}
 use Rattle.geo_terms.specs.Precedence.{text_cmp}
 use Rattle.geo_terms.specs.SlotOrder.{AreInOrder, placed}
 use Rattle.geo_terms.specs.Numbers.{place_at}
-use Rattle.geo_terms.proofs.SlotLemmas.{Ascend, ascend, found_in_place, none_in_place}
-use Rattle.geo_terms.proofs.SlotLemmas.{placed_in_order, put_between, put_in_place}
+use Rattle.geo_terms.proofs.SlotLemmas.{Ascend, ascend, found_by_search, none_by_search}
+use Rattle.geo_terms.proofs.SlotLemmas.{placed_in_order, put_between, put_over}
 use Rattle.check_census.specs.Census.{count_of, v4_in, v6_in, added, with_address, counts_below}
 use Rattle.check_census.specs.Census.{country_of}
-use Rattle.check_census.specs.Counts.{with_place, counts_of, is_text, has_country}
+use Rattle.check_census.specs.Counts.{with_country, counts_of, is_text, has_country}
 use Rattle.check_census.specs.Spread.{ended_at, every}
 use Rattle.check_census.specs.Tally.{sum_upto, count_below}
 use Rattle.check_census.specs.declared.count.Count.{Count}
@@ -49,7 +49,7 @@ turned x y e = nat_list_cmp_total.antisymm y x ∙ ap ordering_reverse e
 turned_back : (x y : List ℕ) → text_cmp x y ≡ Greater → text_cmp y x ≡ Less
 turned_back x y e = nat_list_cmp_total.antisymm y x ∙ ap ordering_reverse e
 
--- a count that is put in its place is found by its country, and the others as before
+-- a count that is put in order is found by its country, and the others as before
 pub count_of-placed : (c : List ℕ) (n : Count) (ns : List Count)
     → count_of c (placed (λ m. m.country) n ns) ≡ cond (same_text n.country c) (Some n)
     (count_of c ns)
@@ -153,10 +153,10 @@ AreGood-added c x y ns some good = record {
 
 -- the counts of places
 
-good_with_place : (o : Option (List ℕ)) (x y : ℕ) (ns : List Count) → AreGood ns
-    → AreGood (with_place o x y ns)
-good_with_place None x y ns good = good
-good_with_place (Some c) x y ns good = by (eqb (x + y) 0) refl
+good_with_country : (o : Option (List ℕ)) (x y : ℕ) (ns : List Count) → AreGood ns
+    → AreGood (with_country o x y ns)
+good_with_country None x y ns good = good
+good_with_country (Some c) x y ns good = by (eqb (x + y) 0) refl
   where
     by : (b : Bool) → eqb (x + y) 0 ≡ b → AreGood (cond b ns (added c x y ns))
     by true e = good
@@ -167,17 +167,17 @@ pub good_counts_of : (places : List PlaceParts) (xs ys : List ℕ) (n : ℕ)
 unfolding counts_of
 good_counts_of places xs ys zero = AreGood-nil
 good_counts_of places xs ys (suc n) =
-    good_with_place (country_of places (Some n)) (get_or xs n 0) (get_or ys n 0)
+    good_with_country (country_of places (Some n)) (get_or xs n 0) (get_or ys n 0)
     (counts_of places xs ys n) (good_counts_of places xs ys n)
 
 none_of_none : (b : Bool) (x : ℕ) → x ≡ 0 → cond b x 0 ≡ 0
 none_of_none true x e = e
 none_of_none false x e = refl
 
-v4_with_place : (c : List ℕ) (o : Option (List ℕ)) (x y : ℕ) (ns : List Count)
-    → v4_in (count_of c (with_place o x y ns)) ≡ v4_in (count_of c ns) + cond (is_text c o) x 0
-v4_with_place c None x y ns = omega arith
-v4_with_place c (Some d) x y ns = by (eqb (x + y) 0) refl
+v4_with_country : (c : List ℕ) (o : Option (List ℕ)) (x y : ℕ) (ns : List Count)
+    → v4_in (count_of c (with_country o x y ns)) ≡ v4_in (count_of c ns) + cond (is_text c o) x 0
+v4_with_country c None x y ns = omega arith
+v4_with_country c (Some d) x y ns = by (eqb (x + y) 0) refl
   where
     by : (b : Bool) → eqb (x + y) 0 ≡ b
         → v4_in (count_of c (cond b ns (added d x y ns))) ≡ v4_in (count_of c ns) + cond
@@ -186,10 +186,10 @@ v4_with_place c (Some d) x y ns = by (eqb (x + y) 0) refl
         none_of_none (same_text d c) x (omega arith) in omega arith
     by false e = v4_in-added c d x y ns
 
-v6_with_place : (c : List ℕ) (o : Option (List ℕ)) (x y : ℕ) (ns : List Count)
-    → v6_in (count_of c (with_place o x y ns)) ≡ v6_in (count_of c ns) + cond (is_text c o) y 0
-v6_with_place c None x y ns = omega arith
-v6_with_place c (Some d) x y ns = by (eqb (x + y) 0) refl
+v6_with_country : (c : List ℕ) (o : Option (List ℕ)) (x y : ℕ) (ns : List Count)
+    → v6_in (count_of c (with_country o x y ns)) ≡ v6_in (count_of c ns) + cond (is_text c o) y 0
+v6_with_country c None x y ns = omega arith
+v6_with_country c (Some d) x y ns = by (eqb (x + y) 0) refl
   where
     by : (b : Bool) → eqb (x + y) 0 ≡ b
         → v6_in (count_of c (cond b ns (added d x y ns))) ≡ v6_in (count_of c ns) + cond
@@ -203,7 +203,7 @@ pub v4_counts_of : (c : List ℕ) (places : List PlaceParts) (xs ys : List ℕ) 
 unfolding counts_of sum_upto
 v4_counts_of c places xs ys zero = refl
 v4_counts_of c places xs ys (suc n) =
-    v4_with_place c (country_of places (Some n)) (get_or xs n 0) (get_or ys n 0)
+    v4_with_country c (country_of places (Some n)) (get_or xs n 0) (get_or ys n 0)
     (counts_of places xs ys n)
     ∙ ap (λ s. s + cond (has_country places c n) (get_or xs n 0) 0) (v4_counts_of c places xs ys n)
 
@@ -212,7 +212,7 @@ pub v6_counts_of : (c : List ℕ) (places : List PlaceParts) (xs ys : List ℕ) 
 unfolding counts_of sum_upto
 v6_counts_of c places xs ys zero = refl
 v6_counts_of c places xs ys (suc n) =
-    v6_with_place c (country_of places (Some n)) (get_or xs n 0) (get_or ys n 0)
+    v6_with_country c (country_of places (Some n)) (get_or xs n 0) (get_or ys n 0)
     (counts_of places xs ys n)
     ∙ ap (λ s. s + cond (has_country places c n) (get_or ys n 0) 0) (v6_counts_of c places xs ys n)
 
@@ -389,7 +389,7 @@ pub old_count : (c : List ℕ) (old : Count) (ns : List Count) (i : ℕ)
     → IsBinarySearchResult (λ n. text_cmp n.country c) ns (Ok i) → slice_get ns i ≡ Some old
     → count_of c ns ≡ Some old
 old_count c old ns i order lt found is =
-    sym (found_in_place (λ n. n.country)
+    sym (found_by_search (λ n. n.country)
     (record { country = c; v4 = 0; v6 = 0 }) old ns i order lt found is)
 
 pub set_is_added : (c : List ℕ) (x y : ℕ) (old : Count) (ns : List Count) (i : ℕ)
@@ -398,7 +398,7 @@ pub set_is_added : (c : List ℕ) (x y : ℕ) (old : Count) (ns : List Count) (i
     → slice_get ns i ≡ Some old → set ns i
     (record { country = c; v4 = old.v4 + x; v6 = old.v6 + y }) ≡ added c x y ns
 set_is_added c x y old ns i order lt found is =
-    put_in_place (λ n. n.country)
+    put_over (λ n. n.country)
     (record { country = c; v4 = old.v4 + x; v6 = old.v6 + y }) ns i order lt found
     ∙ ap (λ o. placed (λ n. n.country)
     (record { country = c; v4 = v4_in o + x; v6 = v6_in o + y }) ns)
@@ -410,7 +410,7 @@ pub insert_is_added : (c : List ℕ) (x y : ℕ) (ns : List Count) (i : ℕ)
     → insert ns i (record { country = c; v4 = x; v6 = y }) ≡ added c x y ns
 insert_is_added c x y ns i order le found =
     let none : None ≡ count_of c ns =
-    none_in_place (λ n. n.country) (record { country = c; v4 = x; v6 = y }) ns i order found in
+    none_by_search (λ n. n.country) (record { country = c; v4 = x; v6 = y }) ns i order found in
     let none4 : 0 ≡ v4_in (count_of c ns) = ap v4_in none in
     let none6 : 0 ≡ v6_in (count_of c ns) = ap v6_in none in
     let more4 : x ≡ v4_in (count_of c ns) + x = omega arith in
@@ -466,12 +466,12 @@ counts_begin places xs ys ns is = is
 
 pub counts_step : (places : List PlaceParts) (xs ys : List ℕ) (n : ℕ) (ns ms : List Count)
     (o : Option PlaceParts) → ns ≡ counts_of places xs ys n → o ≡ place_at places n
-    → ms ≡ with_place (option_map (λ p. p.country) o) (get_or xs n 0) (get_or ys n 0) ns
+    → ms ≡ with_country (option_map (λ p. p.country) o) (get_or xs n 0) (get_or ys n 0) ns
     → ms ≡ counts_of places xs ys (n + 1)
 unfolding counts_of
 counts_step places xs ys n ns ms o is here step =
     let next : suc n ≡ n + 1 = omega arith in
-    step ∙ ap (λ p. with_place (option_map (λ q. q.country) p) (get_or xs n 0) (get_or ys n 0) ns)
+    step ∙ ap (λ p. with_country (option_map (λ q. q.country) p) (get_or xs n 0) (get_or ys n 0) ns)
     here
-    ∙ ap (with_place (option_map (λ q. q.country) (place_at places n)) (get_or xs n 0)
+    ∙ ap (with_country (option_map (λ q. q.country) (place_at places n)) (get_or xs n 0)
     (get_or ys n 0)) is ∙ ap (counts_of places xs ys) next

@@ -1,4 +1,4 @@
--- Between two places at which speakers and entries can change, one line is heard, or what is heard
+-- Between two points at which speakers and entries can change, one line is heard, or what is heard
 -- was heard lower down.
 use Rattle.std.proofs.Common.{◌≡◌, ◌⊎◌, inl, inr, ℕ, ◌*◌, ◌/◌, ◌%◌, ◌^◌, ◌<◌, ◌≤◌, Bool, true}
 use Rattle.std.proofs.Common.{false, cond, ◌&&◌, eqb, List, [], ◌∷◌, ◌++◌, map, Option, Some, None}
@@ -27,7 +27,7 @@ both_same : {X : Type 0} (p q r : X → Bool) (xs : List X) → AllByRecursion (
 both_same p q r [] h = tt
 both_same p q r (x ∷ xs) h = (ap (λ t. t && r x) h.0, both_same p q r xs h.1)
 
--- a place between two addresses, or not
+-- a point between two addresses, or not
 apart : (p a c : ℕ) → (p < c → c ≤ a → ⊥) → (c ≤ p) ⊎ (a < c)
 apart p a c none =
     elim (cases_lt p c) [

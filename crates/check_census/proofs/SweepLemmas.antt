@@ -36,7 +36,7 @@ at_mem [] c m = absurd m
 at_mem (x ∷ xs) c (inl e) = (0, ap Some (sym e))
 at_mem (x ∷ xs) c (inr m) = let rest = at_mem xs c m in (suc rest.0, rest.1)
 
--- the places rise, from low on, below 2 ^ 128
+-- the points rise, from low on, below 2 ^ 128
 Rises : ℕ → List ℕ → Type 0
 Rises low [] = Unit {0}
 Rises low (p ∷ ps) = (low ≤ p) × (p < 2 ^ 128) × Rises (p + 1) ps
@@ -57,7 +57,7 @@ rises_from low (p ∷ q ∷ qs) up within head =
           (λ r is. let e : Some q ≡ Some r = is in let same : q ≡ r = cc in omega arith),
     )
 
--- the place that comes next, or the end
+-- the point that comes next, or the end
 abbrev next : List ℕ → ℕ
 next [] = 2 ^ 128
 next (p ∷ ps) = p
@@ -86,11 +86,11 @@ next_within low [] up = omega arith
 next_within low (p ∷ ps) up = omega (arith, up.1)
 
 module _ (ranges : List Ends) where
-  -- the cut points from low on are among the places
+  -- the cut points from low on are among the points
   Covers : ℕ → List ℕ → Type 0
   Covers low ps = (c : ℕ) → low ≤ c → c < 2 ^ 128 → IsCut ranges c → Mem c ps
 
-  -- no cut point lies between a place and the next
+  -- no cut point lies between a point and the next
   Tight : List ℕ → Type 0
   Tight [] = Unit {0}
   Tight (p ∷ ps) = (p < next ps) × ((a : ℕ) → p < a → a < next ps → NoCut ranges p a) × Tight ps
@@ -161,14 +161,14 @@ start_is_cut = (0, v4_range, omega arith, refl, inl refl)
 head_is : (ps : List ℕ) → Rises 0 ps → Mem 0 ps → 0 ≡ next ps
 head_is ps up m = let least = next_least 0 ps 0 up m in omega arith
 
--- no line has a place yet
-abbrev no_place : ℕ → Option ℕ
-no_place l = None
+-- no line has an address yet
+abbrev no_address : ℕ → Option ℕ
+no_address l = None
 
 none_yet : (g : ℕ → ℕ → Bool) (ls : List ℕ) (n : ℕ) → 0 ≡ n
-    → map no_place ls ≡ map (λ l. lowest (g l) n) ls
+    → map no_address ls ≡ map (λ l. lowest (g l) n) ls
 unfolding lowest
-none_yet g ls n e = map_same no_place (λ l. lowest (g l) n) ls
+none_yet g ls n e = map_same no_address (λ l. lowest (g l) n) ls
     (λ l. sym (ap (lowest (g l)) (sym e) ∙ none (g l)))
   where
     none : (h : ℕ → Bool) → lowest h 0 ≡ None
@@ -192,7 +192,7 @@ swept_all s f there ls ps cuts up =
     (map (λ (e : Entry). range_of_block e.block) f.entries ++ fixed_ranges) 0
     (cut_behind (map (λ (e : Entry). range_of_block e.block) f.entries) fixed_ranges 0 start_is_cut)
     in
-    all_steps s f there ls ps (map no_place ls)
+    all_steps s f there ls ps (map no_address ls)
     (tight (hearing_ranges s f.entries) 0 ps rises covers)
     (none_yet (is_heard s f.url) ls (next ps)
     (head_is ps rises (covers 0 (omega arith) (omega arith) start)))
@@ -312,10 +312,10 @@ pub marked_by : (heard : Option ℕ) (line at i : ℕ) (ls : List ℕ) (fs : Lis
     → IsBinarySearchResult (λ y. nat_cmp y line) ls (Ok i) → slice_get fs i ≡ Some first
     → new ≡ or_else first (Some at) → set fs i new ≡ marked heard at ls fs
 marked_by heard line at i ls fs first new up long is found old new_is =
-    let place = found_by ls up line i found in
+    let own = found_by ls up line i found in
     ap (set fs i) (new_is ∙ ap (λ x. or_else x (Some at)) (sym (get_of fs i first old)))
-    ∙ sym (marked_found line at ls fs i long place.0 place.1
-    (other_lines ls up line i place.0 place.1)) ∙ ap (λ h. marked h at ls fs) (sym is)
+    ∙ sym (marked_found line at ls fs i long own.0 own.1
+    (other_lines ls up line i own.0 own.1)) ∙ ap (λ h. marked h at ls fs) (sym is)
 
 pub unmarked_by : (heard : Option ℕ) (line at i : ℕ) (ls : List ℕ) (fs : List (Option ℕ))
     → IsStrictlyIncreasing ls → length fs ≡ length ls → heard ≡ Some line

@@ -214,9 +214,9 @@ tally_beyond-counts test n (suc k) t low =
     (2 ^ (n + k)) (half true t) =
     count_below-same (λ i. p ((2 ^ (n + k) - 2 ^ n) + i))
     (λ i. passes test (look (half true t) (bits_of (n + k) i))) (2 ^ (n + k))
-    (λ i lt. let place : 2 ^ n + ((2 ^ (n + k) - 2 ^ n) + i) ≡ 2 ^ (n + k) + i = omega arith in
+    (λ i lt. let moved : 2 ^ n + ((2 ^ (n + k) - 2 ^ n) + i) ≡ 2 ^ (n + k) + i = omega arith in
     ap (λ e. passes test (look t (bits_of e (2 ^ n + ((2 ^ (n + k) - 2 ^ n) + i))))) next
-    ∙ ap (λ a. passes test (look t (bits_of (suc (n + k)) a))) place
+    ∙ ap (λ a. passes test (look t (bits_of (suc (n + k)) a))) moved
     ∙ ap (λ w. passes test (look t w)) (bits_of-upper (n + k) i lt)
     ∙ ap (passes test) (look-half true t (bits_of (n + k) i)))
     ∙ sym (tally-counts test (n + k) (half true t) (height-half true t (n + k) (omega arith))) in

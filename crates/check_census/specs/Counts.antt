@@ -6,16 +6,16 @@ use Rattle.check_census.specs.Census.{added, country_of}
 use Rattle.check_census.specs.declared.count.Count.{Count}
 
 -- the counts with the addresses of one place more; where it has none, the counts
-abbrev pub with_place : Option (List ℕ) → ℕ → ℕ → List Count → List Count
-with_place None v4 v6 counts = counts
-with_place (Some country) v4 v6 counts = if nat_eq (v4 + v6) 0 then counts
+abbrev pub with_country : Option (List ℕ) → ℕ → ℕ → List Count → List Count
+with_country None v4 v6 counts = counts
+with_country (Some country) v4 v6 counts = if nat_eq (v4 + v6) 0 then counts
     else added country v4 v6 counts
 
 -- the counts of the first n places, from the numbers of their addresses
 unfoldable pub counts_of : List PlaceParts → List ℕ → List ℕ → ℕ → List Count
 counts_of places v4 v6 zero = []
 counts_of places v4 v6 (suc n) =
-    with_place (country_of places (Some n)) (slice_index v4 n) (slice_index v6 n)
+    with_country (country_of places (Some n)) (slice_index v4 n) (slice_index v6 n)
     (counts_of places v4 v6 n)
 
 abbrev pub is_text : List ℕ → Option (List ℕ) → Bool

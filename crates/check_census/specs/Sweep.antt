@@ -1,4 +1,4 @@
--- How the first address of each line is found: one pass over the places at which speakers and
+-- How the first address of each line is found: one pass over the points at which speakers and
 -- entries can change.
 use Rattle.std.specs.Prelude.{ℕ, ◌-◌, ◌*◌, ◌^◌, List, [], ◌∷◌, ◌++◌, map, Option, None}
 use Rattle.geo_addr.specs.Ranges.{Ends, range_of_block}
@@ -28,18 +28,18 @@ abbrev pub hearing_ranges : InForce → List Entry → List Ends
 hearing_ranges s es = map (λ r. r.range) (references s)
     ++ (map (λ e. range_of_block e.block) es ++ fixed_ranges)
 
--- the first addresses of lines, after a line is heard at a place: where it has none yet, it is this
+-- the first addresses of lines, after a line is heard at a point: where it has none yet, it is this
 -- one
 abbrev pub marked : Option ℕ → ℕ → List ℕ → List (Option ℕ) → List (Option ℕ)
 marked heard at [] fs = []
 marked heard at (l ∷ ls) [] = []
 marked heard at (l ∷ ls) (f ∷ fs) = or_else f (some_if (is_line l heard) at) ∷ marked heard at ls fs
 
--- the first addresses of lines that are heard at the places, each place in turn
+-- the first addresses of lines that are heard at the points, each point in turn
 abbrev pub sweep : InForce → List ℕ → List ℕ → List (Option ℕ) → List ℕ → List (Option ℕ)
 sweep s url ls fs [] = fs
 sweep s url ls fs (p ∷ ps) = sweep s url ls (marked (heard_line s url p) p ls fs) ps
 
--- before the first place no line has one
+-- before the first point no line has one
 abbrev pub swept : InForce → List ℕ → List ℕ → List ℕ → List (Option ℕ)
 swept s url ls ps = sweep s url ls (map (λ l. None) ls) ps

@@ -6,7 +6,7 @@ ghost use Rattle.std.specs.Option.{option_copied};
 ghost use Rattle.geo_terms.specs.Precedence.{text_cmp};
 ghost use Rattle.geo_terms.specs.SlotOrder.{AreInOrder};
 ghost use Rattle.check_census.specs.Census.{added, count_of, v4_in, v6_in};
-ghost use Rattle.check_census.specs.Counts.{counts_of, with_place};
+ghost use Rattle.check_census.specs.Counts.{counts_of, with_country};
 ghost use Rattle.check_census.specs.Spread.{ended_at, every};
 
 use geo_addr::{Memory, Text};
@@ -57,7 +57,7 @@ fn add_place(
     requires room_v4 { (c : List ℕ) → v4_in (count_of c counts.old.items) + v4 < 2 ^ 128 }
     requires room_v6 { (c : List ℕ) → v6_in (count_of c counts.old.items) + v6 < 2 ^ 128 }
     ensures { OnOk result (counts.new.items
-        ≡ with_place (option_map (λ p. p.country) (option_copied place.entry)) v4 v6
+        ≡ with_country (option_map (λ p. p.country) (option_copied place.entry)) v4 v6
         counts.old.items) }
 {
     let Some(place) = place else {
@@ -76,24 +76,24 @@ fn add(counts: &mut Vec<Count>, country: &Text, v4: u128, v6: u128) -> Result<()
     requires room_v6 { (c : List ℕ) → v6_in (count_of c counts.old.items) + v6 < 2 ^ 128 }
     ensures { OnOk result (counts.new.items ≡ added country.now v4 v6 counts.old.items) }
 {
-    match place_of(counts.as_slice(), country.as_str()) {
-        Ok(place) => {
-            let old = &counts[place];
+    match search_counts(counts.as_slice(), country.as_str()) {
+        Ok(index) => {
+            let old = &counts[index];
             let (v4, v6) = (old.v4 + v4, old.v6 + v6);
             let country = country.copied()?;
-            counts[place] = Count { country, v4, v6 };
+            counts[index] = Count { country, v4, v6 };
             Ok(())
         }
-        Err(place) => {
+        Err(index) => {
             let country = country.copied()?;
-            counts.insert(place, Count { country, v4, v6 })?;
+            counts.insert(index, Count { country, v4, v6 })?;
             Ok(())
         }
     }
 }
 
 // Where the count of a country stands, or where one is to be put.
-fn place_of(counts: &[Count], country: &str) -> Result<usize, usize>
+fn search_counts(counts: &[Count], country: &str) -> Result<usize, usize>
     ensures within { IsSearchInRange result (length counts.now) }
     ensures found { IsBinarySearchResult
         (λ n. text_cmp n.country country.now) counts.now result }

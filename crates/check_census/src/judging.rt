@@ -64,10 +64,10 @@ fn merged(
 {
     let mut verdicts = Vec::with_capacity(alloc, entries.len())?;
     let mut left = notes;
-    for (place, entry) in entries.iter().enumerate() {
+    for (index, entry) in entries.iter().enumerate() {
         let (earlier, later) = left.split_at(count_before(left, entry.line));
         push_notes(&mut verdicts, earlier)?;
-        verdicts.push(entry_verdict(sources, url, entry, firsts[place])?)?;
+        verdicts.push(entry_verdict(sources, url, entry, firsts[index])?)?;
         left = later;
     }
     push_notes(&mut verdicts, left)?;

@@ -20,7 +20,7 @@ use std::sync::Arc;
 
 /// For each entry of a feed in force the lowest address at which it speaks.
 ///
-/// One pass over the places at which the speaker or its entry can change: between two of them
+/// One pass over the points at which the speaker or its entry can change: between two of them
 /// nothing new is heard.
 pub(crate) fn first_addresses(
     alloc: Global,
@@ -33,9 +33,9 @@ pub(crate) fn first_addresses(
 {
     let entries = feed.entries.as_slice();
     let lines = lines_of(alloc, entries)?;
-    let places = hearing_places(alloc, sources, entries)?;
+    let points = hearing_cuts(alloc, sources, entries)?;
     let url = feed.url.as_str();
-    let firsts = sweep(alloc, sources, url, lines.as_slice(), places.as_slice())?;
+    let firsts = sweep(alloc, sources, url, lines.as_slice(), points.as_slice())?;
     Ok(firsts)
 }
 
@@ -49,22 +49,22 @@ fn lines_of(alloc: Global, entries: &[Entry]) -> Result<Vec<u64>, Memory>
     Ok(lines)
 }
 
-// The first addresses of lines, by what is heard at ascending places.
+// The first addresses of lines, by what is heard at ascending points.
 fn sweep(
     alloc: Global,
     sources: &Sources,
     url: &str,
     lines: &[u64],
-    places: &[u128],
+    points: &[u128],
 ) -> Result<Vec<Option<u128>>, Memory>
     requires lines { IsStrictlyIncreasing lines.now }
     ensures { IfOk result (λ firsts. firsts.items
-        ≡ swept sources.now url.now lines.now places.now) }
+        ≡ swept sources.now url.now lines.now points.now) }
 {
     let mut firsts = nowhere(alloc, lines)?;
-    for place in places {
-        let heard = heard_line(url, &sources.why_at(Addr(*place)));
-        mark(&mut firsts, lines, heard, *place);
+    for point in points {
+        let heard = heard_line(url, &sources.why_at(Addr(*point)));
+        mark(&mut firsts, lines, heard, *point);
     }
     Ok(firsts)
 }
@@ -90,7 +90,7 @@ fn heard_line(url: &str, why: &Why<'_>) -> Option<u64>
     Some(entry.line)
 }
 
-// Gives the line that is heard this place, unless it has a lower one.
+// Gives the line that is heard this point, unless it has a lower one.
 fn mark(firsts: &mut Vec<Option<u128>>, lines: &[u64], heard: Option<u64>, at: u128)
     requires lines { IsStrictlyIncreasing lines.now }
     requires long { length firsts.old.items ≡ length lines.now }
@@ -99,13 +99,13 @@ fn mark(firsts: &mut Vec<Option<u128>>, lines: &[u64], heard: Option<u64>, at: u
     let Some(line) = heard else {
         return;
     };
-    let Ok(place) = lines.binary_search(&line) else {
+    let Ok(index) = lines.binary_search(&line) else {
         return;
     };
-    firsts[place] = earlier(firsts[place], at);
+    firsts[index] = earlier(firsts[index], at);
 }
 
-// The lower place: the one that is there already.
+// The lower address: the one that is there already.
 fn earlier(first: Option<u128>, at: u128) -> Option<u128>
     ensures { result ≡ or_else first (Some at) }
 {
@@ -115,11 +115,11 @@ fn earlier(first: Option<u128>, at: u128) -> Option<u128>
     }
 }
 
-// The places at which the line that is heard can change, ascending.
-fn hearing_places(alloc: Global, sources: &Sources, entries: &[Entry]) -> Result<Vec<u128>, Memory>
+// The points at which the line that is heard can change, ascending.
+fn hearing_cuts(alloc: Global, sources: &Sources, entries: &[Entry]) -> Result<Vec<u128>, Memory>
     ensures exact { IfOk result
-        (λ places. AreCuts (hearing_ranges sources.now entries.now) all_addresses places.items) }
-    ensures ascending { IfOk result (λ places. IsStrictlyIncreasing places.items) }
+        (λ points. AreCuts (hearing_ranges sources.now entries.now) all_addresses points.items) }
+    ensures ascending { IfOk result (λ points. IsStrictlyIncreasing points.items) }
 {
     let mut ranges = Vec::new(alloc);
     push_dumps(&mut ranges, sources.dumps())?;
@@ -129,8 +129,8 @@ fn hearing_places(alloc: Global, sources: &Sources, entries: &[Entry]) -> Result
         first: 0,
         last: u128::MAX,
     };
-    let places = cuts(alloc, ranges.as_slice(), whole)?;
-    Ok(places)
+    let points = cuts(alloc, ranges.as_slice(), whole)?;
+    Ok(points)
 }
 
 fn push_dumps(ranges: &mut Vec<Range>, dumps: &[Arc<Dump>]) -> Result<(), Memory>

@@ -2,7 +2,5 @@
 #![tactic(auto)]
 
 mod spoken;
-#[cfg(test)]
-mod tests;
 
 pub use spoken::{Spoken, command_in};

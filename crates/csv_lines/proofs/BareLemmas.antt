@@ -254,9 +254,9 @@ cut_last (b ∷ bs) e = by (goes_on b) refl e (cut_last bs)
         × (list_all is_bare (b ∷ bs) ≡ true)
     by false is h later = absurd cc
     by true is h later =
-        let step : 1 + prefix_len goes_on bs ≡ suc (prefix_len goes_on bs) = omega arith in
-        let (left, bare) = later (rw step at h) in
-        (rw (goes_no_comma b is, step, left) refl, rw (goes_bare b is, bare) refl)
+        let adds : 1 + prefix_len goes_on bs ≡ suc (prefix_len goes_on bs) = omega arith in
+        let (left, bare) = later (rw adds at h) in
+        (rw (goes_no_comma b is, adds, left) refl, rw (goes_bare b is, bare) refl)
 
 -- those up to a comma are its first field
 pub cut_comma : (text next : List ℕ) → drop (prefix_len goes_on text) text ≡ 44 ∷ next
@@ -278,9 +278,9 @@ cut_comma (b ∷ bs) next e = by (goes_on b) refl e (cut_comma bs next)
         let tail : bs ≡ next = cc in
         (rw (head, tail) refl, rw (head, tail) refl)
     by true is h later =
-        let step : 1 + prefix_len goes_on bs ≡ suc (prefix_len goes_on bs) = omega arith in
-        let (left, bare) = later (rw step at h) in
-        (rw (goes_no_comma b is, step, left) refl, rw (goes_bare b is) bare)
+        let adds : 1 + prefix_len goes_on bs ≡ suc (prefix_len goes_on bs) = omega arith in
+        let (left, bare) = later (rw adds at h) in
+        (rw (goes_no_comma b is, adds, left) refl, rw (goes_bare b is) bare)
 
 -- a byte that neither goes on nor is a comma is in no bare text
 other_byte : (b : ℕ) → goes_on b ≡ false → (b ≡ 44 → ⊥) → is_bare b ≡ false
@@ -299,8 +299,8 @@ cut_other (a ∷ more) next b e other = by (goes_on a) refl e (cut_other more ne
         let head : a ≡ b = cc in
         rw (other_byte a is (λ c. other (sym head ∙ c))) refl
     by true is h later =
-        let step : 1 + prefix_len goes_on more ≡ suc (prefix_len goes_on more) = omega arith in
-        rw (goes_bare a is) (later (rw step at h) other)
+        let adds : 1 + prefix_len goes_on more ≡ suc (prefix_len goes_on more) = omega arith in
+        rw (goes_bare a is) (later (rw adds at h) other)
 
 no_items : (xs : List ℕ) → length xs ≡ 0 → xs ≡ []
 no_items [] e = refl
@@ -373,8 +373,8 @@ untrimmed_start q blank (x ∷ xs) e = by (is_blank x) refl e (untrimmed_start q
         → (list_all q (trimmed_start xs) ≡ true → list_all q xs ≡ true) → list_all q (x ∷ xs) ≡ true
     by false is h later = h
     by true is h later =
-        let step : 1 + prefix_len is_blank xs ≡ suc (prefix_len is_blank xs) = omega arith in
-        rw (blank x is, later (rw step at h)) refl
+        let adds : 1 + prefix_len is_blank xs ≡ suc (prefix_len is_blank xs) = omega arith in
+        rw (blank x is, later (rw adds at h)) refl
 
 reversed_all : (q : ℕ → Bool) (xs : List ℕ) → list_all q xs ≡ true → list_all q (reverse xs) ≡ true
 reversed_all q [] e = refl
@@ -426,7 +426,7 @@ bare_line line rest is some text bare =
       handed_none line (ap is_unquoted same ∙ bare_unquoted rest bare),
     )
 
--- ---- the fields of a row by their places
+-- ---- the fields of a row by their indexes
 
 pub field_within : {A : Type 0} (f : A → List ℕ) (xs : List A) (n i : ℕ) (d : A) → i < n
     → n ≤ length xs → Some (f (slice_index_or xs i d)) ≡ field_at (map f (take n xs)) i

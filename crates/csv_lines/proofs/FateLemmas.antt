@@ -442,10 +442,10 @@ module _ {X : Type 0} (line : X → ℕ) (range : X → Ends) (said : X → Said
             | inl last ↦ rw (get_or-take i rows k d m) (rw last (rw (at d) own))
             | inr other ↦
                 let long = length-take-le i rows (omega arith) in
-                let step = up k (i - 1) d (omega arith) (omega arith) in
+                let climb = up k (i - 1) d (omega arith) (omega arith) in
                 below_chain _ b _
                 (subst (λ (r : Ends). IsBelow (range (get_or (take i rows) k d)) r)
-                (ap range (get_or-take i rows (i - 1) d (omega arith)) ∙ at d) step) own
+                (ap range (get_or-take i rows (i - 1) d (omega arith)) ∙ at d) climb) own
           ]
 
   pub last_range : (rows : List X) (i : ℕ) (x : X) → i < length rows → x ≡ get_or rows i x
@@ -495,22 +495,22 @@ element_at (x ∷ xs) zero l = (x, refl)
 element_at (x ∷ xs) (suc i) l = element_at xs i (omega arith)
 
 module _ {X : Type 0} (f : X → Fate) (xs ys : List X) (fs : List Fate)
-    (k i : ℕ) (is : fs ≡ map f xs) (in_place : FiltersInPlace (λ x. is_kept_by (f x)) xs ys k i)
+    (k i : ℕ) (is : fs ≡ map f xs) (so_far : FiltersInPlace (λ x. is_kept_by (f x)) xs ys k i)
     (l : i < length ys) where
   told_here : (x : X) → x ≡ get_or ys i x → get_or fs i Kept ≡ f x
   told_here x e =
-      let same : get_or ys i x ≡ get_or xs i x = first_of_rest ys xs i x in_place.rest in
-      ap (λ t. get_or t i Kept) is ∙ get_or-map f xs i x Kept (rw (← in_place.long) l)
+      let same : get_or ys i x ≡ get_or xs i x = first_of_rest ys xs i x so_far.rest in
+      ap (λ t. get_or t i Kept) is ∙ get_or-map f xs i x Kept (rw (← so_far.long) l)
       ∙ ap f (sym (e ∙ same))
 
   pub keep_yes : (zs : List X) → is_kept_by (get_or fs i Kept) ≡ true → SwappedAt ys zs k i
       → FiltersInPlace (λ x. is_kept_by (f x)) xs zs (k + 1) (i + 1)
   keep_yes zs kept_is swapped =
       let (x, e) = element_at ys i l in
-      FiltersInPlace-more_swap in_place l (rw (← told_here x e) kept_is) e swapped
+      FiltersInPlace-more_swap so_far l (rw (← told_here x e) kept_is) e swapped
 
   pub keep_no : is_kept_by (get_or fs i Kept) ≡ false
       → FiltersInPlace (λ x. is_kept_by (f x)) xs ys k (i + 1)
   keep_no left_out =
       let (x, e) = element_at ys i l in
-      FiltersInPlace-more_no in_place l (rw (← told_here x e) left_out) e
+      FiltersInPlace-more_no so_far l (rw (← told_here x e) left_out) e

@@ -30,8 +30,8 @@ increasing low (x ∷ []) r k below = absurd (omega arith)
 increasing low (x ∷ y ∷ ys) r zero below = omega (arith, r.1.0)
 increasing low (x ∷ y ∷ ys) r (suc k) below =
     let later = increasing (x + 1) (y ∷ ys) r.1 k (omega arith) in
-    let step : suc k + 1 ≡ suc (k + 1) = omega arith in
-    rw step later
+    let adds : suc k + 1 ≡ suc (k + 1) = omega arith in
+    rw adds later
 
 module _ {X : Type 0} (line : X → ℕ) where
   pub rises_filter : (p : X → Bool) (low : ℕ) (xs : List X)

@@ -1,4 +1,4 @@
--- Texts, fields by their places, and what a read of a row gives.
+-- Texts, fields by their indexes, and what a read of a row gives.
 use Rattle.std.proofs.Common.{inl, inr, ◌≡◌, ◌≢◌, ℕ, zero, suc, Bool, true, false, not, cond, List}
 use Rattle.std.proofs.Common.{[], ◌∷◌, ◌++◌, get_or, Option, Some, None, refl, sym, ap, ◌∙◌}
 use Rattle.std.specs.Prelude.{IsUtf8, unwrap_or, is_some, Result, Ok, Err, IfErr, OnOk, IsOkUnless}
@@ -30,7 +30,7 @@ pub text_is_not : (bs : List ℕ) → (IsUtf8 bs → ⊥) → false ≡ is_utf8 
 text_is_not bs n =
     elim (cases_Bool (is_utf8 bs)) [ inl y ↦ absurd (n (IsUtf8-from_is_utf8 bs y)) | inr e ↦ sym e ]
 
--- the field at a place, or an empty one
+-- the field at an index, or an empty one
 pub field_is : (row : List (List ℕ)) (i : ℕ) → unwrap_or (field_at row i) [] ≡ get_or row i []
 unfolding field_at
 field_is [] i = refl

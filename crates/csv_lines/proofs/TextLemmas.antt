@@ -32,8 +32,8 @@ at_seam : (xs : List ℕ) (b : ℕ) (ys : List ℕ)
 at_seam [] b ys = (refl, refl, refl, omega arith)
 at_seam (x ∷ xs) b ys =
     let (before, after, at, within) = at_seam xs b ys in
-    let step : suc (length xs) + 1 ≡ suc (length xs + 1) = omega arith in
-    (ap (λ t. x ∷ t) before, rw step after, at, omega (arith, within))
+    let adds : suc (length xs) + 1 ≡ suc (length xs + 1) = omega arith in
+    (ap (λ t. x ∷ t) before, rw adds after, at, omega (arith, within))
 
 pub cut_ascii : (xs : List ℕ) (b : ℕ) (ys : List ℕ) → b < 128
     → IsUtf8 (xs ++ (b ∷ ys)) → IsUtf8 xs × IsUtf8 ys
@@ -63,8 +63,8 @@ none_left p (x ∷ xs) = by (p x) refl (none_left p xs)
     by : (b : Bool) → p x ≡ b → prefix_len p (drop (prefix_len p xs) xs) ≡ 0
         → prefix_len p (drop (cond b (1 + prefix_len p xs) 0) (x ∷ xs)) ≡ 0
     by true e later =
-        let step : 1 + prefix_len p xs ≡ suc (prefix_len p xs) = omega arith in
-        rw step later
+        let adds : 1 + prefix_len p xs ≡ suc (prefix_len p xs) = omega arith in
+        rw adds later
     by false e later = rw e refl
 
 prefix_le : (p : ℕ → Bool) (xs : List ℕ) → prefix_len p xs ≤ length xs
@@ -106,8 +106,8 @@ start_utf8 (x ∷ xs) u = by (is_blank x) refl (start_utf8 xs)
     by : (b : Bool) → is_blank x ≡ b → (IsUtf8 xs → IsUtf8 (trimmed_start xs))
         → IsUtf8 (drop (cond b (1 + prefix_len is_blank xs) 0) (x ∷ xs))
     by true e more =
-        let step : 1 + prefix_len is_blank xs ≡ suc (prefix_len is_blank xs) = omega arith in
-        rw step (more (cut_ascii [] x xs (blank_ascii x e) u).1)
+        let adds : 1 + prefix_len is_blank xs ≡ suc (prefix_len is_blank xs) = omega arith in
+        rw adds (more (cut_ascii [] x xs (blank_ascii x e) u).1)
     by false e more = u
 
 end_utf8 : (zs : List ℕ) → IsUtf8 (reverse zs) → IsUtf8 (reverse (drop (prefix_len is_blank zs) zs))
@@ -118,8 +118,8 @@ end_utf8 (z ∷ zs) u = by (is_blank z) refl (end_utf8 zs)
         → (IsUtf8 (reverse zs) → IsUtf8 (reverse (drop (prefix_len is_blank zs) zs)))
         → IsUtf8 (reverse (drop (cond b (1 + prefix_len is_blank zs) 0) (z ∷ zs)))
     by true e more =
-        let step : 1 + prefix_len is_blank zs ≡ suc (prefix_len is_blank zs) = omega arith in
-        rw step (more (cut_ascii (reverse zs) z [] (blank_ascii z e)
+        let adds : 1 + prefix_len is_blank zs ≡ suc (prefix_len is_blank zs) = omega arith in
+        rw adds (more (cut_ascii (reverse zs) z [] (blank_ascii z e)
         (subst IsUtf8 (reverse-append (z ∷ []) zs) u)).0)
     by false e more = u
 

@@ -21,8 +21,8 @@ pub record IsClean (text : List ℕ) : Type 0 where
 
 -- each field of a line is clean, and UTF-8
 pub record AreTexts (row : List (List ℕ)) : Type 0 where
-  pub utf8 : (place : ℕ) → IsUtf8 (column place row)
-  pub clean : (place : ℕ) → IsClean (column place row)
+  pub utf8 : (index : ℕ) → IsUtf8 (column index row)
+  pub clean : (index : ℕ) → IsClean (column index row)
 
 abbrev pub FieldsAreTexts : Type 0
 FieldsAreTexts =
@@ -43,5 +43,5 @@ IsCleanSaid (At place) = IsCleanPlace place
 -- clean fields say what is clean
 abbrev pub PlacesAreClean : Type 0
 PlacesAreClean =
-    (place : ℕ) (row : List (List ℕ)) (said : Said) → AreTexts row → said_in place row ≡ Ok said
+    (index : ℕ) (row : List (List ℕ)) (said : Said) → AreTexts row → said_in index row ≡ Ok said
     → IsCleanSaid said

@@ -84,8 +84,8 @@ pub record Stands {R : Type 0} (source : R → Option (List ℕ)) (reader : Read
 abbrev pub CanRead : {R : Type 0} → (R → Option (List ℕ)) → Reader R → List ℕ → Type 0
 CanRead source reader line = (left : List ℕ) × Stands source reader (handed line ++ left)
 
--- what four fields from a place on say of a location: country, region, city and postal code
+-- what four fields from an index on say of a location: country, region, city and postal code
 abbrev pub said_in : ℕ → List (List ℕ) → Result Said PlaceFault
-said_in place row =
-    said_of (column place row) (column (place + 1) row) (column (place + 2) row)
-    (column (place + 3) row)
+said_in index row =
+    said_of (column index row) (column (index + 1) row) (column (index + 2) row)
+    (column (index + 3) row)

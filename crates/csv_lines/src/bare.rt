@@ -93,9 +93,9 @@ impl<'a> BareRow<'a> {
 impl<'a> Row for BareRow<'a> {
     ghost fields = { λ r. r };
 
-    fn field(&self, place: usize) -> Option<&[u8]> {
-        if place < self.count {
-            Some(self.fields[place])
+    fn field(&self, index: usize) -> Option<&[u8]> {
+        if index < self.count {
+            Some(self.fields[index])
         } else {
             None
         }
@@ -160,9 +160,9 @@ fn cut_field(text: &[u8]) -> Option<(&[u8], Option<&[u8]>)>
 fn field_len(text: &[u8]) -> usize
     ensures { result ≡ prefix_len goes_on text.now }
 {
-    for (place, byte) in text.iter().enumerate() {
+    for (index, byte) in text.iter().enumerate() {
         if !goes_on(*byte) {
-            return place;
+            return index;
         }
     }
     text.len()

@@ -8,8 +8,6 @@ pub mod laws;
 mod rest;
 mod rows;
 mod scan;
-#[cfg(test)]
-mod tests;
 
 pub use bare::{BareRow, bare_row};
 pub use fate::{Accepted, Fate, Judged, RepeatRules, judge};

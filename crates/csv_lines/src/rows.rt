@@ -124,45 +124,45 @@ fn read_row(reader: &mut Reader<&[u8]>, row: &mut ByteRecord) -> Result<(), Memo
 pub trait Row {
     ghost fields: { Self → List (List ℕ) };
 
-    /// A field by its place from 0, if there is one.
-    fn field(&self, place: usize) -> Option<&[u8]>
-        ensures { option_map (λ s. s.now) result ≡ field_at (fields self.now) place };
+    /// A field by its index from 0, if there is one.
+    fn field(&self, index: usize) -> Option<&[u8]>
+        ensures { option_map (λ s. s.now) result ≡ field_at (fields self.now) index };
 }
 
 impl Row for ByteRecord {
     ghost fields = { fields_of };
 
-    fn field(&self, place: usize) -> Option<&[u8]> {
-        self.get(place)
+    fn field(&self, index: usize) -> Option<&[u8]> {
+        self.get(index)
     }
 }
 
-/// A field of a row by its place from 0, without the blanks around it; a missing one is empty.
-pub fn column<R: Row>(row: &R, place: usize) -> &[u8]
-    ensures { result.now ≡ column place (R.fields row.now) }
+/// A field of a row by its index from 0, without the blanks around it; a missing one is empty.
+pub fn column<R: Row>(row: &R, index: usize) -> &[u8]
+    ensures { result.now ≡ column index (R.fields row.now) }
 {
-    match row.field(place) {
+    match row.field(index) {
         Some(field) => trim_blanks(field),
         None => &[],
     }
 }
 
-/// What four fields from a place on say of a location, or the first of their faults: country,
+/// What four fields from an index on say of a location, or the first of their faults: country,
 /// region, city and postal code.
 #[tactic(auto, using(crate::proofs::RestLemmas::fault_told))]
 pub fn said_in<R: Row>(
     texts: &mut Texts,
     row: &R,
-    place: usize,
+    index: usize,
 ) -> Result<Result<Said, PlaceFault>, Memory>
-    requires few { place < 8 }
+    requires few { index < 8 }
     requires texts { AreTexts (R.fields row.now) }
-    ensures { IfOk result (λ said. said ≡ said_in place (R.fields row.now)) }
+    ensures { IfOk result (λ said. said ≡ said_in index (R.fields row.now)) }
 {
-    let country = text_column(row, place);
-    let region = text_column(row, place + 1);
-    let city = text_column(row, place + 2);
-    let postal = text_column(row, place + 3);
+    let country = text_column(row, index);
+    let region = text_column(row, index + 1);
+    let city = text_column(row, index + 2);
+    let postal = text_column(row, index + 3);
     match place_in(texts, country, region, city, postal) {
         Ok(said) => Ok(Ok(said)),
         Err(PlaceFault::Country) => Ok(Err(PlaceFault::Country)),
@@ -172,11 +172,11 @@ pub fn said_in<R: Row>(
     }
 }
 
-// A field of a row by its place, as a text.
-fn text_column<R: Row>(row: &R, place: usize) -> &str
+// A field of a row by its index, as a text.
+fn text_column<R: Row>(row: &R, index: usize) -> &str
     requires { AreTexts (R.fields row.now) }
-    ensures { result.now ≡ column place (R.fields row.now) }
+    ensures { result.now ≡ column index (R.fields row.now) }
 {
     // Its `requires` is that of this function.
-    unsafe { str::from_utf8_unchecked(column(row, place)) }
+    unsafe { str::from_utf8_unchecked(column(row, index)) }
 }

@@ -16,7 +16,7 @@ use Rattle.std.proofs.lemmas.List.Sorted.{Contains-permutation, IsPermutation-sy
 use Rattle.geo_addr.specs.Ranges.{Ends, AreCuts, IsCut, IsEdge, IsRange, IsWithin, ground_first}
 use Rattle.geo_terms.proofs.Members.{Among, among_from_contains, contains_from_among}
 use Rattle.geo_terms.proofs.RankLemmas.{Up}
-use Rattle.cut_segments.specs.CutPlaces.{AreCutsOf, AreCutsInside, whole}
+use Rattle.cut_segments.specs.CutPoints.{AreCutsOf, AreCutsInside, whole}
 
 module _ {X : Type 0} (P : X → Type 0) where
   pub any_left : (xs ys : List X) → Any P xs → Any P (xs ++ ys)
@@ -49,12 +49,12 @@ none_gathered bounds c =
     (λ has. absurd (omega (arith, has.1)), λ cut. absurd (omega (arith, cut.0.0.2)))
 
 -- the cut points of some more ranges are gathered
-pub gathered : (ranges more bounds : List Ends) (places old new : List ℕ)
-    → AreCutsInside ranges bounds old → AreCutsOf more places
+pub gathered : (ranges more bounds : List Ends) (points old new : List ℕ)
+    → AreCutsInside ranges bounds old → AreCutsOf more points
     → ((c : ℕ)
-    → Contains new c ↔ (Contains old c ⊎ (Contains places c × Any (λ r. IsWithin r c) bounds)))
+    → Contains new c ↔ (Contains old c ⊎ (Contains points c × Any (λ r. IsWithin r c) bounds)))
     → AreCutsInside (ranges ++ more) bounds new
-gathered ranges more bounds places old new before of step c = (
+gathered ranges more bounds points old new before of step c = (
   λ has.
       elim ((step c).0 has) [
         | inl there ↦ let cut = (before c).0 there in
@@ -70,23 +70,23 @@ gathered ranges more bounds places old new before of step c = (
 )
 
 -- a sort, and dropping repeats, change no cut point
-pub gathered_sorted : (ranges bounds : List Ends) (places sorted kept : List ℕ)
-    → IsPermutation places sorted → IsFiltered (DiffersFromLast nat_eq) [] sorted kept
-    → AreCutsInside ranges bounds places → AreCutsInside ranges bounds kept
-gathered_sorted ranges bounds places sorted kept moved filtered cuts c =
+pub gathered_sorted : (ranges bounds : List Ends) (points sorted kept : List ℕ)
+    → IsPermutation points sorted → IsFiltered (DiffersFromLast nat_eq) [] sorted kept
+    → AreCutsInside ranges bounds points → AreCutsInside ranges bounds kept
+gathered_sorted ranges bounds points sorted kept moved filtered cuts c =
     let is = dedup_is nat_eq sorted kept filtered in
     let P : List ℕ → Type 0 = λ xs. Contains xs c in (
       λ has.
-          (cuts c).0 (Contains-permutation sorted places c (IsPermutation-sym places sorted moved)
+          (cuts c).0 (Contains-permutation sorted points c (IsPermutation-sym points sorted moved)
           (Contains-from_dedup nat_eq sorted c (subst P is has))),
       λ cut. subst P (sym is) (Contains-dedup_nat sorted c
-          (Contains-permutation places sorted c moved ((cuts c).1 cut))),
+          (Contains-permutation points sorted c moved ((cuts c).1 cut))),
     )
 
 -- those that lie inside one range
-pub cuts_inside_one : (ranges : List Ends) (within : Ends) (places : List ℕ) → IsRange within
-    → AreCutsInside ranges (within ∷ []) places → AreCuts ranges within places
-cuts_inside_one ranges within places range cuts c = (
+pub cuts_inside_one : (ranges : List Ends) (within : Ends) (points : List ℕ) → IsRange within
+    → AreCutsInside ranges (within ∷ []) points → AreCuts ranges within points
+cuts_inside_one ranges within points range cuts c = (
   λ has. let cut = (cuts c).0 has in (cut.0.0, one_any (λ r. IsWithin r c) within cut.1),
   λ cut.
       let last : within.last < 2 ^ 128 = range.within in
@@ -116,7 +116,7 @@ nat_cases k x P less same more =
           ] refl
     ] refl
 
--- a place among ascending ones
+-- a point among ascending ones
 put : ℕ → List ℕ → List ℕ
 put c [] = c ∷ []
 put c (x ∷ xs) = match_ordering (nat_cmp c x) (c ∷ x ∷ xs) (x ∷ xs) (x ∷ put c xs)

@@ -72,40 +72,40 @@ module _ (p : ℕ → Bool) where
         λ k d low lt. at.1 (suc k) d (omega arith) (omega arith),
       ))
 
--- the part between two partition points has the places between the ends of a range
-pub part_has : (places : List ℕ) (r : Ends) (i j : ℕ) → i ≤ length places
-    → IsPartitionPoint (λ y. ltb y r.first ≡ true) (λ y. ltb y r.first ≡ false) places i
-    → j ≤ length (drop i places)
-    → IsPartitionPoint (λ y. leb y r.last ≡ true) (λ y. leb y r.last ≡ false) (drop i places) j
-    → (c : ℕ) → Contains (take j (drop i places)) c ↔ (Contains places c × IsWithin r c)
-part_has places r i j i_in i_at j_in j_at c =
-    let from : drop i places ≡ filter (λ y. not (ltb y r.first)) places =
-    failing (λ y. ltb y r.first) places i i_in i_at in
-    let upto : take j (drop i places) ≡ filter (λ y. leb y r.last) (drop i places) =
-    passing (λ y. leb y r.last) (drop i places) j j_in j_at in
+-- the part between two partition points has the points between the ends of a range
+pub part_has : (points : List ℕ) (r : Ends) (i j : ℕ) → i ≤ length points
+    → IsPartitionPoint (λ y. ltb y r.first ≡ true) (λ y. ltb y r.first ≡ false) points i
+    → j ≤ length (drop i points)
+    → IsPartitionPoint (λ y. leb y r.last ≡ true) (λ y. leb y r.last ≡ false) (drop i points) j
+    → (c : ℕ) → Contains (take j (drop i points)) c ↔ (Contains points c × IsWithin r c)
+part_has points r i j i_in i_at j_in j_at c =
+    let from : drop i points ≡ filter (λ y. not (ltb y r.first)) points =
+    failing (λ y. ltb y r.first) points i i_in i_at in
+    let upto : take j (drop i points) ≡ filter (λ y. leb y r.last) (drop i points) =
+    passing (λ y. leb y r.last) (drop i points) j j_in j_at in
     let P : List ℕ → Type 0 = λ xs. Contains xs c in (
       λ has.
-          let low = kept_from (λ y. leb y r.last) c (drop i places)
+          let low = kept_from (λ y. leb y r.last) c (drop i points)
           (among_from_contains c _ (subst P upto has)) in
           let high =
-          kept_from (λ y. not (ltb y r.first)) c places (subst (λ xs. Among c xs) from low.0) in
+          kept_from (λ y. not (ltb y r.first)) c points (subst (λ xs. Among c xs) from low.0) in
           let test : leb c r.last ≡ true = low.1 in
           let test' : not (ltb c r.first) ≡ true = high.1 in (
-            contains_from_among c places high.0,
+            contains_from_among c points high.0,
             (grind (arith, nat_tests), grind (arith, nat_tests)),
           ),
       λ is.
           let first : r.first ≤ c = is.1.0 in
           let last : c ≤ r.last = is.1.1 in
-          let low : Among c (drop i places) =
-          subst (λ xs. Among c xs) (sym from) (among_filter (λ y. not (ltb y r.first)) c places
-          (among_from_contains c places is.0) (grind (arith, nat_tests))) in
+          let low : Among c (drop i points) =
+          subst (λ xs. Among c xs) (sym from) (among_filter (λ y. not (ltb y r.first)) c points
+          (among_from_contains c points is.0) (grind (arith, nat_tests))) in
           subst P (sym upto) (contains_from_among c _
-          (among_filter (λ y. leb y r.last) c (drop i places) low (grind (arith, nat_tests)))),
+          (among_filter (λ y. leb y r.last) c (drop i points) low (grind (arith, nat_tests)))),
     )
 
 abbrev pub is_between : ℕ → Ends → Bool
-is_between place r = leb r.first place && leb place r.last
+is_between point r = leb r.first point && leb point r.last
 
 pub between_from : (r : Ends) (c : ℕ) → is_between c r ≡ true → IsWithin r c
 between_from r c e = (grind (arith, nat_tests), grind (arith, nat_tests))
@@ -150,57 +150,57 @@ firsts_rise (r ∷ rs) ranges h (suc i) zero d le lt = absurd (omega arith)
 firsts_rise (r ∷ rs) ranges h (suc i) (suc j) d le lt =
     firsts_rise rs (ranges_tail r rs ranges) (apart_tail r rs h) i j d (omega arith) (omega arith)
 
-none_between : (place : ℕ) (rs : List Ends)
-    → ((k : ℕ) (d : Ends) → k < length rs → place < (get_or rs k d).first)
-    → list_any (is_between place) rs ≡ false
-none_between place [] h = refl
-none_between place (r ∷ rs) h =
-    let here : place < r.first = h 0 r (omega arith) in
-    let later : list_any (is_between place) rs ≡ false =
-    none_between place rs (λ k d lt. h (suc k) d (omega arith)) in
+none_between : (point : ℕ) (rs : List Ends)
+    → ((k : ℕ) (d : Ends) → k < length rs → point < (get_or rs k d).first)
+    → list_any (is_between point) rs ≡ false
+none_between point [] h = refl
+none_between point (r ∷ rs) h =
+    let here : point < r.first = h 0 r (omega arith) in
+    let later : list_any (is_between point) rs ≡ false =
+    none_between point rs (λ k d lt. h (suc k) d (omega arith)) in
     grind (arith, nat_tests)
 
 abbrev Begun : ℕ → List Ends → ℕ → Type 0
-Begun place rs n =
-    IsPartitionPoint (λ (r : Ends). leb r.first place ≡ true)
-    (λ (r : Ends). leb r.first place ≡ false) rs n
+Begun point rs n =
+    IsPartitionPoint (λ (r : Ends). leb r.first point ≡ true)
+    (λ (r : Ends). leb r.first point ≡ false) rs n
 
-not_begun : (place : ℕ) (rs : List Ends) → Begun place rs 0 → (k : ℕ) (d : Ends) → k < length rs
-    → place < (get_or rs k d).first
-not_begun place rs at k d lt =
-    let test : leb (get_or rs k d).first place ≡ false = at.1 k d (omega arith) lt in
+not_begun : (point : ℕ) (rs : List Ends) → Begun point rs 0 → (k : ℕ) (d : Ends) → k < length rs
+    → point < (get_or rs k d).first
+not_begun point rs at k d lt =
+    let test : leb (get_or rs k d).first point ≡ false = at.1 k d (omega arith) lt in
     grind (arith, nat_tests)
 
-begun_tail : (place : ℕ) (r : Ends) (rs : List Ends) (n : ℕ)
-    → Begun place (r ∷ rs) (suc n) → Begun place rs n
-begun_tail place r rs n at = (
+begun_tail : (point : ℕ) (r : Ends) (rs : List Ends) (n : ℕ)
+    → Begun point (r ∷ rs) (suc n) → Begun point rs n
+begun_tail point r rs n at = (
   λ k d low lt. at.0 (suc k) d (omega arith) (omega arith),
   λ k d low lt. at.1 (suc k) d (omega arith) (omega arith),
 )
 
--- where no range has begun, none holds the place
-pub none_inside : (place : ℕ) (rs : List Ends) → Begun place rs 0
-    → list_any (is_between place) rs ≡ false
-none_inside place rs at = none_between place rs (not_begun place rs at)
+-- where no range has begun, none holds the point
+pub none_inside : (point : ℕ) (rs : List Ends) → Begun point rs 0
+    → list_any (is_between point) rs ≡ false
+none_inside point rs at = none_between point rs (not_begun point rs at)
 
 -- of those that have begun, the last one alone can hold it
-pub last_inside : (place : ℕ) (rs : List Ends) (n : ℕ) (d : Ends) → All IsRange rs → AreApart rs
-    → suc n ≤ length rs → Begun place rs (suc n)
-    → list_any (is_between place) rs ≡ leb place (get_or rs n d).last
-last_inside place [] n d ranges apart le at = absurd (omega arith)
-last_inside place (r ∷ rs) zero d ranges apart le at =
-    let begun : leb r.first place ≡ true = at.0 0 d (omega arith) (omega arith) in
-    let later : list_any (is_between place) rs ≡ false =
-    none_inside place rs (begun_tail place r rs 0 at) in
+pub last_inside : (point : ℕ) (rs : List Ends) (n : ℕ) (d : Ends) → All IsRange rs → AreApart rs
+    → suc n ≤ length rs → Begun point rs (suc n)
+    → list_any (is_between point) rs ≡ leb point (get_or rs n d).last
+last_inside point [] n d ranges apart le at = absurd (omega arith)
+last_inside point (r ∷ rs) zero d ranges apart le at =
+    let begun : leb r.first point ≡ true = at.0 0 d (omega arith) (omega arith) in
+    let later : list_any (is_between point) rs ≡ false =
+    none_inside point rs (begun_tail point r rs 0 at) in
     grind (arith, nat_tests)
-last_inside place (r ∷ rs) (suc n) d ranges apart le at =
+last_inside point (r ∷ rs) (suc n) d ranges apart le at =
     let next : r.last < (get_or rs 0 d).first = behind r rs ranges apart 0 d (omega arith) in
-    let begun : leb (get_or rs 0 d).first place ≡ true = at.0 1 d (omega arith) (omega arith) in
-    let past : leb place r.last ≡ false = grind (arith, nat_tests) in
-    let later : list_any (is_between place) rs ≡ leb place (get_or rs n d).last =
-    last_inside place rs n d (ranges_tail r rs ranges) (apart_tail r rs apart) (omega arith)
-    (begun_tail place r rs (suc n) at) in
-    rw past (drop_and (leb r.first place) _ ∙ later)
+    let begun : leb (get_or rs 0 d).first point ≡ true = at.0 1 d (omega arith) (omega arith) in
+    let past : leb point r.last ≡ false = grind (arith, nat_tests) in
+    let later : list_any (is_between point) rs ≡ leb point (get_or rs n d).last =
+    last_inside point rs n d (ranges_tail r rs ranges) (apart_tail r rs apart) (omega arith)
+    (begun_tail point r rs (suc n) at) in
+    rw past (drop_and (leb r.first point) _ ∙ later)
   where
     drop_and : (b c : Bool) → ((b && false) || c) ≡ c
     drop_and true c = refl
@@ -229,31 +229,31 @@ between_any c (r ∷ rs) (suc k, x, below, is, h) =
     or_true true = refl
     or_true false = refl
 
--- what is found so far, of these places inside these ranges
+-- what is found so far, of these points inside these ranges
 abbrev pub AreFound : List ℕ → List ℕ → List Ends → List ℕ → Type 0
-AreFound start places ranges found =
+AreFound start points ranges found =
     (c : ℕ)
-    → Contains found c ↔ (Contains start c ⊎ (Contains places c × Any (λ r. IsWithin r c) ranges))
+    → Contains found c ↔ (Contains start c ⊎ (Contains points c × Any (λ r. IsWithin r c) ranges))
 
-pub found_no_range : (start places : List ℕ) → AreFound start places [] start
-found_no_range start places c = (
+pub found_no_range : (start points : List ℕ) → AreFound start points [] start
+found_no_range start points c = (
   λ has. inl has,
   λ either. elim either [ inl there ↦ there | inr here ↦ absurd (omega (arith, here.1.2)) ],
 )
 
-pub found_no_place : (start : List ℕ) (ranges : List Ends) → AreFound start [] ranges start
-found_no_place start ranges c = (
+pub found_no_point : (start : List ℕ) (ranges : List Ends) → AreFound start [] ranges start
+found_no_point start ranges c = (
   λ has. inl has,
   λ either. elim either [ inl there ↦ there | inr here ↦ absurd (omega (arith, here.0.1)) ],
 )
 
--- the places inside one range more
-pub found_range : (start places part found : List ℕ) (ranges : List Ends) (i : ℕ) (r : Ends)
+-- the points inside one range more
+pub found_range : (start points part found : List ℕ) (ranges : List Ends) (i : ℕ) (r : Ends)
     → i < length ranges → r ≡ get_or ranges i r
-    → ((c : ℕ) → Contains part c ↔ (Contains places c × IsWithin r c))
-    → AreFound start places (take i ranges) found
-    → AreFound start places (take (i + 1) ranges) (found ++ part)
-found_range start places part found ranges i r below is parts before c =
+    → ((c : ℕ) → Contains part c ↔ (Contains points c × IsWithin r c))
+    → AreFound start points (take i ranges) found
+    → AreFound start points (take (i + 1) ranges) (found ++ part)
+found_range start points part found ranges i r below is parts before c =
     let P : List Ends → Type 0 = λ rs. Any (λ t. IsWithin t c) rs in
     let more : take (i + 1) ranges ≡ take i ranges ++ r ∷ [] =
     take_more ranges i r below ∙ ap (λ (x : Ends). take i ranges ++ x ∷ []) (sym is) in (
@@ -289,12 +289,12 @@ found_range start places part found ranges i r below is parts before c =
           ],
     )
 
--- one place more that lies inside a range
-found_here : (start places found : List ℕ) (ranges : List Ends) (i p : ℕ)
-    → take (i + 1) places ≡ take i places ++ p ∷ [] → list_any (is_between p) ranges ≡ true
-    → AreFound start (take i places) ranges found
-    → AreFound start (take (i + 1) places) ranges (found ++ p ∷ [])
-found_here start places found ranges i p more inside before c =
+-- one point more that lies inside a range
+found_here : (start points found : List ℕ) (ranges : List Ends) (i p : ℕ)
+    → take (i + 1) points ≡ take i points ++ p ∷ [] → list_any (is_between p) ranges ≡ true
+    → AreFound start (take i points) ranges found
+    → AreFound start (take (i + 1) points) ranges (found ++ p ∷ [])
+found_here start points found ranges i p more inside before c =
     let P : List ℕ → Type 0 = λ xs. Contains xs c in (
       λ has.
           elim (Contains-push_cases found p c has) [
@@ -302,13 +302,13 @@ found_here start places found ranges i p more inside before c =
                 elim ((before c).0 there) [
                   | inl old ↦ inl old
                   | inr here ↦ inr (
-                    subst P (sym more) (Contains-append_left (take i places) (p ∷ []) c here.0),
+                    subst P (sym more) (Contains-append_left (take i points) (p ∷ []) c here.0),
                     here.1,
                   )
                 ]
             | inr same ↦ inr (
-              subst (λ d. Contains (take (i + 1) places) d) same
-                  (subst (λ xs. Contains xs p) (sym more) (Contains-push (take i places) p)),
+              subst (λ d. Contains (take (i + 1) points) d) same
+                  (subst (λ xs. Contains xs p) (sym more) (Contains-push (take i points) p)),
               subst (λ d. Any (λ t. IsWithin t d) ranges) same (any_between p ranges inside),
             )
           ],
@@ -316,7 +316,7 @@ found_here start places found ranges i p more inside before c =
           elim either [
             | inl old ↦ Contains-append_left found (p ∷ []) c ((before c).1 (inl old))
             | inr here ↦
-                elim (Contains-push_cases (take i places) p c (subst P more here.0)) [
+                elim (Contains-push_cases (take i points) p c (subst P more here.0)) [
                   | inl there ↦
                       Contains-append_left found (p ∷ []) c ((before c).1 (inr (there, here.1)))
                   | inr same ↦
@@ -325,18 +325,18 @@ found_here start places found ranges i p more inside before c =
           ],
     )
 
--- one place more that does not
-found_apart : (start places found : List ℕ) (ranges : List Ends) (i p : ℕ)
-    → take (i + 1) places ≡ take i places ++ p ∷ [] → list_any (is_between p) ranges ≡ false
-    → AreFound start (take i places) ranges found
-    → AreFound start (take (i + 1) places) ranges found
-found_apart start places found ranges i p more outside before c =
+-- one point more that does not
+found_apart : (start points found : List ℕ) (ranges : List Ends) (i p : ℕ)
+    → take (i + 1) points ≡ take i points ++ p ∷ [] → list_any (is_between p) ranges ≡ false
+    → AreFound start (take i points) ranges found
+    → AreFound start (take (i + 1) points) ranges found
+found_apart start points found ranges i p more outside before c =
     let P : List ℕ → Type 0 = λ xs. Contains xs c in (
       λ has.
           elim ((before c).0 has) [
             | inl old ↦ inl old
             | inr here ↦ inr (
-              subst P (sym more) (Contains-append_left (take i places) (p ∷ []) c here.0),
+              subst P (sym more) (Contains-append_left (take i points) (p ∷ []) c here.0),
               here.1,
             )
           ],
@@ -344,7 +344,7 @@ found_apart start places found ranges i p more outside before c =
           elim either [
             | inl old ↦ (before c).1 (inl old)
             | inr here ↦
-                elim (Contains-push_cases (take i places) p c (subst P more here.0)) [
+                elim (Contains-push_cases (take i points) p c (subst P more here.0)) [
                   | inl there ↦ (before c).1 (inr (there, here.1))
                   | inr same ↦ absurd (let e : list_any (is_between c) ranges ≡ true =
                       between_any c ranges here.1 in
@@ -354,24 +354,24 @@ found_apart start places found ranges i p more outside before c =
           ],
     )
 
-found_either : (start places found : List ℕ) (ranges : List Ends) (i p : ℕ) (b : Bool)
-    → take (i + 1) places ≡ take i places ++ p ∷ [] → b ≡ list_any (is_between p) ranges
-    → AreFound start (take i places) ranges found
-    → AreFound start (take (i + 1) places) ranges (found ++ cond b (p ∷ []) [])
-found_either start places found ranges i p true more test before =
-    found_here start places found ranges i p more (sym test) before
-found_either start places found ranges i p false more test before =
-    subst (λ xs. AreFound start (take (i + 1) places) ranges xs) (sym (append-nil found))
-    (found_apart start places found ranges i p more (sym test) before)
+found_either : (start points found : List ℕ) (ranges : List Ends) (i p : ℕ) (b : Bool)
+    → take (i + 1) points ≡ take i points ++ p ∷ [] → b ≡ list_any (is_between p) ranges
+    → AreFound start (take i points) ranges found
+    → AreFound start (take (i + 1) points) ranges (found ++ cond b (p ∷ []) [])
+found_either start points found ranges i p true more test before =
+    found_here start points found ranges i p more (sym test) before
+found_either start points found ranges i p false more test before =
+    subst (λ xs. AreFound start (take (i + 1) points) ranges xs) (sym (append-nil found))
+    (found_apart start points found ranges i p more (sym test) before)
 
--- one place more, which is found where it lies inside a range
-pub found_place : (start places found new : List ℕ) (ranges : List Ends) (i d : ℕ) (b : Bool)
-    → i < length places → b ≡ list_any (is_between (get_or places i d)) ranges
-    → new ≡ found ++ cond b (get_or places i d ∷ []) []
-    → AreFound start (take i places) ranges found → AreFound start (take (i + 1) places) ranges new
-found_place start places found new ranges i d b below test is before =
-    subst (λ xs. AreFound start (take (i + 1) places) ranges xs) (sym is) (found_either start places
-    found ranges i (get_or places i d) b (take_more places i d below) test before)
+-- one point more, which is found where it lies inside a range
+pub found_point : (start points found new : List ℕ) (ranges : List Ends) (i d : ℕ) (b : Bool)
+    → i < length points → b ≡ list_any (is_between (get_or points i d)) ranges
+    → new ≡ found ++ cond b (get_or points i d ∷ []) []
+    → AreFound start (take i points) ranges found → AreFound start (take (i + 1) points) ranges new
+found_point start points found new ranges i d b below test is before =
+    subst (λ xs. AreFound start (take (i + 1) points) ranges xs) (sym is) (found_either start points
+    found ranges i (get_or points i d) b (take_more points i d below) test before)
 
 pub rises : (xs : List ℕ) → IsStrictlyIncreasing xs → IsNonDecreasingBy (λ (y : ℕ). y) xs
 rises xs h i j d le below =

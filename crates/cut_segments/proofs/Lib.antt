@@ -1,3 +1,4 @@
 pub mod CutLemmas
 pub mod InsideLemmas
+pub mod JoinedLemmas
 pub mod SegmentLemmas

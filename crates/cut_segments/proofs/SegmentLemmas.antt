@@ -14,12 +14,12 @@ use Rattle.std.proofs.lemmas.List.Sorted.{list_any-IsPermutation, sum_by-IsPermu
 use Rattle.std.proofs.lemmas.List.Sums.{sum_by-append, sum_by-cons}
 use Rattle.geo_addr.specs.Ranges.{Ends, IsRange, IsWithin, ground_first, holds}
 use Rattle.cut_segments.specs.Marks.{ground_mark, cut_mark, from_ground, marks_of, merged, past_of}
-use Rattle.cut_segments.specs.Marks.{stop_at, piece, next_place, sweep}
+use Rattle.cut_segments.specs.Marks.{stop_at, piece, next_at, sweep}
 use Rattle.source_changes.specs.Touched.{is_touched}
 use Rattle.cut_segments.specs.Segments.{AreSegments}
 use Rattle.cut_segments.specs.declared.segments.Mark.{Mark}
 
--- the marks ascend, from this place on
+-- the marks ascend, from this point on
 abbrev Rising : ℕ → List Mark → Type 0
 Rising low [] = Unit {0}
 Rising low (m ∷ ms) = (low ≤ m.at) × Rising m.at ms
@@ -30,7 +30,7 @@ rising_weaker low high (m ∷ ms) le h = (omega (arith, h.0), h.1)
 
 -- the marks that are left ascend from where a piece stops
 rising_stop : (far low : ℕ) (ms : List Mark) → Rising low ms
-    → Rising (stop_at far (next_place ms)) ms
+    → Rising (stop_at far (next_at ms)) ms
 rising_stop far low [] h = tt
 rising_stop far low (m ∷ ms) h = (omega arith, h.1)
 
@@ -43,7 +43,7 @@ piece_cases f s P some none =
       | false ↦ λ e. none (grind (arith, nat_tests))
     ] refl
 
--- ranges that are not empty and ascend, from this place on
+-- ranges that are not empty and ascend, from this point on
 abbrev Ascending : ℕ → List Ends → Type 0
 Ascending low [] = Unit {0}
 Ascending low (r ∷ rs) = (low ≤ r.first) × (r.first ≤ r.last) × Ascending (r.last + 1) rs
@@ -52,7 +52,7 @@ ascends : (past low : ℕ) (ms : List Mark) → Rising low ms → Ascending low 
 ascends past low [] h = tt
 ascends past low (m ∷ ms) h =
     let far : ℕ = max past (past_of m.reach) in
-    let stop : ℕ = stop_at far (next_place ms) in
+    let stop : ℕ = stop_at far (next_at ms) in
     piece_cases m.at stop (λ p. Ascending low (p ++ sweep far ms))
     (λ lt. (
       h.0,
@@ -173,7 +173,7 @@ has_all touched cuts ms a same up =
     none_yet : (begins ms a && (ltb a 0 || marked ms a)) ≡ (begins ms a && (false || marked ms a))
     none_yet = ap (λ b. begins ms a && (b || marked ms a)) no_less
 
--- whether a mark stands at this place
+-- whether a mark stands at this point
 abbrev stands : List Mark → ℕ → Bool
 stands ms c = list_any (λ m. eqb m.at c) ms
 
@@ -186,9 +186,9 @@ stands_above low c (m ∷ ms) h e =
     let later : stands ms c ≡ true → m.at ≤ c = stands_above m.at c ms h.1 in
     grind (arith, nat_tests, h.0)
 
--- a piece stops at a place where a later mark stands, or before
+-- a piece stops at a point where a later mark stands, or before
 stop_before : (far low c : ℕ) (ms : List Mark) → Rising low ms → stands ms c ≡ true
-    → stop_at far (next_place ms) ≤ c
+    → stop_at far (next_at ms) ≤ c
 stop_before far low c [] h e = absurd (let f : false ≡ true = e in cc)
 stop_before far low c (m ∷ ms) h e =
     let le : m.at ≤ c = stands_above m.at c (m ∷ ms) (omega arith, h.1) e in omega arith
@@ -206,7 +206,7 @@ uncut_sweep : (past low c : ℕ) (ms : List Mark) → Rising low ms → stands m
 uncut_sweep past low c [] h e = tt
 uncut_sweep past low c (m ∷ ms) h e =
     let far : ℕ = max past (past_of m.reach) in
-    let stop : ℕ = stop_at far (next_place ms) in
+    let stop : ℕ = stop_at far (next_at ms) in
     let later : AllByRecursion (λ r. r.first < c → r.last < c) (sweep far ms) =
     elim (stands ms c)
     as (λ b. stands ms c ≡ b → AllByRecursion (λ r. r.first < c → r.last < c) (sweep far ms)) [
@@ -249,7 +249,7 @@ stands_at_cut [] cuts c is = among cuts is
         let later : stands (map cut_mark cs) c ≡ true = among cs (k, omega arith, e) in
         grind (arith, nat_tests)
 
--- each mark begins at most one piece, and only where its place is touched
+-- each mark begins at most one piece, and only where its point is touched
 few_sweep : (p : ℕ → Bool) (past : ℕ) (ms : List Mark)
     → AllByRecursion (λ r. p r.first ≡ true) (sweep past ms)
     → length (sweep past ms) ≤ count_by (λ m. p m.at) ms
@@ -257,7 +257,7 @@ few_sweep p past [] h = omega arith
 few_sweep p past (m ∷ ms) h =
     let far : ℕ = max past (past_of m.reach) in
     piece_cases m.at
-    (stop_at far (next_place ms)) (λ q. AllByRecursion (λ r. p r.first ≡ true) (q ++ sweep far ms)
+    (stop_at far (next_at ms)) (λ q. AllByRecursion (λ r. p r.first ≡ true) (q ++ sweep far ms)
     → length (q ++ sweep far ms) ≤ count_by (λ m. p m.at) (m ∷ ms))
     (λ lt h. rw (sum_by-cons (λ (x : Mark). cond (p x.at) 1 0) m ms, h.0)
     (omega (arith, few_sweep p far ms h.1)))
@@ -373,7 +373,7 @@ are_segments touched cuts ms same up ranges = record {
         ∙ ap (λ n. count_by (λ m. is_touched touched m.at) (map ground_mark touched) + n)
         (count_cuts (is_touched touched) cuts)
 
--- the grounds ascend, from this place on
+-- the grounds ascend, from this point on
 abbrev GroundsRise : ℕ → List Ends → Type 0
 GroundsRise low [] = Unit {0}
 GroundsRise low (r ∷ rs) = (low ≤ ground_first r) × GroundsRise (ground_first r) rs
@@ -391,21 +391,21 @@ grounds_rise : (rs : List Ends) → IsNonDecreasingBy (λ (x : Ends). ground_fir
 grounds_rise [] h = tt
 grounds_rise (r ∷ rs) h = (omega arith, grounds_from r rs h)
 
--- the cut points ascend, from this place on
-abbrev PlacesRise : ℕ → List ℕ → Type 0
-PlacesRise low [] = Unit {0}
-PlacesRise low (c ∷ cs) = (low ≤ c) × PlacesRise c cs
+-- the cut points ascend, from this point on
+abbrev PointsRise : ℕ → List ℕ → Type 0
+PointsRise low [] = Unit {0}
+PointsRise low (c ∷ cs) = (low ≤ c) × PointsRise c cs
 
-places_from : (c : ℕ) (cs : List ℕ) → IsNonDecreasing (c ∷ cs) → PlacesRise c cs
-places_from c [] h = tt
-places_from c (d ∷ cs) h = (
+points_from : (c : ℕ) (cs : List ℕ) → IsNonDecreasing (c ∷ cs) → PointsRise c cs
+points_from c [] h = tt
+points_from c (d ∷ cs) h = (
   h 0 1 c (omega arith) (omega arith),
-  places_from d cs (λ i j e le below. h (suc i) (suc j) e (omega arith) (omega arith)),
+  points_from d cs (λ i j e le below. h (suc i) (suc j) e (omega arith) (omega arith)),
 )
 
-places_rise : (cs : List ℕ) → IsNonDecreasing cs → PlacesRise 0 cs
-places_rise [] h = tt
-places_rise (c ∷ cs) h = (omega arith, places_from c cs h)
+points_rise : (cs : List ℕ) → IsNonDecreasing cs → PointsRise 0 cs
+points_rise [] h = tt
+points_rise (c ∷ cs) h = (omega arith, points_from c cs h)
 
 -- cases of which of two marks is the first
 le_cases : (a b : ℕ) (P : List Mark → Type 0) (x y : List Mark)
@@ -416,13 +416,13 @@ le_cases a b P x y some none =
       | false ↦ λ e. none (grind (arith, nat_tests))
     ] refl
 
-rising_cuts : (low : ℕ) (cs : List ℕ) → PlacesRise low cs → Rising low (map cut_mark cs)
+rising_cuts : (low : ℕ) (cs : List ℕ) → PointsRise low cs → Rising low (map cut_mark cs)
 rising_cuts low [] up = tt
 rising_cuts low (c ∷ cs) up = (up.0, rising_cuts c cs up.1)
 
 rising_from_ground : (r : Ends) (rest : List ℕ → List Mark)
-    → ((cs : List ℕ) → PlacesRise (ground_first r) cs → Rising (ground_first r) (rest cs))
-    → (low : ℕ) (cs : List ℕ) → low ≤ ground_first r → PlacesRise low cs
+    → ((cs : List ℕ) → PointsRise (ground_first r) cs → Rising (ground_first r) (rest cs))
+    → (low : ℕ) (cs : List ℕ) → low ≤ ground_first r → PointsRise low cs
     → Rising low (from_ground r rest cs)
 rising_from_ground r rest later low [] le up = (le, later [] tt)
 rising_from_ground r rest later low (c ∷ cs) le up =
@@ -432,7 +432,7 @@ rising_from_ground r rest later low (c ∷ cs) le up =
     (λ second. (up.0, rising_from_ground r rest later c cs (omega (arith, second)) up.1))
 
 -- marks that are merged ascend
-rising_merged : (low : ℕ) (rs : List Ends) (cs : List ℕ) → GroundsRise low rs → PlacesRise low cs
+rising_merged : (low : ℕ) (rs : List Ends) (cs : List ℕ) → GroundsRise low rs → PointsRise low cs
     → Rising low (merged rs cs)
 rising_merged low [] cs h up = rising_cuts low cs up
 rising_merged low (r ∷ rs) cs h up =
@@ -468,29 +468,29 @@ same_merged [] cs = IsPermutation-refl (map cut_mark cs)
 same_merged (r ∷ rs) cs = same_from_ground r rs (merged rs) (same_merged rs) cs
 
 -- what a pass over sorted grounds and cut points finds
-pub segments_of_sorted : (touched grounds : List Ends) (places : List ℕ)
+pub segments_of_sorted : (touched grounds : List Ends) (points : List ℕ)
     → IsPermutation touched grounds
-    → IsNonDecreasingBy (λ (r : Ends). ground_first r) grounds → IsNonDecreasing places
-    → All IsRange (sweep 0 (merged grounds places))
-    → AreSegments touched places (sweep 0 (merged grounds places))
-segments_of_sorted touched grounds places same up ups ranges =
-    are_segments touched places (merged grounds places)
-    (IsPermutation-trans (marks_of touched places) (marks_of grounds places) (merged grounds places)
-    (IsPermutation-append_left (map cut_mark places) (map ground_mark touched)
+    → IsNonDecreasingBy (λ (r : Ends). ground_first r) grounds → IsNonDecreasing points
+    → All IsRange (sweep 0 (merged grounds points))
+    → AreSegments touched points (sweep 0 (merged grounds points))
+segments_of_sorted touched grounds points same up ups ranges =
+    are_segments touched points (merged grounds points)
+    (IsPermutation-trans (marks_of touched points) (marks_of grounds points) (merged grounds points)
+    (IsPermutation-append_left (map cut_mark points) (map ground_mark touched)
     (map ground_mark grounds) (IsPermutation-map ground_mark touched grounds same))
-    (same_merged grounds places))
-    (rising_merged 0 grounds places (grounds_rise grounds up) (places_rise places ups)) ranges
+    (same_merged grounds points))
+    (rising_merged 0 grounds points (grounds_rise grounds up) (points_rise points ups)) ranges
 
 -- the order of the cut points does not matter
-pub segments_of_any : (touched out : List Ends) (cuts places : List ℕ) → IsPermutation cuts places
-    → AreSegments touched places out → AreSegments touched cuts out
-segments_of_any touched out cuts places same h = record {
+pub segments_of_any : (touched out : List Ends) (cuts points : List ℕ) → IsPermutation cuts points
+    → AreSegments touched points out → AreSegments touched cuts out
+segments_of_any touched out cuts points same h = record {
   ranges = h.ranges;
   apart = h.apart;
   inside = h.inside;
   covered = h.covered;
-  uncut = λ c is. h.uncut c (Contains-permutation cuts places c same is);
+  uncut = λ c is. h.uncut c (Contains-permutation cuts points c same is);
   few =
       subst (λ (n : ℕ). length out ≤ length touched + n)
-      (sum_by-IsPermutation (λ x. cond (is_touched touched x) 1 0) cuts places same) h.few;
+      (sum_by-IsPermutation (λ x. cond (is_touched touched x) 1 0) cuts points same) h.few;
 }

@@ -1,3 +1,3 @@
-pub mod CutPlaces
+pub mod CutPoints
 pub mod Marks
 pub mod Segments

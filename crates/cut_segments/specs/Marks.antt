@@ -16,12 +16,12 @@ cut_mark c = record { at = c; reach = None }
 abbrev pub marks_of : List Ends → List ℕ → List Mark
 marks_of touched cuts = map ground_mark touched ++ map cut_mark cuts
 
--- the place past the farthest touched address so far
+-- the point past the farthest touched address so far
 abbrev pub past_of : Option ℕ → ℕ
 past_of None = 0
 past_of (Some last) = last + 1
 
--- the first place that is no longer of the piece: past all that was touched,
+-- the first point that is no longer of the piece: past all that was touched,
 -- or where the next mark stands
 abbrev pub stop_at : ℕ → Option ℕ → ℕ
 stop_at past None = past
@@ -42,13 +42,13 @@ merged (r ∷ rs) cs = from_ground r (merged rs) cs
 abbrev pub piece : ℕ → ℕ → List Ends
 piece first stop = if nat_lt first stop then record { first = first; last = stop - 1 } ∷ [] else []
 
-abbrev pub next_place : List Mark → Option ℕ
-next_place [] = None
-next_place (m ∷ ms) = Some m.at
+abbrev pub next_at : List Mark → Option ℕ
+next_at [] = None
+next_at (m ∷ ms) = Some m.at
 
--- the pieces of sorted marks, where all below this place is touched so far
+-- the pieces of sorted marks, where all below this point is touched so far
 abbrev pub sweep : ℕ → List Mark → List Ends
 sweep past [] = []
 sweep past (m ∷ ms) =
     let far = max past (past_of m.reach) in
-    piece m.at (stop_at far (next_place ms)) ++ sweep far ms
+    piece m.at (stop_at far (next_at ms)) ++ sweep far ms

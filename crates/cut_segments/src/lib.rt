@@ -2,9 +2,10 @@
 #![tactic(auto)]
 
 mod inside;
-mod places;
+mod joined;
+mod points;
 mod segments;
 
 pub use inside::push_inside;
-pub use places::{cut_places, whole};
+pub use points::{cut_points, whole};
 pub use segments::{segments_between, segments_of};

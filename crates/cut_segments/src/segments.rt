@@ -4,14 +4,15 @@ ghost use Rattle.std.specs.List.{AllAdjacentBelow};
 ghost use Rattle.std.specs.List.Sorted.{IsNonDecreasing};
 ghost use Rattle.std.specs.Option.{option_to_list};
 ghost use Rattle.geo_addr.specs.Ranges.{IsRange, ground_first};
-ghost use Rattle.cut_segments.specs.Marks.{ground_mark, cut_mark, merged, next_place, past_of};
+ghost use Rattle.cut_segments.specs.Marks.{ground_mark, cut_mark, merged, next_at, past_of};
 ghost use Rattle.cut_segments.specs.Marks.{piece, stop_at, sweep};
 ghost use Rattle.cut_segments.specs.Segments.{AreSegments};
 
+use crate::joined::joined;
 use geo_addr::{Memory, Range};
 use std::alloc::Global;
 
-// A place where the pieces change: a touched ground begins, which reaches to its last address, or a
+// A point where the pieces change: a touched ground begins, which reaches to its last address, or a
 // cut point stands.
 #[derive(Clone, Copy)]
 struct Mark {
@@ -19,38 +20,37 @@ struct Mark {
     reach: Option<u128>,
 }
 
-/// The touched grounds as ascending ranges that are disjoint, cut at the given places.
+/// The touched grounds as ascending ranges that are disjoint, cut at the given points.
 ///
-/// The grounds may overlap and come in any order, and so may the places.
+/// The grounds may overlap and come in any order, and so may the points.
 pub fn segments_of(alloc: Global, touched: &[Range], cuts: &[u128]) -> Result<Vec<Range>, Memory>
     ensures { IfOk result (λ segments. AreSegments touched.now cuts.now segments.items) }
 {
-    let mut places = Vec::with_capacity(alloc, cuts.len())?;
-    places.extend_from_slice(cuts)?;
-    places.sort_unstable();
-    let segments = segments_between(alloc, touched, places.as_slice())?;
+    let mut points = Vec::with_capacity(alloc, cuts.len())?;
+    points.extend_from_slice(cuts)?;
+    points.sort_unstable();
+    let segments = segments_between(alloc, touched, points.as_slice())?;
     Ok(segments)
 }
 
-/// The touched grounds as ascending ranges that are disjoint, cut at ascending places.
+/// The touched grounds as ascending ranges that are disjoint, cut at ascending points.
 ///
 /// The grounds may overlap and come in any order.
 pub fn segments_between(
     alloc: Global,
     touched: &[Range],
-    places: &[u128],
+    points: &[u128],
 ) -> Result<Vec<Range>, Memory>
-    requires { IsNonDecreasing places.now }
-    ensures { IfOk result (λ segments. AreSegments touched.now places.now segments.items) }
+    requires { IsNonDecreasing points.now }
+    ensures { IfOk result (λ segments. AreSegments touched.now points.now segments.items) }
 {
     if are_in_order(touched) {
-        let pieces = sweep(alloc, touched, places)?;
+        let pieces = sweep(alloc, touched, points)?;
         return Ok(pieces);
     }
-    let mut grounds = Vec::with_capacity(alloc, touched.len())?;
-    grounds.extend_from_slice(touched)?;
+    let mut grounds = joined(alloc, touched)?;
     grounds.sort_by_key(|range| range.ground_first())?;
-    let segments = sweep(alloc, grounds.as_slice(), places)?;
+    let segments = sweep(alloc, grounds.as_slice(), points)?;
     Ok(segments)
 }
 
@@ -86,17 +86,19 @@ fn cut_mark(cut: u128) -> Mark
 }
 
 // One pass over grounds and cut points in order, with the farthest touched address so far.
-fn sweep(alloc: Global, grounds: &[Range], places: &[u128]) -> Result<Vec<Range>, Memory>
-    ensures found { IfOk result (λ pieces. pieces.items ≡ sweep 0 (merged grounds.now places.now)) }
+fn sweep(alloc: Global, grounds: &[Range], points: &[u128]) -> Result<Vec<Range>, Memory>
+    ensures found { IfOk result (λ pieces. pieces.items ≡ sweep 0 (merged grounds.now points.now)) }
     ensures ranges { IfOk result (λ pieces. All IsRange pieces.items) }
 {
-    let mut pieces = Vec::with_capacity(alloc, grounds.len())?;
+    // Most grounds begin at a cut point.
+    let room = grounds.len().max(points.len());
+    let mut pieces = Vec::with_capacity(alloc, room)?;
     let mut reach = None;
     let mut grounds = grounds;
-    let mut places = places;
-    while let Some(mark) = take_mark(&mut grounds, &mut places) {
+    let mut points = points;
+    while let Some(mark) = take_mark(&mut grounds, &mut points) {
         reach = farther(reach, mark.reach);
-        if let Some(range) = piece(mark.at, reach, next_place(grounds, places)) {
+        if let Some(range) = piece(mark.at, reach, next_at(grounds, points)) {
             pieces.push(range)?;
         }
     }
@@ -104,37 +106,37 @@ fn sweep(alloc: Global, grounds: &[Range], places: &[u128]) -> Result<Vec<Range>
 }
 
 // Takes the first mark of those that are left.
-fn take_mark(grounds: &mut &[Range], places: &mut &[u128]) -> Option<Mark>
-    ensures first { MatchOption result (merged grounds.old.now places.old.now ≡ []) (λ mark.
-        merged grounds.old.now places.old.now ≡ mark ∷ merged grounds.new.now places.new.now) }
-    ensures fewer { IsSome result → length grounds.new.now + length places.new.now
-        < length grounds.old.now + length places.old.now }
+fn take_mark(grounds: &mut &[Range], points: &mut &[u128]) -> Option<Mark>
+    ensures first { MatchOption result (merged grounds.old.now points.old.now ≡ []) (λ mark.
+        merged grounds.old.now points.old.now ≡ mark ∷ merged grounds.new.now points.new.now) }
+    ensures fewer { IsSome result → length grounds.new.now + length points.new.now
+        < length grounds.old.now + length points.old.now }
 {
-    match (grounds.split_first(), places.split_first()) {
+    match (grounds.split_first(), points.split_first()) {
         (Some((range, later)), None) => {
             *grounds = later;
             Some(ground_mark(*range))
         }
-        (Some((range, later)), Some((place, _))) if range.ground_first() <= *place => {
+        (Some((range, later)), Some((point, _))) if range.ground_first() <= *point => {
             *grounds = later;
             Some(ground_mark(*range))
         }
-        (_, Some((place, later))) => {
-            *places = later;
-            Some(cut_mark(*place))
+        (_, Some((point, later))) => {
+            *points = later;
+            Some(cut_mark(*point))
         }
         (None, None) => None,
     }
 }
 
 // Where the first mark stands of those that are left.
-fn next_place(grounds: &[Range], places: &[u128]) -> Option<u128>
-    ensures { result ≡ next_place (merged grounds.now places.now) }
+fn next_at(grounds: &[Range], points: &[u128]) -> Option<u128>
+    ensures { result ≡ next_at (merged grounds.now points.now) }
 {
-    match (grounds.first(), places.first()) {
-        (Some(range), Some(place)) => Some(range.ground_first().min(*place)),
+    match (grounds.first(), points.first()) {
+        (Some(range), Some(point)) => Some(range.ground_first().min(*point)),
         (Some(range), None) => Some(range.ground_first()),
-        (None, Some(place)) => Some(*place),
+        (None, Some(point)) => Some(*point),
         (None, None) => None,
     }
 }

@@ -5,8 +5,6 @@
 mod forks;
 mod map;
 mod part;
-#[cfg(test)]
-mod tests;
 mod work;
 
 pub use forks::Forks;

@@ -2,8 +2,6 @@
 #![tactic(auto)]
 
 mod read;
-#[cfg(test)]
-mod tests;
 mod verdict;
 
-pub use read::read_feed;
+pub use read::{LONGEST_FEED, read_feed};

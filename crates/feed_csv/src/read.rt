@@ -12,8 +12,8 @@ use geo_addr::{Line, Lines, List, Memory, Text};
 use geo_terms::{Entry, Feed, Note, Origin, Rule, SourceFault, Texts};
 use std::alloc::Global;
 
-/// The most bytes of a file.
-const LONGEST: usize = 67_108_864;
+/// The most bytes of a feed.
+pub const LONGEST_FEED: usize = 67_108_864;
 
 /// The most lines that pass the line rules.
 const MOST: usize = 2_097_152;
@@ -33,7 +33,7 @@ pub fn read_feed(alloc: Global, url: &str, bytes: &[u8]) -> Result<Feed, SourceF
     ensures too_long { (result ≡ Err SourceFault.TooLong) ↔ (longest < length bytes.now) }
     ensures too_many { result ≡ Err SourceFault.TooMany → most < length (accepted bytes.now) }
 {
-    if bytes.len() > LONGEST {
+    if bytes.len() > LONGEST_FEED {
         return Err(SourceFault::TooLong);
     }
     let found = read_lines(alloc, bytes)?;

@@ -60,7 +60,7 @@ at_least : (n : ℕ) (ds : List ℕ) → n ≤ digits_value_after 10 n ds
 at_least n [] = omega arith
 at_least n (d ∷ ds) = omega (arith, at_least (n * 10 + digit_value d) ds)
 
--- what a value and the digits from a place on make
+-- what a value and the digits from an offset on make
 abbrev pub value_from : ℕ → List ℕ → ℕ → ℕ
 value_from value text i = digits_value_after 10 value (filter is_ascii_digit (drop i text))
 

@@ -1,4 +1,4 @@
--- What stands before the first place of a kind.
+-- What stands before the first member of a kind.
 use Rattle.std.proofs.Common.{◌≡◌, ℕ, ◌≤◌, Bool, true, false, cond, List, length, take, None, Some}
 use Rattle.std.proofs.Common.{sym, ap, refl}
 use Rattle.std.specs.Prelude.{nat_lt}

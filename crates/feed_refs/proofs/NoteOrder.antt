@@ -11,7 +11,7 @@ use Rattle.std.proofs.lemmas.List.Sorted.{IsPermutation-sym}
 use Rattle.std.proofs.lemmas.Map.Keys.{IsDistinct-IsPermutation}
 use Rattle.geo_terms.specs.SourceForm.{note_lines}
 use Rattle.geo_terms.specs.declared.note.Note.{Note}
-use Rattle.feed_refs.specs.Dumps.{in_line_order, placed}
+use Rattle.feed_refs.specs.Dumps.{in_line_order, put_in}
 use Rattle.feed_refs.proofs.Rising.{Rises}
 
 abbrev pub Has : List Note → Note → Type 0
@@ -76,13 +76,13 @@ one_order low (x ∷ xs) (y ∷ ys) r s there back =
     ]) in
     λ i. head i ∷ tail i
 
--- a note in its place stands among the others
-has_placed : (n : Note) (ns : List Note) (m : Note)
-    → (Has (placed n ns) m → Has (n ∷ ns) m) × (Has (n ∷ ns) m → Has (placed n ns) m)
-has_placed n [] m = (λ h. h, λ h. h)
-has_placed n (k ∷ ks) m =
-    let later = has_placed n ks m in
-    cond_both (nat_lt k.line n.line) (k ∷ placed n ks) (n ∷ k ∷ ks)
+-- a note that is put in stands among the others
+has_put_in : (n : Note) (ns : List Note) (m : Note)
+    → (Has (put_in n ns) m → Has (n ∷ ns) m) × (Has (n ∷ ns) m → Has (put_in n ns) m)
+has_put_in n [] m = (λ h. h, λ h. h)
+has_put_in n (k ∷ ks) m =
+    let later = has_put_in n ks m in
+    cond_both (nat_lt k.line n.line) (k ∷ put_in n ks) (n ∷ k ∷ ks)
     (λ l. (Has l m → Has (n ∷ k ∷ ks) m) × (Has (n ∷ k ∷ ks) m → Has l m))
     (λ lt. (
       λ h. elim h [
@@ -101,7 +101,7 @@ pub has_ordered : (ns : List Note) (m : Note)
 unfolding in_line_order
 has_ordered [] m = (λ h. h, λ h. h)
 has_ordered (n ∷ ns) m =
-    let here = has_placed n (in_line_order ns) m in
+    let here = has_put_in n (in_line_order ns) m in
     let later = has_ordered ns m in (
       λ h. elim (here.0 h) [ inl e ↦ inl e | inr i ↦ inr (later.0 i) ],
       λ h. elim h [ inl e ↦ here.1 (inl e) | inr i ↦ here.1 (inr (later.1 i)) ],
@@ -122,13 +122,13 @@ all_of_lines : (P : ℕ → Type 0) (ns : List Note) → AllByRecursion P (note_
 all_of_lines P [] a = tt
 all_of_lines P (n ∷ ns) a = (a.0, all_of_lines P ns a.1)
 
-rises_placed : (low : ℕ) (n : Note) (ns : List Note) → low ≤ n.line → Rises low (note_lines ns)
-    → AllByRecursion (λ m. nat_eq n.line m.line ≡ false) ns → Rises low (note_lines (placed n ns))
-rises_placed low n [] le r other = (le, tt)
-rises_placed low n (m ∷ ms) le r other =
-    cond_both (nat_lt m.line n.line) (m ∷ placed n ms) (n ∷ m ∷ ms) (λ l. Rises low (note_lines l))
+rises_put_in : (low : ℕ) (n : Note) (ns : List Note) → low ≤ n.line → Rises low (note_lines ns)
+    → AllByRecursion (λ m. nat_eq n.line m.line ≡ false) ns → Rises low (note_lines (put_in n ns))
+rises_put_in low n [] le r other = (le, tt)
+rises_put_in low n (m ∷ ms) le r other =
+    cond_both (nat_lt m.line n.line) (m ∷ put_in n ms) (n ∷ m ∷ ms) (λ l. Rises low (note_lines l))
     (λ lt. let h : m.line < n.line = ltb-true m.line n.line lt in
-    (r.0, rises_placed (m.line + 1) n ms (omega arith) r.1 other.1))
+    (r.0, rises_put_in (m.line + 1) n ms (omega arith) r.1 other.1))
     (λ ge.
     let h : n.line ≤ m.line = ltb-false m.line n.line ge in
     let ne : n.line ≡ m.line → ⊥ = eqb-false n.line m.line other.0 in
@@ -140,7 +140,7 @@ pub ordered_rises : (ns : List Note) → IsDistinct nat_eq (note_lines ns)
 unfolding in_line_order IsDistinct
 ordered_rises [] d = tt
 ordered_rises (n ∷ ns) d =
-    rises_placed 0 n (in_line_order ns) (omega arith) (ordered_rises ns d.1)
+    rises_put_in 0 n (in_line_order ns) (omega arith) (ordered_rises ns d.1)
     (all_from_each (λ m. nat_eq n.line m.line ≡ false) (in_line_order ns)
     (λ m h. each (λ k. nat_eq n.line k.line ≡ false) ns
     (all_of_lines (λ l. nat_eq n.line l ≡ false) ns d.0) m ((has_ordered ns m).0 h)))

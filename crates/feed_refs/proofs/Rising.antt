@@ -11,7 +11,7 @@ abbrev pub Rises : ℕ → List ℕ → Type 0
 Rises low [] = Unit {0}
 Rises low (x ∷ xs) = (low ≤ x) × Rises (x + 1) xs
 
--- the place past the last of them
+-- the number past the last of them
 abbrev pub past : ℕ → List ℕ → ℕ
 past low [] = low
 past low (x ∷ xs) = past (x + 1) xs

@@ -43,15 +43,15 @@ notes_of slot (Passed line rule) = record { origin = Rpsl slot; line = line; rul
 unfoldable pub references : List ℕ → List Item → List Reference
 references slot items = flat_map (references_of slot) items
 
--- a note in its place among notes in line order
-abbrev pub placed : Note → List Note → List Note
-placed n [] = n ∷ []
-placed n (m ∷ ms) = if nat_lt m.line n.line then m ∷ placed n ms else n ∷ m ∷ ms
+-- a note put in among notes in line order
+abbrev pub put_in : Note → List Note → List Note
+put_in n [] = n ∷ []
+put_in n (m ∷ ms) = if nat_lt m.line n.line then m ∷ put_in n ms else n ∷ m ∷ ms
 
 -- notes in line order
 unfoldable pub in_line_order : List Note → List Note
 in_line_order [] = []
-in_line_order (n ∷ ns) = placed n (in_line_order ns)
+in_line_order (n ∷ ns) = put_in n (in_line_order ns)
 
 unfoldable pub noted : List ℕ → List Item → List Note
 noted slot items = flat_map (notes_of slot) items

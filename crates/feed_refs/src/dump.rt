@@ -11,8 +11,8 @@ use rpsl_reader::{Reader, Selection};
 use std::alloc::Global;
 use std::marker::Model;
 
-// The most bytes of a dump.
-const LONGEST: usize = 1 << 40;
+/// The most bytes of a dump.
+pub const LONGEST_DUMP: usize = 1 << 40;
 
 // The most references in a dump.
 const MOST: usize = 2_097_152;
@@ -85,7 +85,7 @@ impl DumpReader {
         if let Some(fault) = self.fault {
             return Err(fault);
         }
-        let within = first_bytes(piece, LONGEST.saturating_sub(self.fed));
+        let within = first_bytes(piece, LONGEST_DUMP.saturating_sub(self.fed));
         let progress = self.reader.read(within, &self.selection)?;
         let more = Found::of(self.alloc, &self.slot, progress.items(), &mut self.urls)?;
         if self.found.refs.len() + more.refs.len() > MOST {

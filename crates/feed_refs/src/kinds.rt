@@ -120,14 +120,14 @@ fn first_word(text: &[u8]) -> &[u8]
 {
     let text = trim_blanks(text);
     match first_blank(text) {
-        Some(place) => &text[..place],
+        Some(offset) => &text[..offset],
         None => text,
     }
 }
 
 fn first_blank(text: &[u8]) -> Option<usize>
-    ensures place { result ≡ position is_blank text.now }
-    ensures within { IfSome result (λ place. place < length text.now) }
+    ensures offset { result ≡ position is_blank text.now }
+    ensures within { IfSome result (λ offset. offset < length text.now) }
 {
     text.iter().position(|byte| is_blank(*byte))
 }

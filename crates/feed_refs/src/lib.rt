@@ -8,6 +8,6 @@ mod kinds;
 mod modified;
 mod reference;
 
-pub use dump::DumpReader;
+pub use dump::{DumpReader, LONGEST_DUMP};
 pub use feed_url::{UrlRead, read_url};
 pub use reference::{FoundRef, What, reference_of};

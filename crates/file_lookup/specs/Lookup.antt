@@ -4,7 +4,7 @@ use Rattle.std.specs.Prelude.{Ok, Err}
 use Rattle.geo_addr.specs.Bits.{bits_of}
 use Rattle.mmdb_data.specs.declared.fault.DataCause.{DataCause}
 use Rattle.mmdb_data.specs.declared.fault.DataCause.TheVariants as causes
-use Rattle.mmdb_data.specs.Tree.{Tree}
+use Rattle.mmdb_data.specs.ValueTree.{ValueTree}
 use Rattle.mmdb_file.specs.declared.fault.OpenFault.{OpenFault}
 use Rattle.mmdb_file.specs.declared.fault.OpenFault.TheVariants as open_faults
 use Rattle.mmdb_file.specs.declared.fault.WalkFault.{WalkFault}
@@ -15,11 +15,11 @@ use Rattle.file_lookup.specs.declared.lookup.LookupFault.TheVariants as faults
 use Rattle.json_values.specs.Json.{json}
 
 -- the value that an address leads to in a file, or none, or what stands in the way
-unfoldable pub looked : List ℕ → ℕ → Result (Option Tree) Barrier
+unfoldable pub looked : List ℕ → ℕ → Result (Option ValueTree) Barrier
 looked bytes address = walk bytes (bits_of 128 address)
 
 -- the record as JSON, or `none`, and a line feed
-abbrev pub answer_text : Option Tree → List ℕ
+abbrev pub answer_text : Option ValueTree → List ℕ
 answer_text None = codes "none\n"
 answer_text (Some value) = json value ++ codes "\n"
 
@@ -40,7 +40,7 @@ fault_of (not_opened fault) = open_fault fault
 fault_of (not_walked fault) = walk_fault fault
 fault_of (not_read fault) = faults.Value fault.0 fault.1
 
-abbrev pub answer_of : Result (Option Tree) Barrier → Result (List ℕ) LookupFault
+abbrev pub answer_of : Result (Option ValueTree) Barrier → Result (List ℕ) LookupFault
 answer_of (Ok found) = Ok (answer_text found)
 answer_of (Err barrier) = Err (fault_of barrier)
 

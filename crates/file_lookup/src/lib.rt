@@ -4,6 +4,3 @@
 mod lookup;
 
 pub use lookup::{LookupFault, file_line, lookup_text};
-
-#[cfg(test)]
-mod tests;

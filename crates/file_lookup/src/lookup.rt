@@ -1,9 +1,9 @@
 //! What a file says of an address.
 ghost use Rattle.std.specs.Prelude.{◌≡◌, ◌++◌, ◌∷◌, [], IfOk, codes, decimal, Option, option_map};
 ghost use Rattle.geo_addr.specs.Bits.{bits_of};
-ghost use Rattle.mmdb_data.specs.View.{tree};
+ghost use Rattle.mmdb_data.specs.View.{value_tree};
 ghost use Rattle.mmdb_data.specs.Reading.{reads};
-ghost use Rattle.mmdb_file.specs.Walk.{value_at as value_behind, value_read, place_at};
+ghost use Rattle.mmdb_file.specs.Walk.{value_at as value_behind, value_read, offset_at};
 ghost use Rattle.json_values.specs.Json.{json};
 ghost use Rattle.file_lookup.specs.Lookup.{answer, answer_of, answer_text, cause_name, file_line};
 ghost use Rattle.file_lookup.specs.Lookup.{Gives, open_fault};
@@ -53,10 +53,10 @@ pub fn lookup_text(alloc: Global, bytes: &[u8], at: Addr) -> Result<Text, Lookup
 
 fn found_text(alloc: Global, file: &Mmdb<'_>, at: Addr) -> Result<Text, LookupFault>
     ensures { Gives result
-        (answer_of (value_behind file.now (place_at file.now (bits_of 128 at.0)))) }
+        (answer_of (value_behind file.now (offset_at file.now (bits_of 128 at.0)))) }
 {
     match file.find(at) {
-        Ok(Some(place)) => value_text(alloc, file.section(), place),
+        Ok(Some(offset)) => value_text(alloc, file.section(), offset),
         Ok(None) => no_record(alloc),
         Err(WalkFault::NotEnded) => Err(LookupFault::NotEnded),
         Err(WalkFault::OutOfSection) => Err(LookupFault::OutOfSection),
@@ -64,10 +64,10 @@ fn found_text(alloc: Global, file: &Mmdb<'_>, at: Addr) -> Result<Text, LookupFa
 }
 
 /// The text of the value at this offset of the data section.
-fn value_text(alloc: Global, section: &[u8], place: u64) -> Result<Text, LookupFault>
-    ensures { Gives result (answer_of (value_read (reads section.now place))) }
+fn value_text(alloc: Global, section: &[u8], offset: u64) -> Result<Text, LookupFault>
+    ensures { Gives result (answer_of (value_read (reads section.now offset))) }
 {
-    match decode(alloc, section, place) {
+    match decode(alloc, section, offset) {
         Ok(value) => record_text(alloc, &value),
         Err(DataFault::Bad { at, cause }) => Err(LookupFault::Value { at, cause }),
         Err(DataFault::Memory) => Err(LookupFault::Memory),
@@ -75,7 +75,7 @@ fn value_text(alloc: Global, section: &[u8], place: u64) -> Result<Text, LookupF
 }
 
 fn record_text(alloc: Global, value: &Value) -> Result<Text, LookupFault>
-    ensures { Gives result (Ok (answer_text (Some (tree value.now)))) }
+    ensures { Gives result (Ok (answer_text (Some (value_tree value.now)))) }
 {
     match json_line(alloc, value) {
         Ok(text) => Ok(text),
@@ -84,7 +84,7 @@ fn record_text(alloc: Global, value: &Value) -> Result<Text, LookupFault>
 }
 
 fn json_line(alloc: Global, value: &Value) -> Result<Text, Memory>
-    ensures { IfOk result (λ text. text ≡ answer_text (Some (tree value.now))) }
+    ensures { IfOk result (λ text. text ≡ answer_text (Some (value_tree value.now))) }
 {
     let json = json_text(alloc, value)?;
     let line = format!(in alloc; "{}\n", json.as_str())?;

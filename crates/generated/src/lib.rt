@@ -2,7 +2,5 @@
 #![tactic(auto)]
 
 mod feed;
-#[cfg(test)]
-mod tests;
 
 pub use feed::gen_feed;

@@ -19,7 +19,7 @@ pub ReadDigits-lt : (digits : List ℕ) (value most : ℕ) → length digits ≤
     → ReadDigits digits value → value < 16 ^ most
 ReadDigits-lt digits value most few read =
     let below = digits_value-lt 16 digits read.are_digits in
-    let places : 16 ^ length digits ≤ 16 ^ most = pow-le-pow_right (lit< tt) few in
+    let bounded : 16 ^ length digits ≤ 16 ^ most = pow-le-pow_right (lit< tt) few in
     omega (arith, read.value_is)
 
 -- before the last of four digits there is room for one more

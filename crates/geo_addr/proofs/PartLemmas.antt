@@ -33,6 +33,6 @@ pieces_digits least most text h = pieces_all is_ascii_digit 46 text refl (and_pa
 pub whole_piece : (c : ℕ) (text part : List ℕ) → pieces c text ≡ part ∷ [] → part ≡ text
 whole_piece c text part e = sym (ap (join_with_byte c) e) ∙ join_with_byte-slice_split c text
 
--- all that is behind a place
+-- all that is behind an index
 pub rest_whole : (text : List ℕ) (n : ℕ) → take (length text - n) (drop n text) ≡ drop n text
 rest_whole text n = take_all (length text - n) (drop n text) (omega (arith, length-drop n text))

@@ -114,9 +114,9 @@ filled_number : (left right : List ℕ) → length left + length right ≤ 7 →
     (filled left right) ≡ groups_number left * 65536 ^ (8 - length left) + groups_number right
 filled_number left right room =
     let k : ℕ = 8 - length left - length right in
-    let places : 8 - length left ≡ k + length right = omega arith in
+    let counted : 8 - length left ≡ k + length right = omega arith in
     let sum : 65536 ^ (8 - length left) ≡ 65536 ^ k * 65536 ^ length right =
-    ap (λ e. 65536 ^ e) places ∙ pow-add 65536 k (length right) in
+    ap (λ e. 65536 ^ e) counted ∙ pow-add 65536 k (length right) in
     number_after_append 65536 0 (left ++ replicate k 0) right
     ∙ ap (λ n. number_from_digits_after 65536 n right)
     (number_after_append 65536 0 left (replicate k 0) ∙ after_zeros (groups_number left) k)
@@ -150,9 +150,9 @@ joined_fits head tail g k small_head small_tail some room =
     pow-le-pow_right {n = 65536} (lit< tt) {i = 8 - g} {j = 7} (omega arith) in
     let tails : 65536 ^ k ≤ 65536 ^ (8 - g) =
     pow-le-pow_right {n = 65536} (lit< tt) {i = k} {j = 8 - g} (omega arith) in
-    let places : 8 ≡ g + (8 - g) = omega arith in
+    let counted : 8 ≡ g + (8 - g) = omega arith in
     let whole : 65536 ^ 8 ≡ 65536 ^ g * 65536 ^ (8 - g) =
-    ap (λ e. 65536 ^ e) places ∙ pow-add 65536 g (8 - g) in
+    ap (λ e. 65536 ^ e) counted ∙ pow-add 65536 g (8 - g) in
     let heads : (head + 1) * 65536 ^ (8 - g) ≤ 65536 ^ g * 65536 ^ (8 - g) =
     mul-le-mul_right (65536 ^ (8 - g)) (omega arith) in
     (omega arith, omega arith)
@@ -162,7 +162,7 @@ moved : (at : ℕ) (found : Option ℕ)
 moved at None = refl
 moved at (Some k) = ap Some (omega arith)
 
--- where `::` does not stand here, it is sought from the next place on
+-- where `::` does not stand here, it is sought from the next offset on
 pub double_at-past : (text : List ℕ) (at : ℕ) → at < length text
     → starts_with nat_eq (drop at text) (58 ∷ 58 ∷ []) ≡ false → option_map (λ k. at + k)
     (double_at (drop at text)) ≡ option_map (λ k. at + 1 + k) (double_at (drop (at + 1) text))

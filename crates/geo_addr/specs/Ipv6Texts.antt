@@ -58,7 +58,7 @@ any_bad_octet text = list_any has_bad_octet (members text)
 abbrev pub groups_number : List ℕ → ℕ
 groups_number groups = number_from_digits 65536 groups
 
--- the place of the first `::`
+-- the offset of the first `::`
 abbrev pub double_at : List ℕ → Option ℕ
 double_at [] = None
 double_at (b ∷ bs) =

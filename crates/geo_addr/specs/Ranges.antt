@@ -48,11 +48,11 @@ holds r a = nat_le (ground_first r) a && nat_le a r.last
 abbrev pub IsWithin : Ends → ℕ → Type 0
 IsWithin r a = (r.first ≤ a) × (a ≤ r.last)
 
--- the edges of a ground: where it begins, and the place past its end
+-- the edges of a ground: where it begins, and the point past its end
 abbrev pub edges_of : Ends → List ℕ
 edges_of r = ground_first r ∷ (r.last + 1) ∷ []
 
--- a place is an edge of a ground
+-- a point is an edge of a ground
 abbrev pub IsEdge : ℕ → Ends → Type 0
 IsEdge c r = (c ≡ ground_first r) ⊎ (c ≡ r.last + 1)
 
@@ -60,9 +60,9 @@ IsEdge c r = (c ≡ ground_first r) ⊎ (c ≡ r.last + 1)
 abbrev pub IsCut : List Ends → ℕ → Type 0
 IsCut ranges c = Any (IsEdge c) ranges
 
--- these places are the cut points that lie within a range
+-- these points are the cut points that lie within a range
 abbrev pub AreCuts : List Ends → Ends → List ℕ → Type 0
-AreCuts ranges within places = (c : ℕ) → Contains places c ↔ (IsCut ranges c × IsWithin within c)
+AreCuts ranges within points = (c : ℕ) → Contains points c ↔ (IsCut ranges c × IsWithin within c)
 
 -- no cut point lies above the lower and at or below the higher address
 abbrev pub NoCut : List Ends → ℕ → ℕ → Type 0

@@ -35,8 +35,3 @@ pub use print::{addr_text, block_text, range_text};
 pub use range::{Range, range_of};
 pub use span::parse_span;
 pub use text::Text;
-
-#[cfg(test)]
-mod address_tests;
-#[cfg(test)]
-mod tests;

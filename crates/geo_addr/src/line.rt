@@ -21,7 +21,7 @@ pub fn cut_at(text: &[u8], separator: u8) -> (&[u8], Option<&[u8]>)
         (text.now ≡ result.0.now)
         (λ after. text.now ≡ result.0.now ++ separator ∷ after.now) }
 {
-    cut_there(text, separator, first_place(text, separator))
+    cut_there(text, separator, first_offset(text, separator))
 }
 
 /// The same of a text that is short as far as the separator: its bytes are looked at one by one.
@@ -33,13 +33,13 @@ pub(crate) fn cut_near(text: &[u8], separator: u8) -> (&[u8], Option<&[u8]>)
         (text.now ≡ result.0.now)
         (λ after. text.now ≡ result.0.now ++ separator ∷ after.now) }
 {
-    cut_there(text, separator, near_place(text, separator))
+    cut_there(text, separator, near_offset(text, separator))
 }
 
-// The text cut at its first separator, which stands at `place`.
-fn cut_there(text: &[u8], separator: u8, place: usize) -> (&[u8], Option<&[u8]>)
-    requires place { place ≡ position_or_len (λ b. b == separator) text.now }
-    requires within { place ≤ length text.now }
+// The text cut at its first separator, which stands at `offset`.
+fn cut_there(text: &[u8], separator: u8, offset: usize) -> (&[u8], Option<&[u8]>)
+    requires offset { offset ≡ position_or_len (λ b. b == separator) text.now }
+    requires within { offset ≤ length text.now }
     ensures pieces { pieces separator text.now
         ≡ result.0.now ∷ pieces_after separator (option_copied result.1) }
     ensures free { All (λ b. b ≢ separator) result.0.now }
@@ -47,31 +47,31 @@ fn cut_there(text: &[u8], separator: u8, place: usize) -> (&[u8], Option<&[u8]>)
         (text.now ≡ result.0.now)
         (λ after. text.now ≡ result.0.now ++ separator ∷ after.now) }
 {
-    if place == text.len() {
+    if offset == text.len() {
         return (text, None);
     }
-    (&text[..place], Some(&text[place + 1..]))
+    (&text[..offset], Some(&text[offset + 1..]))
 }
 
 // Where the byte stands first, or the text's length where it does not.
 #[tactic(auto, using(crate::proofs::Cuts::finding))]
-fn first_place(text: &[u8], byte: u8) -> usize
-    ensures place { result ≡ position_or_len (λ b. b == byte) text.now }
+fn first_offset(text: &[u8], byte: u8) -> usize
+    ensures offset { result ≡ position_or_len (λ b. b == byte) text.now }
     ensures within { result ≤ length text.now }
 {
     match memchr(byte, text) {
-        Some(place) => place,
+        Some(offset) => offset,
         None => text.len(),
     }
 }
 
 // The same, where a call of `memchr` would cost more than a look at a few bytes.
-fn near_place(text: &[u8], byte: u8) -> usize
-    ensures place { result ≡ position_or_len (λ b. b == byte) text.now }
+fn near_offset(text: &[u8], byte: u8) -> usize
+    ensures offset { result ≡ position_or_len (λ b. b == byte) text.now }
     ensures within { result ≤ length text.now }
 {
     match found_near(text, byte) {
-        Some(place) => place,
+        Some(offset) => offset,
         None => text.len(),
     }
 }

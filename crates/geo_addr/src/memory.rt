@@ -1,7 +1,7 @@
 use std::alloc::{AllocError, AllocFailed};
 use thiserror::Error;
 
-/// Want of memory: the one answer that any call that allocates may give in place of its own.
+/// Want of memory: the one answer that any call that allocates may give instead of its own.
 #[derive(Clone, Copy, Debug, PartialEq, Eq, PartialOrd, Ord, Hash, Error)]
 #[error("out of memory")]
 pub struct Memory;

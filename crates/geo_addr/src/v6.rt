@@ -8,9 +8,9 @@ use crate::side::{Side, read_side};
 /// How many groups may stand beside `::`, which stands for one at least.
 const MOST_BESIDE_DOUBLE: u32 = 7;
 
-/// The place of the first `::`.
+/// The offset of the first `::`.
 fn double_at(text: &[u8]) -> Option<usize>
-    ensures place { result ≡ double_at text.now }
+    ensures offset { result ≡ double_at text.now }
     ensures within { IfSome result (λ at. at + 2 ≤ length text.now) }
 {
     for at in 0..text.len() {

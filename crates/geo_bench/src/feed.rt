@@ -30,12 +30,12 @@ pub(crate) fn run(
 pub(crate) fn lines(alloc: Global, size: u32, is_scattered: bool) -> Result<String, Memory> {
     let mut text = String::new(alloc);
     for index in 0..size {
-        let place = if is_scattered {
+        let index = if is_scattered {
             mixed(index) >> 7
         } else {
             index % 0x0100_0000
         };
-        let address = addr_text(alloc, Addr(0x0A00_0000 + u128::from(place) * 16))?;
+        let address = addr_text(alloc, Addr(0x0A00_0000 + u128::from(index) * 16))?;
         let line = format!(in alloc;
             "{}/28,{},,City {},\n",
             address.as_str(),

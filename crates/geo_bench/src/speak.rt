@@ -3,7 +3,7 @@
 
 use crate::fault::Fault;
 use crate::feed::lines;
-use authority::Authority;
+use authority::{Authority, IndexedFeed};
 use feed_csv::read_feed;
 use feed_refs::DumpReader;
 use geo_addr::{Addr, Memory, addr_text};
@@ -48,7 +48,7 @@ fn tell_gathered(rt: &impl Print, dump: &Dump, feed: &Feed) -> Result<(), Fault>
 fn both(alloc: Global, dump: Dump, feed: Feed) -> Result<Authority, Memory> {
     let mut sources = Authority::new(alloc);
     sources.set_dump(dump)?;
-    sources.set_feed(feed)?;
+    sources.set_feed(IndexedFeed::of(alloc, feed)?)?;
     Ok(sources)
 }
 

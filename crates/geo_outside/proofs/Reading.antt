@@ -16,10 +16,10 @@ pub first_more : (held : Option (List ℕ)) (bytes into more : List ℕ) (at n :
     → at ≡ length bytes → n ≤ length into → IsSome held
     → ((file : List ℕ) → held ≡ Some file → IsReadFrom file at into n) → more ≡ bytes ++ take n into
     → AreFirst held bytes → AreFirst held more
-first_more None bytes into more at n place room some read is first = cc
-first_more (Some file) bytes into more at n place room some read is first =
+first_more None bytes into more at n offset room some read is first = cc
+first_more (Some file) bytes into more at n offset room some read is first =
     let part : take n into ≡ take n (drop (length bytes) file) =
-    (read file refl).bytes ∙ ap (λ k. take n (drop k file)) place in
+    (read file refl).bytes ∙ ap (λ k. take n (drop k file)) offset in
     let len : length more ≡ length bytes + n =
     omega (arith, ap length is, length-append bytes (take n into), length-take-le n into room) in
     let joined : take (length bytes + n) file ≡ more =
@@ -30,8 +30,8 @@ first_more (Some file) bytes into more at n place room some read is first =
 pub first_all : (held : Option (List ℕ)) (bytes into : List ℕ) (at n : ℕ) → at ≡ length bytes
     → n ≡ 0 → IsSome held → ((file : List ℕ) → held ≡ Some file → IsReadFrom file at into n)
     → AreFirst held bytes → held ≡ Some bytes
-first_all None bytes into at n place none some read first = cc
-first_all (Some file) bytes into at n place none some read first =
+first_all None bytes into at n offset none some read first = cc
+first_all (Some file) bytes into at n offset none some read first =
     let ended : length file ≤ length bytes = omega (arith, (read file refl).end.0 none) in
     ap Some (sym (first ∙ take_all (length bytes) file ended))
 

@@ -24,7 +24,7 @@ pub record Spoils (old new : Told) (name : List ℕ) : Type 0 where
   pub others : (other : List ℕ) → other ≢ name → map.get new.held other ≡ map.get old.held other
   pub puts : new.puts ≡ old.puts
 
--- n bytes of the file from a place on, and none exactly at or past its end
+-- n bytes of the file from an offset on, and none exactly at or past its end
 pub record IsReadFrom (file : List ℕ) (from : ℕ) (into : List ℕ) (n : ℕ) : Type 0 where
   pub bytes : take n into ≡ take n (drop from file)
   pub end : (n ≡ 0) ↔ (length file ≤ from)

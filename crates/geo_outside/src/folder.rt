@@ -68,7 +68,7 @@ pub trait Folder {
 
     ghost given: { Self → ℕ };
 
-    /// Reads bytes of a file from a place on, at most as many as there is room for. 0 is the end.
+    /// Reads bytes of a file from an offset on, at most as many as there is room for. 0 is the end.
     fn read_at(&mut self, name: &str, from: u64, into: &mut [u8]) -> Result<usize, FolderErr>
         requires { 0 < length into.old }
         ensures room { IfOk result (λ n. n ≤ length into.old) }

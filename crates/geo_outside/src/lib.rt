@@ -1,4 +1,4 @@
-//! What the program meets outside of itself: files by name, a place to write to,
+//! What the program meets outside of itself: files by name, something to write to,
 //! a gate for pieces of work, and a counter of steps.
 #![tactic(auto)]
 
@@ -10,8 +10,6 @@ mod mem_sink;
 mod put;
 mod sink;
 mod steps;
-#[cfg(test)]
-mod tests;
 mod whole;
 
 pub use folder::{Folder, FolderErr, OutErr};

@@ -213,7 +213,7 @@ fn newest<'a>(writes: &'a [Put], name: &str) -> Option<&'a [u8]>
     found
 }
 
-/// Copies bytes of the file from a place on, at most `most` of them, and says how many.
+/// Copies bytes of the file from an offset on, at most `most` of them, and says how many.
 fn copy_from(file: &[u8], from: u64, most: usize, into: &mut [u8]) -> usize
     ensures amount { result ≡ min most (min (length into.old) (length file.now - from)) }
     ensures bytes { take result into.new ≡ take result (drop from file.now) }

@@ -1,10 +1,10 @@
-//! A place that text is written to, piece by piece.
+//! Something that text is written to, piece by piece.
 ghost use Rattle.std.specs.Prelude.{◌≡◌, ℕ, ◌≤◌, List, Option, ◌++◌, take, OnOk};
 ghost use Rattle.geo_outside.specs.Count.{Rose};
 
 use crate::folder::OutErr;
 
-/// A place to write to. In contracts `written` is the text so far, where the sink tells it, and
+/// Something to write to. In contracts `written` is the text so far, where the sink tells it, and
 /// `faults` counts its failures, up to 2^64 - 1.
 pub trait Sink {
     ghost written: { Self → Option (List ℕ) };

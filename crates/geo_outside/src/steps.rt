@@ -42,26 +42,3 @@ impl<L: Ledger> Steps<L> {
         self.book.add(&mut self.share, 1);
     }
 }
-
-#[cfg(test)]
-mod tests {
-    use super::Steps;
-    use std::marker::Brand;
-    use std::sync::ledger::{Blank, Ledger};
-
-    /// Two steps from 0 on, as `main` and other tests begin a counter.
-    fn two_steps<L: Ledger>(blank: Blank)
-        requires name { blank.name ≡ L.name }
-        requires parts { blank.parts ≡ L.parts }
-        requires some { 0 < blank.parts }
-    {
-        let mut steps: Steps<L> = Steps::new(blank);
-        steps.tick();
-        steps.tick();
-    }
-
-    #[test]
-    fn takes_two_steps(_rt: HostRuntime) {
-        two_steps::<Brand>(Blank::new(1));
-    }
-}

@@ -34,7 +34,7 @@ impl From<AllocError> for WholeErr {
 }
 
 /// Reads the file of this name, of at most `limit` bytes. It reads from the start on, each piece at
-/// the place that the one before reached, until a read gives no byte or
+/// the offset that the one before reached, until a read gives no byte or
 /// more than `limit` bytes were read.
 pub fn read_whole<F: Folder>(
     alloc: Global,

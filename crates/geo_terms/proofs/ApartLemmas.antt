@@ -1,4 +1,4 @@
--- What the boundaries of grounds that lie apart tell: the place of the one ground that holds an
+-- What the boundaries of grounds that lie apart tell: the index of the one ground that holds an
 -- address.
 use Rattle.std.proofs.Common.{◌≡◌, ℕ, zero, suc, ◌+◌, ◌^◌, ◌<◌, ◌≤◌, true, false, cond, ◌&&◌, leb}
 use Rattle.std.proofs.Common.{ltb, List, [], ◌∷◌, ◌++◌, length, get_or, map, Option, Some, None}
@@ -12,7 +12,7 @@ use Rattle.std.proofs.lemmas.Bool.Decides.{nat_tests}
 use Rattle.geo_addr.specs.Ranges.{Ends, IsRange, ground_first, holds}
 use Rattle.geo_terms.specs.Apart.{apart_from, are_apart, boundaries_apart, gap}
 use Rattle.geo_terms.specs.Boundaries.{told}
-use Rattle.geo_terms.specs.FirstIndex.{TellsFirst, placed_cmp}
+use Rattle.geo_terms.specs.FirstIndex.{TellsFirst, index_cmp}
 use Rattle.geo_terms.specs.declared.boundaries.Boundary.{Boundary}
 use Rattle.geo_terms.proofs.BoundaryLemmas.{ground_before, held}
 use Rattle.geo_terms.proofs.IndexLemmas.{Ranked, found, found_first}
@@ -79,7 +79,7 @@ told_behind_gap before from b bs a le here =
     ]
 
 module _ {X : Type 0} (range_of : X → Ends) where
-  -- the ranges of statements, with their places
+  -- the ranges of statements, with their indexes
   abbrev pub spans : List (ℕ × X) → List (ℕ × Ends)
   spans cs = map (λ (c : ℕ × X). (c.0, range_of c.1)) cs
 
@@ -133,7 +133,7 @@ module _ {X : Type 0} (range_of : X → Ends) where
   none_found [] a none = refl
   none_found (c ∷ cs) a none = rw none.0 (none_found cs a none.1)
 
-  -- the boundaries tell the place of the one that holds
+  -- the boundaries tell the index of the one that holds
   told_apart : (before : Option ℕ) (from : ℕ) (cs : List (ℕ × X)) (a : ℕ)
       → are_apart from (spans cs) ≡ true → AreRanges cs → from ≤ a → a < 2 ^ 128
       → told before (apart_from from (spans cs)) a
@@ -193,7 +193,7 @@ module _ {X : Type 0} (range_of : X → Ends) where
       where
         none_before : (c : ℕ × X) (ds : List (ℕ × X)) (a : ℕ)
             → AllByRecursion (λ d. holds (range_of d.1) a ≡ false) ds
-            → AllByRecursion (λ d. holds (range_of d.1) a ≡ true → is_lt (placed_cmp order d c)
+            → AllByRecursion (λ d. holds (range_of d.1) a ≡ true → is_lt (index_cmp order d c)
             ≡ false) ds
         none_before c [] a none = tt
         none_before c (d ∷ ds) a none =

@@ -32,7 +32,7 @@ told_sweep a ks (e ∷ es) =
       | false ↦ refl
     ]
 
--- the edges ascend, from this place on
+-- the edges ascend, from this point on
 abbrev Rising : ℕ → List Edge → Type 0
 Rising low [] = Unit {0}
 Rising low (e ∷ es) = (low ≤ e.at) × Rising e.at es
@@ -133,10 +133,10 @@ stays_shut low a r s t (e ∷ es) up h lt =
         ] refl
 
 -- an edge of this rank that opens stands at s, and one that closes at t
-own_place : (r s t : ℕ) (b : Bool) (e : Edge) → Fits r s t e
+own_at : (r s t : ℕ) (b : Bool) (e : Edge) → Fits r s t e
     → (eqb e.rank r && (cond b e.opens (not e.opens))) ≡ true → e.at ≡ cond b s t
-own_place r s t true e h is = h.opening (grind (arith, nat_tests)) (grind (arith, nat_tests))
-own_place r s t false e h is = h.closing (grind (arith, nat_tests)) (grind (arith, nat_tests))
+own_at r s t true e h is = h.opening (grind (arith, nat_tests)) (grind (arith, nat_tests))
+own_at r s t false e h is = h.closing (grind (arith, nat_tests)) (grind (arith, nat_tests))
 
 some_at : (low r s t : ℕ) (b : Bool) (es : List Edge) → Rising low es
     → AllByRecursion (Fits r s t) es → some_edge es r b ≡ true → low ≤ cond b s t
@@ -145,7 +145,7 @@ some_at low r s t b (e ∷ es) up h is =
     elim (eqb e.rank r && (cond b e.opens (not e.opens)))
     as (λ k. (eqb e.rank r && (cond b e.opens (not e.opens))) ≡ k → (k || some_edge es r b) ≡ true
     → low ≤ cond b s t) [
-      | true ↦ λ own _. let at : e.at ≡ cond b s t = own_place r s t b e h.0 own in
+      | true ↦ λ own _. let at : e.at ≡ cond b s t = own_at r s t b e h.0 own in
           omega (arith, up.0)
       | false ↦ λ _ later. let le : e.at ≤ cond b s t = some_at e.at r s t b es up.1 h.1 later in
           omega (arith, up.0)
@@ -185,7 +185,7 @@ past_ground v low a r s t (e ∷ es) up h is ended lt =
       | true ↦ λ le. elim (eqb e.rank r && not e.opens)
           as (λ k. (eqb e.rank r && not e.opens) ≡ k → (k || some_edge es r false) ≡ true
           → flag (cond (eqb e.rank r) e.opens v) (upto a es) r ≡ false) [
-            | true ↦ λ own _. let at : e.at ≡ t = own_place r s t false e h.0 own in
+            | true ↦ λ own _. let at : e.at ≡ t = own_at r s t false e h.0 own in
                 subst (λ w. flag w (upto a es) r ≡ false) (sym (shut (eqb e.rank r) e.opens own))
                 (stays_shut e.at a r s t es up.1 h.1 (omega arith))
             | false ↦ λ _ later.

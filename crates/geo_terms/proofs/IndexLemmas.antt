@@ -1,5 +1,5 @@
 -- What an index tells is the first statement that holds an address:
--- by the ranks of the statements in their order, those that tie by their places.
+-- by the ranks of the statements in their order, those that tie by their indexes.
 use Rattle.std.proofs.Common.{◌≡◌, ℕ, zero, suc, ◌+◌, ◌<◌, ◌≤◌, Bool, true, false, cond, leb, ltb}
 use Rattle.std.proofs.Common.{List, [], ◌∷◌, length, get_or, map, fold, Option, Some, None}
 use Rattle.std.proofs.Common.{Ordering, slice_get, refl, sym, ap, ◌∙◌, subst, inl, inr, arith}
@@ -16,40 +16,40 @@ use Rattle.std.proofs.lemmas.List.Sorted.{Contains-permutation, IsPermutation-sy
 use Rattle.geo_addr.specs.Ranges.{Ends, holds}
 use Rattle.geo_terms.specs.Boundaries.{told, AreBoundaries}
 use Rattle.geo_terms.specs.First.{better, first_of, first_at}
-use Rattle.geo_terms.specs.FirstIndex.{TellsFirst, placed_cmp, with_place}
+use Rattle.geo_terms.specs.FirstIndex.{TellsFirst, index_cmp, with_index}
 use Rattle.geo_terms.specs.declared.boundaries.Boundary.{Boundary}
 use Rattle.geo_terms.proofs.Members.{Among, among_from_contains, contains_from_among, all_among}
 
--- boundaries with places tell the place of the rank that was told
-told_places : (places : List ℕ) (before : Option ℕ) (bs : List Boundary) (a : ℕ)
-    → told (option_and_then (slice_get places) before) (map (with_place places) bs) a
-    ≡ option_and_then (slice_get places) (told before bs a)
-told_places places before [] a = refl
-told_places places before (b ∷ bs) a =
-    elim (leb b.at a) as (λ v. cond v (told (option_and_then (slice_get places) b.first)
-    (map (with_place places) bs) a) (option_and_then (slice_get places) before)
-    ≡ option_and_then (slice_get places) (cond v (told b.first bs a) before)) [
-      | true ↦ told_places places b.first bs a
+-- boundaries with indexes tell the index of the rank that was told
+told_indexes : (indexes : List ℕ) (before : Option ℕ) (bs : List Boundary) (a : ℕ)
+    → told (option_and_then (slice_get indexes) before) (map (with_index indexes) bs) a
+    ≡ option_and_then (slice_get indexes) (told before bs a)
+told_indexes indexes before [] a = refl
+told_indexes indexes before (b ∷ bs) a =
+    elim (leb b.at a) as (λ v. cond v (told (option_and_then (slice_get indexes) b.first)
+    (map (with_index indexes) bs) a) (option_and_then (slice_get indexes) before)
+    ≡ option_and_then (slice_get indexes) (cond v (told b.first bs a) before)) [
+      | true ↦ told_indexes indexes b.first bs a
       | false ↦ refl
     ]
 
-pub ordered_places : (places : List ℕ) (bs : List Boundary)
+pub ordered_indexes : (indexes : List ℕ) (bs : List Boundary)
     → IsNonDecreasingBy (λ (b : Boundary). b.at) bs
-    → IsNonDecreasingBy (λ (b : Boundary). b.at) (map (with_place places) bs)
-ordered_places places bs up i j d le below =
-    let n : length (map (with_place places) bs) ≡ length bs = same_length bs in
-    let x : (get_or (map (with_place places) bs) i d).at ≡ (get_or bs i d).at =
+    → IsNonDecreasingBy (λ (b : Boundary). b.at) (map (with_index indexes) bs)
+ordered_indexes indexes bs up i j d le below =
+    let n : length (map (with_index indexes) bs) ≡ length bs = same_length bs in
+    let x : (get_or (map (with_index indexes) bs) i d).at ≡ (get_or bs i d).at =
     same_at bs i (omega arith) in
-    let y : (get_or (map (with_place places) bs) j d).at ≡ (get_or bs j d).at =
+    let y : (get_or (map (with_index indexes) bs) j d).at ≡ (get_or bs j d).at =
     same_at bs j (omega arith) in
     omega (arith, up i j d le (omega arith))
   where
-    same_length : (xs : List Boundary) → length (map (with_place places) xs) ≡ length xs
+    same_length : (xs : List Boundary) → length (map (with_index indexes) xs) ≡ length xs
     same_length [] = refl
     same_length (x ∷ xs) = ap suc (same_length xs)
 
     same_at : (xs : List Boundary) (k : ℕ) → k < length xs
-        → (get_or (map (with_place places) xs) k d).at ≡ (get_or xs k d).at
+        → (get_or (map (with_index indexes) xs) k d).at ≡ (get_or xs k d).at
     same_at [] k lt = absurd (omega arith)
     same_at (x ∷ xs) zero lt = refl
     same_at (x ∷ xs) (suc k) lt = same_at xs k (omega arith)
@@ -85,7 +85,7 @@ then_greater Ordering.Equal y e is =
     let g : true ≡ false = f in cc)
 then_greater Ordering.Greater y e is = refl
 
--- the first of statements with their places that holds an address
+-- the first of statements with their indexes that holds an address
 abbrev pub found : {X : Type 0} → (X → Ends) → List (ℕ × X) → ℕ → Option (ℕ × X)
 found range_of [] a = None
 found range_of (c ∷ cs) a = cond (holds (range_of c.1) a) (Some c) (found range_of cs a)
@@ -96,13 +96,13 @@ module _ {X : Type 0} (order : X → X → Ordering) (total : IsTotalOrder order
   before x y = is_lt (order x y)
 
   abbrev ranked_before : ℕ × X → ℕ × X → Bool
-  ranked_before x y = is_lt (placed_cmp order x y)
+  ranked_before x y = is_lt (index_cmp order x y)
 
-  pub placed_total : IsTotalOrder (placed_cmp order)
-  placed_total =
+  pub index_total : IsTotalOrder (index_cmp order)
+  index_total =
       then_total (on_total (λ (x : ℕ × X). x.1) total) (on_total (λ (x : ℕ × X). x.0) nat_cmp_total)
 
-  -- its place is that of the rank of the first range that holds
+  -- its index is that of the rank of the first range that holds
   by_rank : (a : ℕ) (cs : List (ℕ × X)) → option_and_then (slice_get (map (λ (c : ℕ × X). c.0) cs))
       (position (λ r. holds r a) (map (λ (c : ℕ × X). range_of c.1) cs))
       ≡ option_map (λ (c : ℕ × X). c.0) (found range_of cs a)
@@ -160,7 +160,7 @@ module _ {X : Type 0} (order : X → X → Ordering) (total : IsTotalOrder order
 
   not_itself : (c : ℕ × X) → ranked_before c c ≡ false
   not_itself c =
-      let o = ranks_by placed_total (λ (x : ℕ × X). x) in
+      let o = ranks_by index_total (λ (x : ℕ × X). x) in
       elim (ranked_before c c) as (λ b. ranked_before c c ≡ b → b ≡ false) [
         | true ↦ λ e. sym e ∙ o.one_way c c e
         | false ↦ λ e. refl
@@ -244,12 +244,12 @@ module _ {X : Type 0} (order : X → X → Ordering) (total : IsTotalOrder order
       then_greater (order x z.1) (nat_cmp n z.0) h less in
       ap is_lt (total.antisymm z.1 x ∙ ap ordering_reverse greater)
 
-  later_place : (z : ℕ × X) (n : ℕ) (xs : List X) → Among z (enumerate_from n xs) → n ≤ z.0
-  later_place z n [] is = absurd is
-  later_place z n (x ∷ xs) (inl e) = let f : n ≡ z.0 = ap (λ (c : ℕ × X). c.0) e in omega arith
-  later_place z n (x ∷ xs) (inr later) = omega (arith, later_place z (n + 1) xs later)
+  later_index : (z : ℕ × X) (n : ℕ) (xs : List X) → Among z (enumerate_from n xs) → n ≤ z.0
+  later_index z n [] is = absurd is
+  later_index z n (x ∷ xs) (inl e) = let f : n ≡ z.0 = ap (λ (c : ℕ × X). c.0) e in omega arith
+  later_index z n (x ∷ xs) (inr later) = omega (arith, later_index z (n + 1) xs later)
 
-  -- a statement that passes and that no other one that passes goes before, places considered,
+  -- a statement that passes and that no other one that passes goes before, indexes considered,
   -- is the first
   is_first : (p : X → Bool) (z : ℕ × X) (n : ℕ) (xs : List X) (acc : Option X)
       → Among z (enumerate_from n xs) → p z.1 ≡ true
@@ -258,12 +258,12 @@ module _ {X : Type 0} (order : X → X → Ordering) (total : IsTotalOrder order
   is_first p z n [] acc is passes least h = absurd is
   is_first p z n (x ∷ xs) acc (inl e) passes least h =
       let same : x ≡ z.1 = ap (λ (c : ℕ × X). c.1) e in
-      let place : n ≡ z.0 = ap (λ (c : ℕ × X). c.0) e in
+      let index : n ≡ z.0 = ap (λ (c : ℕ × X). c.0) e in
       let here : p x ≡ true = ap p same ∙ passes in
       rw here (ap (λ o. fold (better before) o (filter p xs)) (ap (better before acc) same
       ∙ yields_here p z acc h) ∙ stays p z (n + 1) xs (omega arith) least.1)
   is_first p z n (x ∷ xs) acc (inr later) passes least h =
-      let place : n + 1 ≤ z.0 = later_place z (n + 1) xs later in
+      let index : n + 1 ≤ z.0 = later_index z (n + 1) xs later in
       elim (p x) as (λ b. p x ≡ b
       → fold (better before) acc (cond b (x ∷ filter p xs) (filter p xs)) ≡ Some z.1) [
         | true ↦ λ e. is_first p z (n + 1) xs (better before acc x) later passes least.1
@@ -276,18 +276,18 @@ module _ {X : Type 0} (order : X → X → Ordering) (total : IsTotalOrder order
   nothing_passes p n [] h = refl
   nothing_passes p n (x ∷ xs) h = rw h.0 (nothing_passes p (n + 1) xs h.1)
 
-  -- a statement with its place stands at that place
-  own_place : (zs : List X) (n : ℕ) (xs : List X)
+  -- a statement with its index stands at that index
+  own_index : (zs : List X) (n : ℕ) (xs : List X)
       → ((k : ℕ) → slice_get zs (n + k) ≡ slice_get xs k)
       → AllByRecursion (λ c. slice_get zs c.0 ≡ Some c.1) (enumerate_from n xs)
-  own_place zs n [] h = tt
-  own_place zs n (x ∷ xs) h = (
+  own_index zs n [] h = tt
+  own_index zs n (x ∷ xs) h = (
     let e : n + 0 ≡ n = omega arith in rw e at (h 0),
-    own_place zs (n + 1) xs (λ k. let e : n + suc k ≡ n + 1 + k = omega arith in
+    own_index zs (n + 1) xs (λ k. let e : n + suc k ≡ n + 1 + k = omega arith in
         rw e at (h (suc k))),
   )
 
-  -- what holds of all statements with their places, in either order
+  -- what holds of all statements with their indexes, in either order
   module _ (xs : List X) (cs : List (ℕ × X)) (same : IsPermutation (enumerate_from 0 xs) cs) where
     there : (P : ℕ × X → Type 0) → AllByRecursion P (enumerate_from 0 xs) → AllByRecursion P cs
     there P h =
@@ -313,32 +313,32 @@ module _ {X : Type 0} (order : X → X → Ordering) (total : IsTotalOrder order
               (contains_from_among z cs h.among)) in
               let at : slice_get xs z.0 ≡ Some z.1 =
               all_among (λ (c : ℕ × X). slice_get xs c.0 ≡ Some c.1) z (enumerate_from 0 xs)
-              (own_place xs 0 xs (λ k. let e : 0 + k ≡ k = omega arith in rw e refl)) member in
+              (own_index xs 0 xs (λ k. let e : 0 + k ≡ k = omega arith in rw e refl)) member in
               at ∙ sym (is_first (λ x. holds (range_of x) a) z 0 xs None member h.held
               (back (λ d. holds (range_of d.1) a ≡ true → ranked_before d z ≡ false) h.least) tt)
         ] refl
 
-    -- what a sort of all statements with their places, and the boundaries of their ranges, tell
+    -- what a sort of all statements with their indexes, and the boundaries of their ranges, tell
     pub tells_first : (bs : List Boundary)
         → IsSortedBy ranked_before cs → AreBoundaries (map (λ (c : ℕ × X). range_of c.1) cs) bs
-        → TellsFirst order range_of xs (map (with_place (map (λ (c : ℕ × X). c.0) cs)) bs)
+        → TellsFirst order range_of xs (map (with_index (map (λ (c : ℕ × X). c.0) cs)) bs)
     tells_first bs sorted h a within =
-        ap (option_and_then (slice_get xs)) (told_places (map (λ (c : ℕ × X). c.0) cs) None bs a
+        ap (option_and_then (slice_get xs)) (told_indexes (map (λ (c : ℕ × X). c.0) cs) None bs a
         ∙ ap (option_and_then (slice_get (map (λ (c : ℕ × X). c.0) cs))) (h.tell a within)
         ∙ by_rank a cs)
         ∙ found_first a (ranked a cs (in_order cs
-        (sorted_far ranked_before (ranks_by placed_total (λ (x : ℕ × X). x)) cs sorted)))
+        (sorted_far ranked_before (ranks_by index_total (λ (x : ℕ × X). x)) cs sorted)))
 
     each_of : (P : X → Type 0) (n : ℕ) (ys : List X)
         → AllByRecursion (λ c. P c.1) (enumerate_from n ys) → AllByRecursion P ys
     each_of P n [] h = tt
     each_of P n (y ∷ ys) h = (h.0, each_of P (n + 1) ys h.1)
 
-    -- what holds of all statements, from the same with their places
+    -- what holds of all statements, from the same with their indexes
     pub all_kept : (P : X → Type 0) → AllByRecursion (λ c. P c.1) cs → All P xs
     all_kept P h = All-from_recursion P xs (each_of P 0 xs (back (λ c. P c.1) h))
 
--- a sort of what is seen as statements with their places
+-- a sort of what is seen as statements with their indexes
 module _ {Y Z : Type 0} (seen : Y → Z) where
   pub sorted_seen : (lt : Z → Z → Bool) (ys : List Y) → IsSortedBy (λ x y. lt (seen x) (seen y)) ys
       → IsSortedBy lt (map seen ys)

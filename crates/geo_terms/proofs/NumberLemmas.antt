@@ -12,7 +12,7 @@ use Rattle.geo_terms.specs.Numbers.{place_at, same_place}
 use Rattle.geo_terms.specs.PlaceForm.{PlaceParts, same_text}
 use Rattle.std.proofs.lemmas.Bool.Decides.{Decides-ltb, nat_tests}
 
--- the place of a member behind one that does not pass
+-- the index of a member behind one that does not pass
 position_later : {X : Type 0} (q : X → Bool) (k : X) (xs : List X) (n : ℕ) → q k ≡ false
     → position q xs ≡ Some n → position q (k ∷ xs) ≡ Some (1 + n)
 position_later q k xs n fails at = rw fails (grind (arith, nat_tests))
@@ -82,7 +82,7 @@ numbers_name_places places p n =
         same_parts p (get_or places i p) (passes_at_first (same_place p) places p below) in
         rw (at, slice_get-get_or places i p below) (ap (λ q. Some q) (sym found))
 
--- a member at the end changes no place of one that was found before it
+-- a member at the end changes no index of one that was found before it
 position_stays : {X : Type 0} (q : X → Bool) (xs : List X) (y : X) (n : ℕ)
     → option_map (λ i. i + 1) (position q xs) ≡ Some n
     → option_map (λ i. i + 1) (position q (xs ++ y ∷ [])) ≡ Some n

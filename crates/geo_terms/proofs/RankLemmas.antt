@@ -137,8 +137,8 @@ in_all ks [] r up = refl
 in_all ks (e ∷ es) r up =
     in_all (after_edge ks e) es r (up_edge ks e up) ∙ ap (λ b. flag b es r) (in_edge ks e r up)
 
--- where the numbers in a list are the places of the members that pass a test,
--- the least is the place of the first one
+-- where the numbers in a list are the indexes of the members that pass a test,
+-- the least is the index of the first one
 pub head_is_position : {X : Type 0} (p : X → Bool) (xs : List X) (d : X) (ks : List ℕ)
     → Up 0 ks → ((r : ℕ) → is_in ks r ≡ (ltb r (length xs) && p (get_or xs r d)))
     → slice_get ks 0 ≡ position p xs

@@ -110,7 +110,7 @@ module _ {X : Type 0} (name : X → List ℕ) where
       greater_back y (get_or ys i d) l in
       less_back x y (sym (nat_list_cmp_total.congr (name (get_or ys i d)) (name x) (name y) e) ∙ g)
 
-  -- a write at the place of the member with the same name
+  -- a write over the member with the same name
   set_is_placed : (x : X) (ys : List X) (i : ℕ) (d : X) → Ascend ys → i < length ys
       → text_cmp (name (get_or ys i d)) (name x) ≡ Ordering.Equal → set ys i x ≡ placed name x ys
   set_is_placed x [] i d h below e = absurd (omega arith)
@@ -188,15 +188,15 @@ module _ {X : Type 0} (name : X → List ℕ) where
   searched x ys i h found =
       found (searchable_from_sorted nat_list_cmp_total name ys (name x) (adjacent ys h))
 
-  pub put_in_place : (x : X) (ys : List X) (i : ℕ) → AreInOrder name ys → i < length ys
+  pub put_over : (x : X) (ys : List X) (i : ℕ) → AreInOrder name ys → i < length ys
       → IsBinarySearchResult (λ y. text_cmp (name y) (name x)) ys (Ok i)
       → set ys i x ≡ placed name x ys
-  put_in_place x ys i h below found = set_is_placed x ys i x (ascend ys h) below (found x)
+  put_over x ys i h below found = set_is_placed x ys i x (ascend ys h) below (found x)
 
-  pub found_in_place : (x old : X) (ys : List X) (i : ℕ) → AreInOrder name ys → i < length ys
+  pub found_by_search : (x old : X) (ys : List X) (i : ℕ) → AreInOrder name ys → i < length ys
       → IsBinarySearchResult (λ y. text_cmp (name y) (name x)) ys (Ok i) → slice_get ys i ≡ Some old
       → Some old ≡ find (λ y. same_text (name y) (name x)) ys
-  found_in_place x old ys i h below found is =
+  found_by_search x old ys i h below found is =
       sym is ∙ at ys i below ∙ sym (find_same x ys i x (ascend ys h) below (found x))
     where
       at : (ys : List X) (i : ℕ) → i < length ys → slice_get ys i ≡ Some (get_or ys i x)
@@ -212,10 +212,10 @@ module _ {X : Type 0} (name : X → List ℕ) where
       insert_is_placed x ys i x le (λ k lt. at.0 k x (omega arith) lt)
       (λ lt. at.1 i x (omega arith) lt)
 
-  pub none_in_place : (x : X) (ys : List X) (i : ℕ)
+  pub none_by_search : (x : X) (ys : List X) (i : ℕ)
       → AreInOrder name ys → IsBinarySearchResult (λ y. text_cmp (name y) (name x)) ys (Err i)
       → None ≡ find (λ y. same_text (name y) (name x)) ys
-  none_in_place x ys i h found =
+  none_by_search x ys i h found =
       let at = searched x ys i h found in
       sym (find_none x ys (all_apart x ys i (λ k d lt below. at.0 k d (omega arith) lt)
       (λ k d le below. at.1 k d le below)))
@@ -277,7 +277,7 @@ module _ {X : Type 0} (name : X → List ℕ) where
         let later = take_out ys i d h.1 (omega arith) e in
         (rw f (ap (λ zs. y ∷ zs) later.0), rw f later.1)
 
-    -- the source at a place that a search by halving found is the one of the name,
+    -- the source at an index that a search by halving found is the one of the name,
     -- and the others are what is left
     pub taken_out : (ys : List X) (i : ℕ) (d : X) → AreInOrder name ys
         → i < length ys → IsBinarySearchResult (λ y. text_cmp (name y) n) ys (Ok i) → (remove ys i

@@ -14,7 +14,7 @@ are_apart from (s ∷ ss) = nat_le from (ground_first s.1) && are_apart (s.1.las
 abbrev pub gap : ℕ → ℕ → List Boundary
 gap from to = if nat_lt from to then record { at = from; first = None } ∷ [] else []
 
--- the boundaries of grounds that lie apart: in each one its own place is told, and in the gaps none
+-- the boundaries of grounds that lie apart: in each one its own index is told, and in the gaps none
 abbrev pub apart_from : ℕ → List (ℕ × Ends) → List Boundary
 apart_from from [] = gap from (2 ^ 128)
 apart_from from (s ∷ ss) =

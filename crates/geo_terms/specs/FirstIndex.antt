@@ -1,4 +1,4 @@
--- An index of statements: at each address it tells the place, in their list,
+-- An index of statements: at each address it tells where, in their list,
 -- of the first one in their order that holds it.
 use Rattle.std.specs.Prelude.{◌≡◌, ℕ, ◌^◌, ◌<◌, List, None, option_and_then, slice_get}
 use Rattle.std.specs.declared.cmp.Ordering.{Ordering}
@@ -8,17 +8,17 @@ use Rattle.geo_terms.specs.Boundaries.{told}
 use Rattle.geo_terms.specs.First.{first_at}
 use Rattle.geo_terms.specs.declared.boundaries.Boundary.{Boundary}
 
--- the first statement that holds an address is the one at the place that is told
+-- the first statement that holds an address is the one at the index that is told
 abbrev pub TellsFirst : {X : Type 0} → (X → X → Ordering) → (X → Ends) → List X
     → List Boundary → Type 0
 TellsFirst order range_of xs bs =
     (a : ℕ) → a < 2 ^ 128 → option_and_then (slice_get xs) (told None bs a)
     ≡ first_at (λ x y. is_lt (order x y)) range_of xs a
 
--- the order of statements with their places: those that tie go by their places
-abbrev pub placed_cmp : {X : Type 0} → (X → X → Ordering) → ℕ × X → ℕ × X → Ordering
-placed_cmp order x y = ordering_then (order x.1 y.1) (nat_cmp x.0 y.0)
+-- the order of statements with their indexes: those that tie go by their indexes
+abbrev pub index_cmp : {X : Type 0} → (X → X → Ordering) → ℕ × X → ℕ × X → Ordering
+index_cmp order x y = ordering_then (order x.1 y.1) (nat_cmp x.0 y.0)
 
--- a boundary that tells a place where it told a rank, by the places of the ranks
-abbrev pub with_place : List ℕ → Boundary → Boundary
-with_place places b = record { at = b.at; first = option_and_then (slice_get places) b.first }
+-- a boundary that tells an index where it told a rank, by the indexes of the ranks
+abbrev pub with_index : List ℕ → Boundary → Boundary
+with_index indexes b = record { at = b.at; first = option_and_then (slice_get indexes) b.first }

@@ -73,7 +73,7 @@ note_line n =
     kind_of n.origin
     ++ (32 ∷ (name_of n.origin ++ (32 ∷ (decimal n.line ++ (32 ∷ (code_of n.rule ++ (10 ∷ [])))))))
 
--- the place of a kind in a report: dumps, feeds, statistics, overrides
+-- where a kind stands in a report: dumps, feeds, statistics, overrides
 abbrev pub kind_rank : Origin → ℕ
 kind_rank (Rpsl slot) = 0
 kind_rank (Feed url) = 1

@@ -9,8 +9,8 @@ use Rattle.geo_terms.specs.Precedence.{text_cmp}
 abbrev pub AreInOrder : {X : Type 0} → (X → List ℕ) → List X → Type 0
 AreInOrder name xs = AllPairs (λ x y. text_cmp (name x) (name y) ≡ Ordering.Less) xs
 
--- the sources with one more: it takes the place of the one with its name,
--- or its own place in the order
+-- the sources with one more: it replaces the one with its name,
+-- or goes where it belongs in the order
 abbrev pub placed : {X : Type 0} → (X → List ℕ) → X → List X → List X
 placed name x [] = x ∷ []
 placed name x (y ∷ ys) =

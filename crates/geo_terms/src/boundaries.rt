@@ -9,15 +9,15 @@ use geo_addr::{Memory, Range};
 use std::alloc::Global;
 use std::collections::BTreeSet;
 
-// From this place on, up to the next boundary, `first` is the place in the list of the first range
-// that holds.
+// From this address on, up to the next boundary, `first` is the index in the list of the first
+// range that holds.
 #[derive(Clone, Copy, Debug)]
 pub struct Boundary {
     pub at: u128,
     pub first: Option<usize>,
 }
 
-// A ground begins at this place, or has ended.
+// A ground begins at this address, or has ended.
 #[derive(Clone, Copy)]
 struct Edge {
     at: u128,

@@ -6,7 +6,7 @@ ghost use Rattle.std.specs.List.Sorted.{IsPermutation};
 ghost use Rattle.geo_addr.specs.Ranges.{IsRange};
 ghost use Rattle.geo_terms.specs.Apart.{boundaries_apart, gap};
 ghost use Rattle.geo_terms.specs.Boundaries.{told};
-ghost use Rattle.geo_terms.specs.FirstIndex.{TellsFirst, placed_cmp, with_place};
+ghost use Rattle.geo_terms.specs.FirstIndex.{TellsFirst, index_cmp, with_index};
 
 use crate::boundaries::{Boundary, boundaries_of, told};
 use crate::order::Statement;
@@ -17,9 +17,9 @@ use std::marker::Model;
 
 /// Tells for each address which of several statements is the first in their order that holds it.
 ///
-/// It has the boundaries at which that changes, each with the place of the statement in the list
+/// It has the boundaries at which that changes, each with where the statement stands in the list
 /// that the index was made of, so a look-up is one halving and takes no memory. It holds no
-/// statement: whoever has the list reads it at the place.
+/// statement: whoever has the list reads it there.
 #[derive(Debug, Drop)]
 pub struct FirstIndex {
     boundaries: Vec<Boundary>,
@@ -57,28 +57,28 @@ impl FirstIndex {
             (λ index. TellsFirst S.order S.range (map (λ s. s.now) statements.entry.now) index) }
         ensures kept { OnOk result (All S.kept (map (λ s. s.now) statements.entry.now)) }
     {
-        let mut ranked = placed(alloc, statements)?;
+        let mut ranked = indexed(alloc, statements)?;
         if let Some(boundaries) = apart_in_some_order(alloc, &mut ranked)? {
             return Ok(FirstIndex { boundaries });
         }
         ranked.sort_unstable_by(|x, y| order(x, y));
         let ranges = ranges_of(alloc, ranked.as_slice())?;
         let mut boundaries = boundaries_of(alloc, ranges.as_slice())?;
-        let places = places_of(alloc, ranked.as_slice())?;
-        put_places(&mut boundaries, places.as_slice());
+        let indexes = indexes_of(alloc, ranked.as_slice())?;
+        put_indexes(&mut boundaries, indexes.as_slice());
         Ok(FirstIndex { boundaries })
     }
 
-    /// The place of the first statement that holds an address.
-    pub fn place_at(&self, at: Addr) -> Option<usize>
+    /// The index of the first statement that holds an address.
+    pub fn index_at(&self, at: Addr) -> Option<usize>
         ensures { result ≡ told None self.now at.0 }
     {
         told(self.boundaries.as_slice(), at.0)
     }
 }
 
-// The statements with their places.
-fn placed<'a, S: Statement>(
+// The statements with their indexes.
+fn indexed<'a, S: Statement>(
     alloc: Global,
     statements: &[&'a S],
 ) -> Result<Vec<(usize, &'a S)>, Memory>
@@ -86,8 +86,8 @@ fn placed<'a, S: Statement>(
         ≡ enumerate_from 0 (map (λ s. s.now) statements.entry.now)) }
 {
     let mut ranked = Vec::with_capacity(alloc, statements.len())?;
-    for (place, statement) in statements.iter().enumerate() {
-        ranked.push((place, *statement))?;
+    for (index, statement) in statements.iter().enumerate() {
+        ranked.push((index, *statement))?;
     }
     Ok(ranked)
 }
@@ -96,46 +96,47 @@ fn placed<'a, S: Statement>(
 // overlap.
 fn apart_in_some_order<S: Statement>(
     alloc: Global,
-    placed: &mut Vec<(usize, &S)>,
+    indexed: &mut Vec<(usize, &S)>,
 ) -> Result<Option<Vec<Boundary>>, Memory>
-    ensures moved { IsPermutation placed.old.items placed.new.items }
+    ensures moved { IsPermutation indexed.old.items indexed.new.items }
     ensures found { IfOk result (λ found. option_map (λ v. v.items) found
-        ≡ boundaries_apart (map (λ x. (x.0, S.range x.1.now)) placed.new.items)) }
+        ≡ boundaries_apart (map (λ x. (x.0, S.range x.1.now)) indexed.new.items)) }
     ensures ranges { IfOk result (λ found. IfSome found
-        (λ _. All (λ x. IsRange (S.range x.1.now)) placed.new.items)) }
+        (λ _. All (λ x. IsRange (S.range x.1.now)) indexed.new.items)) }
     ensures kept { IfOk result (λ found. IfSome found
-        (λ _. All (λ x. S.kept x.1.now) placed.new.items)) }
+        (λ _. All (λ x. S.kept x.1.now) indexed.new.items)) }
 {
-    let found = apart_of(alloc, placed.as_slice())?;
+    let found = apart_of(alloc, indexed.as_slice())?;
     if found.is_some() {
         return Ok(found);
     }
-    placed.sort_unstable_by_key(|(_, statement)| statement.range().ground_first());
-    apart_of(alloc, placed.as_slice())
+    // Statements of a file come in a few runs that ascend, and this sort only joins runs.
+    indexed.sort_by_key(|(_, statement)| statement.range().ground_first())?;
+    apart_of(alloc, indexed.as_slice())
 }
 
 // The boundaries of grounds that lie apart in this order, by one pass; `None` where they do not.
 fn apart_of<S: Statement>(
     alloc: Global,
-    placed: &[(usize, &S)],
+    indexed: &[(usize, &S)],
 ) -> Result<Option<Vec<Boundary>>, Memory>
     ensures found { IfOk result (λ found. option_map (λ v. v.items) found
-        ≡ boundaries_apart (map (λ x. (x.0, S.range x.1.now)) placed.entry.now)) }
+        ≡ boundaries_apart (map (λ x. (x.0, S.range x.1.now)) indexed.entry.now)) }
     ensures ranges { IfOk result (λ found. IfSome found
-        (λ _. All (λ x. IsRange (S.range x.1.now)) placed.entry.now)) }
+        (λ _. All (λ x. IsRange (S.range x.1.now)) indexed.entry.now)) }
     ensures kept { IfOk result (λ found. IfSome found
-        (λ _. All (λ x. S.kept x.1.now) placed.entry.now)) }
+        (λ _. All (λ x. S.kept x.1.now) indexed.entry.now)) }
 {
-    let mut boundaries = Vec::with_capacity(alloc, placed.len().saturating_add(2))?;
+    let mut boundaries = Vec::with_capacity(alloc, indexed.len().saturating_add(2))?;
     // the first address behind all grounds so far, where there is one
     let mut behind = Some(0);
-    for (place, statement) in placed {
+    for (index, statement) in indexed {
         let range = statement.range();
         let first = range.ground_first();
         let Some(from) = behind.filter(|from| *from <= first) else {
             return Ok(None);
         };
-        push_ground(&mut boundaries, from, first, *place)?;
+        push_ground(&mut boundaries, from, first, *index)?;
         behind = range.last.checked_add(1);
     }
     if let Some(from) = behind {
@@ -149,17 +150,17 @@ fn push_ground(
     boundaries: &mut Vec<Boundary>,
     from: u128,
     first: u128,
-    place: usize,
+    index: usize,
 ) -> Result<(), Memory>
     ensures { OnOk result (boundaries.new.items ≡
-        boundaries.old.items ++ gap from first ++ record { at = first; first = Some place } ∷ []) }
+        boundaries.old.items ++ gap from first ++ record { at = first; first = Some index } ∷ []) }
 {
     if from < first {
         push_gap(boundaries, from)?;
     }
     boundaries.push(Boundary {
         at: first,
-        first: Some(place),
+        first: Some(index),
     })?;
     Ok(())
 }
@@ -175,10 +176,10 @@ fn push_gap(boundaries: &mut Vec<Boundary>, from: u128) -> Result<(), Memory>
     Ok(())
 }
 
-// How two statements stand: those that tie go by their places.
+// How two statements stand: those that tie go by their indexes.
 fn order<S: Statement>(x: &(usize, &S), y: &(usize, &S)) -> Ordering
     ensures { result
-        ≡ placed_cmp S.order (x.entry.now.0, x.entry.now.1.now) (y.entry.now.0, y.entry.now.1.now) }
+        ≡ index_cmp S.order (x.entry.now.0, x.entry.now.1.now) (y.entry.now.0, y.entry.now.1.now) }
 {
     x.1.order(y.1).then(x.0.cmp(&y.0))
 }
@@ -195,24 +196,24 @@ fn ranges_of<S: Statement>(alloc: Global, ranked: &[(usize, &S)]) -> Result<Vec<
     Ok(ranges)
 }
 
-fn places_of<S: Statement>(alloc: Global, ranked: &[(usize, &S)]) -> Result<Vec<usize>, Memory>
-    ensures { IfOk result (λ places. places.items ≡ map (λ x. x.0) ranked.entry.now) }
+fn indexes_of<S: Statement>(alloc: Global, ranked: &[(usize, &S)]) -> Result<Vec<usize>, Memory>
+    ensures { IfOk result (λ indexes. indexes.items ≡ map (λ x. x.0) ranked.entry.now) }
 {
-    let places = ranked.iter().map(|(place, _)| *place).collect(alloc)?;
-    Ok(places)
+    let indexes = ranked.iter().map(|(index, _)| *index).collect(alloc)?;
+    Ok(indexes)
 }
 
-// Places in place of ranks.
-fn put_places(boundaries: &mut Vec<Boundary>, places: &[usize])
-    ensures { boundaries.new.items ≡ map (with_place places.now) boundaries.old.items }
+// Indexes instead of ranks.
+fn put_indexes(boundaries: &mut Vec<Boundary>, indexes: &[usize])
+    ensures { boundaries.new.items ≡ map (with_index indexes.now) boundaries.old.items }
 {
     for boundary in boundaries.iter_mut() {
-        boundary.first = place_of(boundary.first, places);
+        boundary.first = index_of(boundary.first, indexes);
     }
 }
 
-fn place_of(rank: Option<usize>, places: &[usize]) -> Option<usize>
-    ensures { result ≡ option_and_then (slice_get places.now) rank }
+fn index_of(rank: Option<usize>, indexes: &[usize]) -> Option<usize>
+    ensures { result ≡ option_and_then (slice_get indexes.now) rank }
 {
-    places.get(rank?).copied()
+    indexes.get(rank?).copied()
 }

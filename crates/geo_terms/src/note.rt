@@ -167,7 +167,7 @@ impl Origin {
         }
     }
 
-    // The place of the kind in a report.
+    // Where the kind stands in a report.
     fn rank(&self) -> u8
         ensures { result ≡ kind_rank self.now }
     {

@@ -1,20 +1,20 @@
--- Acts that follow one another, and what holds of an answer.
+-- Calls that follow one another, and what holds of an answer.
 use Rattle.std.proofs.Common.{◌≡◌, List, [], Option, Some, ◌++◌, sym, ap, ◌∙◌, append_assoc}
 use Rattle.std.proofs.Common.{append-nil, Result, Ok, Err}
 use Rattle.std.specs.Result.{OnOk, OnErr}
-use Rattle.geofeed.specs.Acts.{Act, Adds}
+use Rattle.geofeed.specs.DiskCalls.{DiskCall, Adds}
 
 -- nothing was done
-pub adds_none : {old new : Option (List Act)} → new ≡ old → Adds old new []
+pub adds_none : {old new : Option (List DiskCall)} → new ≡ old → Adds old new []
 adds_none same before told = same ∙ told ∙ ap Some (sym (append-nil before))
 
--- a call that did nothing after some acts
-pub adds_no_more : {old mid new : Option (List Act)} → {one : List Act} → Adds old mid one
+-- a call that did nothing after some calls
+pub adds_no_more : {old mid new : Option (List DiskCall)} → {one : List DiskCall} → Adds old mid one
     → new ≡ mid → Adds old new one
 adds_no_more first same before told = same ∙ first before told
 
--- some acts, and then others
-pub adds_then : {old mid new : Option (List Act)} (one two : List Act) → Adds old mid one
+-- some calls, and then others
+pub adds_then : {old mid new : Option (List DiskCall)} (one two : List DiskCall) → Adds old mid one
     → Adds mid new two → Adds old new (one ++ two)
 adds_then one two first second before told =
     second (before ++ one) (first before told) ∙ ap Some (append_assoc before one two)

@@ -1,1 +1,1 @@
-pub mod Acts
+pub mod DiskCalls

@@ -34,7 +34,7 @@ impl<'a, R: Files<File = File>> HostDisk<'a, R> {
 }
 
 impl<R: Files<File = File>> Disk for HostDisk<'_, R> {
-    ghost acts = { λ _. None };
+    ghost calls = { λ _. None };
 
     fn look(&mut self, name: &str) -> io::Result<Option<u32>> {
         match fs::symlink_metadata(self.rt, name) {
@@ -72,7 +72,7 @@ impl<R: Files<File = File>> Disk for HostDisk<'_, R> {
     fn rename(&mut self, old_name: &str, new_name: &str) -> io::Result<()> {
         fs::rename(self.rt, old_name, new_name)?;
         self.new = None;
-        // The file stands in its place by now, so a folder that cannot be
+        // The file stands under its name by now, so a folder that cannot be
         // handed to the disk is no fault.
         if let Ok(folder) = File::open(self.rt, folder_of(new_name)) {
             let _synced = folder.sync_all();
@@ -124,7 +124,7 @@ fn is_cleared<R: Files<File = File>>(rt: &R, name: &str) -> io::Result<bool> {
 }
 
 // Whether the open file still stands under the name: the run that held it may
-// just have put it in its place.
+// just have renamed it.
 fn is_at<R: Files<File = File>>(rt: &R, file: &File, name: &str) -> io::Result<bool> {
     let (held, there) = (file.metadata()?, fs::symlink_metadata(rt, name)?);
     Ok(held.dev() == there.dev() && held.ino() == there.ino())

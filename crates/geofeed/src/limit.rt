@@ -10,7 +10,7 @@ const LIMITS: &str = "/proc/self/limits";
 
 const FILE_SIZE: &[u8] = b"Max file size";
 
-/// Whether a file may have so many bytes. A write past that place
+/// Whether a file may have so many bytes. A write past that size
 /// would end the process by a signal.
 pub(crate) fn is_within_limit<R: Files<File = File>>(rt: &R, bytes: u64) -> bool {
     match number_behind(rt, LIMITS, FILE_SIZE) {

@@ -220,43 +220,43 @@ module _ (lines : ℕ) (few : lines ≤ 1000000) (world : World) (aside : world.
         by true = inr refl
         by false = inl refl
 
-    at_place : (file : List ℕ) (count : ℕ) (move : Move)
+    at_index : (file : List ℕ) (count : ℕ) (move : Move)
         → slice_get (moves_of (gen_steps file)) count ≡ Some move
         → (blocked move world ≡ None) ⊎ (blocked move world ≡ Some TooLarge)
     unfolding gen_steps dump_step stats_step first_step second_step
-    at_place file zero move next =
+    at_index file zero move next =
         let is : does dump_step ≡ move = cc in
         inl (subst (λ (m : Move). blocked m world ≡ None) is dump_free)
-    at_place file (suc zero) move next =
+    at_index file (suc zero) move next =
         let is : does stats_step ≡ move = cc in
         inl (subst (λ (m : Move). blocked m world ≡ None) is stats_free)
-    at_place file (suc (suc zero)) move next =
+    at_index file (suc (suc zero)) move next =
         let is : looks first_step ≡ move = cc in
         inl (subst (λ (m : Move). blocked m world ≡ None) is first_read)
-    at_place file (suc (suc (suc zero))) move next =
+    at_index file (suc (suc (suc zero))) move next =
         let is : counts first_step ≡ move = cc in
         inl (subst (λ (m : Move). blocked m world ≡ None) is first_counted)
-    at_place file (suc (suc (suc (suc zero)))) move next =
+    at_index file (suc (suc (suc (suc zero)))) move next =
         let is : does first_step ≡ move = cc in
         inl (subst (λ (m : Move). blocked m world ≡ None) is (set_free false))
-    at_place file (suc (suc (suc (suc (suc zero))))) move next =
+    at_index file (suc (suc (suc (suc (suc zero))))) move next =
         let is : does (emit_step 5 file) ≡ move = cc in
         subst (λ (m : Move). (blocked m world ≡ None) ⊎ (blocked m world ≡ Some TooLarge)) is
         (emit_free 5 file)
-    at_place file (suc (suc (suc (suc (suc (suc zero)))))) move next =
+    at_index file (suc (suc (suc (suc (suc (suc zero)))))) move next =
         let is : looks second_step ≡ move = cc in
         inl (subst (λ (m : Move). blocked m world ≡ None) is second_read)
-    at_place file (suc (suc (suc (suc (suc (suc (suc zero))))))) move next =
+    at_index file (suc (suc (suc (suc (suc (suc (suc zero))))))) move next =
         let is : counts second_step ≡ move = cc in
         inl (subst (λ (m : Move). blocked m world ≡ None) is second_counted)
-    at_place file (suc (suc (suc (suc (suc (suc (suc (suc zero)))))))) move next =
+    at_index file (suc (suc (suc (suc (suc (suc (suc (suc zero)))))))) move next =
         let is : does second_step ≡ move = cc in
         inl (subst (λ (m : Move). blocked m world ≡ None) is (set_free true))
-    at_place file (suc (suc (suc (suc (suc (suc (suc (suc (suc zero))))))))) move next =
+    at_index file (suc (suc (suc (suc (suc (suc (suc (suc (suc zero))))))))) move next =
         let is : does (emit_step 7 file) ≡ move = cc in
         subst (λ (m : Move). (blocked m world ≡ None) ⊎ (blocked m world ≡ Some TooLarge)) is
         (emit_free 7 file)
-    at_place file (suc (suc (suc (suc (suc (suc (suc (suc (suc (suc more)))))))))) move next =
+    at_index file (suc (suc (suc (suc (suc (suc (suc (suc (suc (suc more)))))))))) move next =
         absurd (cc)
 
 -- no move of the generated job is blocked but a write for its size
@@ -265,6 +265,6 @@ pub gen_blocked : (lines : ℕ) (file : List ℕ) (first : Told) → lines ≤ 1
     → IsAt (moves_of (gen_steps file)) (gen_start lines first) count move world
     → (blocked move world ≡ None) ⊎ (blocked move world ≡ Some TooLarge)
 gen_blocked lines file first few count move world there =
-    at_place lines few world
+    at_index lines few world
     (aside_kept (take count (moves_of (gen_steps file))) (gen_start lines first) world
     there.done) file count move there.next

@@ -258,7 +258,7 @@ fits second lines few state same =
 
 -- ---- the worlds of the run, one after another
 
--- what holds before the move at a place
+-- what holds before the move at an index
 abbrev Standing_at : ℕ → ℕ → Standing → Type 0
 Standing_at lines zero w = Stage w no_sources 0 0 0
 Standing_at lines (suc zero) w = Stage w with_dump 10 0 0
@@ -282,7 +282,7 @@ counted_by : (w : Standing) (n m : ℕ) → w.nodes ≤ n → w.numbered ≤ m �
 counted_by w n m made counted a b = (omega arith, omega arith)
 
 -- there are numbers for all nodes and places at each of them
-all_counted : (lines place : ℕ) (w : Standing) → Standing_at lines place w
+all_counted : (lines index : ℕ) (w : Standing) → Standing_at lines index w
     → (w.nodes < 2 ^ 32 - 1) × (w.numbered < 2 ^ 32 - 1)
 all_counted lines zero w stage = counted_by w 0 0 stage.made stage.counted (lit< tt) (lit< tt)
 all_counted lines (suc zero) w stage = counted_by w 0 0 stage.made stage.counted (lit< tt) (lit< tt)
@@ -305,14 +305,14 @@ all_counted lines (suc (suc (suc (suc (suc (suc (suc (suc (suc zero))))))))) w s
 all_counted lines (suc (suc (suc (suc (suc (suc (suc (suc (suc (suc more)))))))))) w stage =
     counted_by w 1792017664 7000069 stage.made stage.counted (lit< tt) (lit< tt)
 
-abbrev World_at : (lines place : ℕ) → World → Type 0
-World_at lines place world = Standing_at lines place world.session × (world.apart ≡ gen_files lines)
+abbrev World_at : (lines index : ℕ) → World → Type 0
+World_at lines index world = Standing_at lines index world.session × (world.apart ≡ gen_files lines)
 
 module _ (lines : ℕ) (few : lines ≤ 1000000) (file : List ℕ) where
   -- what a move makes of them
   abbrev Leads : ℕ → Move → Type 0
-  Leads place move = (world : World) → World_at lines place world
-      → World_at lines (suc place) (after move world)
+  Leads index move = (world : World) → World_at lines index world
+      → World_at lines (suc index) (after move world)
 
   dumps : Leads 0 (does dump_step)
   unfolding dump_step
@@ -419,8 +419,8 @@ module _ (lines : ℕ) (few : lines ≤ 1000000) (file : List ℕ) where
 
   -- each move of a list leads on
   abbrev Lead : ℕ → List Move → Type 0
-  Lead place [] = Unit {0}
-  Lead place (move ∷ moves) = Leads place move × Lead (suc place) moves
+  Lead index [] = Unit {0}
+  Lead index (move ∷ moves) = Leads index move × Lead (suc index) moves
 
   all_lead : Lead 0 (moves_of (gen_steps file))
   unfolding gen_steps dump_step stats_step first_step second_step
@@ -444,34 +444,34 @@ module _ (lines : ℕ) (few : lines ≤ 1000000) (file : List ℕ) where
     ),
   )
 
-  -- a place behind another one
+  -- an index behind another one
   abbrev past : ℕ → ℕ → ℕ
-  past place zero = place
-  past place (suc count) = past (suc place) count
+  past index zero = index
+  past index (suc count) = past (suc index) count
 
-  record Reached (place : ℕ) (move : Move) (world : World) : Type 0 where
-    here : World_at lines place world
-    next : World_at lines (suc place) (after move world)
+  record Reached (index : ℕ) (move : Move) (world : World) : Type 0 where
+    here : World_at lines index world
+    next : World_at lines (suc index) (after move world)
 
-  reached : (moves : List Move) (place : ℕ) → Lead place moves → (start : World)
-      → World_at lines place start
+  reached : (moves : List Move) (index : ℕ) → Lead index moves → (start : World)
+      → World_at lines index start
       → (count : ℕ) (move : Move) (world : World) → IsAt moves start count move world
-      → Reached (past place count) move world
-  reached [] place lead start stands count move world there = absurd (let next = there.next in cc)
-  reached (first ∷ moves) place lead start stands zero move world there =
+      → Reached (past index count) move world
+  reached [] index lead start stands count move world there = absurd (let next = there.next in cc)
+  reached (first ∷ moves) index lead start stands zero move world there =
       let same : first ≡ move = let next = there.next in cc in
       let now : start ≡ world = let done = there.done in cc in
-      subst (λ (m : Move). Reached place m world) same
-      (subst (λ (w : World). Reached place first w) now
+      subst (λ (m : Move). Reached index m world) same
+      (subst (λ (w : World). Reached index first w) now
       (record { here = stands; next = lead.0 start stands }))
-  reached (first ∷ moves) place lead start stands (suc count) move world there =
+  reached (first ∷ moves) index lead start stands (suc count) move world there =
       let go : (b : Option Cause)
       → unless b first start (course (take count moves) (after first start)) ≡ ended world
-      → Reached (past (suc place) count) move world =
+      → Reached (past (suc index) count) move world =
       λ b. elim b as (λ (b : Option Cause).
       unless b first start (course (take count moves) (after first start)) ≡ ended world
-      → Reached (past (suc place) count) move world) [
-        | None ↦ λ led. reached moves (suc place) lead.1 (after first start) (lead.0 start stands)
+      → Reached (past (suc index) count) move world) [
+        | None ↦ λ led. reached moves (suc index) lead.1 (after first start) (lead.0 start stands)
             count move world (record { done = led; next = there.next })
         | Some why ↦ λ stop. absurd (cc)
       ] in

@@ -78,21 +78,22 @@ puts_nothing cause why (inl blocks) put = cc
 puts_nothing cause why (inr (inl failed)) put = cc
 puts_nothing cause why (inr (inr out)) put = cc
 
--- a place in a list with one member more: it is one of the list's, or the last
-pub data Place (moves : List Move) (last : Move) (count : ℕ) (move : Move) : Type 0 where
+-- a position in a list with one member more: it is one of the list's, or the last
+pub data Position (moves : List Move) (last : Move) (count : ℕ) (move : Move) : Type 0 where
   among : slice_get moves count ≡ Some move
-      → take count (moves ++ last ∷ []) ≡ take count moves → Place moves last count move
-  at_end : last ≡ move → take count (moves ++ last ∷ []) ≡ moves → Place moves last count move
+      → take count (moves ++ last ∷ []) ≡ take count moves → Position moves last count move
+  at_end : last ≡ move → take count (moves ++ last ∷ []) ≡ moves → Position moves last count move
 
-place-in : (moves : List Move) (last : Move) (count : ℕ) (move : Move)
-    → slice_get (moves ++ last ∷ []) count ≡ Some move → Place moves last count move
-place-in [] last zero move next = at_end (cc) refl
-place-in [] last (suc count) move next = absurd (cc)
-place-in (first ∷ rest) last zero move next = among next refl
-place-in (first ∷ rest) last (suc count) move next = elim (place-in rest last count move next) [
-  | among here same ↦ among here (ap (λ (ms : List Move). first ∷ ms) same)
-  | at_end is same ↦ at_end is (ap (λ (ms : List Move). first ∷ ms) same)
-]
+position_in : (moves : List Move) (last : Move) (count : ℕ) (move : Move)
+    → slice_get (moves ++ last ∷ []) count ≡ Some move → Position moves last count move
+position_in [] last zero move next = at_end (cc) refl
+position_in [] last (suc count) move next = absurd (cc)
+position_in (first ∷ rest) last zero move next = among next refl
+position_in (first ∷ rest) last (suc count) move next =
+    elim (position_in rest last count move next) [
+      | among here same ↦ among here (ap (λ (ms : List Move). first ∷ ms) same)
+      | at_end is same ↦ at_end is (ap (λ (ms : List Move). first ∷ ms) same)
+    ]
 
 module _ (command : Option Command) (first : Told) (moves : List Move) (last : Move) (start : World)
     (plan : plan_of first command ≡ planned (moves ++ last ∷ []) start)
@@ -116,7 +117,7 @@ module _ (command : Option Command) (first : Told) (moves : List Move) (last : M
     steps = (let p = all.steps in omega (arith, p, paid, unspent));
     published = λ move world reach.
         let there = at_planned command first (moves ++ last ∷ []) start plan move world reach in
-        elim (place-in moves last reach.count move there.next) [
+        elim (position_in moves last reach.count move there.next) [
           | among here same ↦ all.published reach.count move world
               (record {
                 done = ap (λ (ms : List Move). course ms start) (sym same) ∙ there.done;

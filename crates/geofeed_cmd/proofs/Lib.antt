@@ -17,7 +17,7 @@ pub mod PackedSizes
 pub mod PiecesLemmas
 pub mod PlaceSizes
 pub mod RecordPeers
-pub mod RecordPlaces
+pub mod RecordCuts
 pub mod ShortPlaces
 pub mod ShortRows
 pub mod SpotSizes

@@ -5,9 +5,10 @@ use Rattle.std.proofs.lemmas.Bool.{and_parts, ltb-true}
 use Rattle.std.proofs.lemmas.List.Sums.{sum_by-cons}
 use Rattle.std.specs.Prelude.{if◌then◌else◌}
 use Rattle.std.specs.List.{sum_by}
-use Rattle.mmdb_data.specs.Tree.{Tree, Members, Items, map, list, text, bytes, u16, u32, i32, u64}
-use Rattle.mmdb_data.specs.Tree.{u128, bool, double, float, no_members, member, no_items, item}
-use Rattle.mmdb_data.specs.Tree.{members_len, items_len}
+use Rattle.mmdb_data.specs.ValueTree.{ValueTree, Members, Items, map, list, text, bytes, u16, u32}
+use Rattle.mmdb_data.specs.ValueTree.{i32, u64}
+use Rattle.mmdb_data.specs.ValueTree.{u128, bool, double, float, no_members, member, no_items, item}
+use Rattle.mmdb_data.specs.ValueTree.{members_len, items_len}
 use Rattle.mmdb_data.specs.Spelling.{head, items_spelling, members_spelling, sized, spelling}
 use Rattle.mmdb_data.specs.Packing.{Packed, all_in_full, content_in, full_by, in_full, items_in}
 use Rattle.mmdb_data.specs.Packing.{key_part, members_in, nothing_packed, offset_of, packed}
@@ -61,7 +62,7 @@ adds_key key section =
     adds_part (sized 2 key) (with_bytes (sized 2 key)) (adds (sized 2 key)) section
 
 mutual
-  adds_content : (value : Tree) → AddsUpTo (content_in value) (length (spelling value))
+  adds_content : (value : ValueTree) → AddsUpTo (content_in value) (length (spelling value))
   adds_content (map members) section =
       let opened = with_bytes (head 7 (members_len members)) section in
       omega (
@@ -116,10 +117,10 @@ mutual
       )
 
 -- how many bytes a value takes at most
-abbrev pub most_of : Tree → ℕ
+abbrev pub most_of : ValueTree → ℕ
 most_of value = length (spelling value)
 
-adds_all : (values : List Tree) (section : Packed)
+adds_all : (values : List ValueTree) (section : Packed)
     → length (all_in_full values section).bytes ≤ length section.bytes + sum_by most_of values
 adds_all [] section = omega arith
 adds_all (value ∷ values) section =
@@ -131,5 +132,5 @@ adds_all (value ∷ values) section =
       sum_by-cons most_of value values,
     )
 
-pub packed_size : (values : List Tree) → length (packed values) ≤ sum_by most_of values
+pub packed_size : (values : List ValueTree) → length (packed values) ≤ sum_by most_of values
 packed_size values = let all = adds_all values nothing_packed in omega (arith, all)

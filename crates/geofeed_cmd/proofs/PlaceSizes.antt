@@ -7,7 +7,7 @@ use Rattle.std.specs.Prelude.{if◌then◌else◌}
 use Rattle.std.specs.Int.{bytes_high_first}
 use Rattle.std.specs.List.{position_or_len, sum_by}
 use Rattle.geo_terms.specs.PlaceForm.{PlaceParts}
-use Rattle.mmdb_data.specs.Tree.{Tree, map, text, members_len}
+use Rattle.mmdb_data.specs.ValueTree.{ValueTree, map, text, members_len}
 use Rattle.mmdb_data.specs.Spelling.{head, kind_bytes, members_spelling, size_bytes, size_code}
 use Rattle.mmdb_data.specs.Spelling.{sized, spelling}
 use Rattle.mmdb_data.specs.View.{members_of}
@@ -55,10 +55,10 @@ few_sized kind content =
     )
 
 -- how many bytes a member takes
-abbrev taken : List ℕ × Tree → ℕ
+abbrev taken : List ℕ × ValueTree → ℕ
 taken pair = length (sized 2 pair.0) + length (spelling pair.1)
 
-members_take : (pairs : List (List ℕ × Tree))
+members_take : (pairs : List (List ℕ × ValueTree))
     → length (members_spelling (members_of pairs)) ≡ sum_by taken pairs
 members_take [] = refl
 members_take (pair ∷ pairs) =
@@ -70,7 +70,7 @@ members_take (pair ∷ pairs) =
       length-append (spelling pair.1) (members_spelling (members_of pairs)),
     )
 
-map_takes : (pairs : List (List ℕ × Tree))
+map_takes : (pairs : List (List ℕ × ValueTree))
     → length (spelling (map (members_of pairs))) ≤ 5 + sum_by taken pairs
 map_takes pairs =
     omega (
@@ -80,12 +80,12 @@ map_takes pairs =
       length-append (head 7 (members_len (members_of pairs))) (members_spelling (members_of pairs)),
     )
 
-one_takes : (key : List ℕ) (value : Tree)
+one_takes : (key : List ℕ) (value : ValueTree)
     → length (spelling (one key value)) ≤ length key + 10 + length (spelling value)
 one_takes key value =
     omega (arith, map_takes ((key, value) ∷ []), sum_by-cons taken (key, value) [], few_sized 2 key)
 
-unless_takes : (content key : List ℕ) (value : Tree)
+unless_takes : (content key : List ℕ) (value : ValueTree)
     → sum_by taken (unless_empty content key value) ≤ length key + 5 + length (spelling value)
 unless_takes [] key value = omega arith
 unless_takes (b ∷ bytes) key value =

@@ -18,7 +18,7 @@ use Rattle.least_nodes.specs.Layout.{each_once, inner, laid, leaf_order, leaves,
 use Rattle.least_nodes.proofs.Elements.{In, In-append, In-each_once, In-from_filter, In-from_map}
 use Rattle.least_nodes.proofs.Elements.{IsDistinct-from_none, filter-each_once}
 use Rattle.least_nodes.proofs.Positions.{length-le_from_apart}
-use Rattle.mmdb_data.specs.Tree.{Tree as Value}
+use Rattle.mmdb_data.specs.ValueTree.{ValueTree as Value}
 use Rattle.mmdb_data.specs.Packing.{packed}
 use Rattle.mmdb_data.specs.Spelling.{spelling}
 use Rattle.mmdb_file.specs.FileImage.{answer_value, file_nodes, file_section, record_tree}
@@ -28,7 +28,7 @@ use Rattle.mmdb_file.specs.Section.{section_of}
 use Rattle.mmdb_file.proofs.PlaceTreeLemmas.{answer_equality}
 use Rattle.geofeed_cmd.proofs.PackedSizes.{most_of, packed_size}
 use Rattle.geofeed_cmd.proofs.RecordPeers.{peers, record_among, stands}
-use Rattle.geofeed_cmd.proofs.RecordPlaces.{few_places, places, record_changes}
+use Rattle.geofeed_cmd.proofs.RecordCuts.{few_cuts, record_cuts, record_changes}
 use Rattle.geofeed_cmd.proofs.TreeSizes.{few_nodes, size}
 
 once_few : {K : Type 0} (eq : K → K → Bool) (seen xs : List K)
@@ -106,13 +106,14 @@ module _ (s : InForce) (bare : override_rows s ≡ []) where
   pub few_file_nodes : file_nodes (record_tree s) ≤ 128 * (6 * length (statement_ranges s) + 4) + 1
   unfolding file_nodes record_tree
   few_file_nodes =
-      let nodes = few_nodes same_answer answer_equality (record_at s) (places s) (record_changes s)
+      let nodes = few_nodes same_answer answer_equality (record_at s) (record_cuts s)
+      (record_changes s)
       128 0 in
       omega (
         arith,
         few_laid same_answer (tree same_answer (record_at s) 128 0),
         nodes,
-        few_places s,
+        few_cuts s,
       )
 
   -- a place that is written is that of a statement

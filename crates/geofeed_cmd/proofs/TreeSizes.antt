@@ -1,4 +1,4 @@
--- How many nodes the tree of a function has that changes at few places.
+-- How many nodes the tree of a function has that changes at few cut points.
 use Rattle.std.proofs.Common.{◌≡◌, ℕ, zero, suc, ◌+◌, ◌*◌, ◌^◌, ◌<◌, ◌≤◌, ◌⊎◌, inl, inr, Bool, true}
 use Rattle.std.proofs.Common.{false, ◌&&◌, nat_lt, List, [], ◌∷◌, length, refl, sym, ap, ap₂, subst}
 use Rattle.std.proofs.Common.{◌∙◌, arith, cond, lit≤}
@@ -21,7 +21,7 @@ abbrev pub Among : ℕ → List ℕ → Type 0
 Among c [] = ⊥
 Among c (x ∷ xs) = (x ≡ c) ⊎ Among c xs
 
--- whether a place lies above the one end and below the other, and how many of them do
+-- whether a cut point lies above the one end and below the other, and how many of them do
 abbrev is_inside : (low high c : ℕ) → Bool
 is_inside low high c = nat_lt low c && nat_lt c high
 
@@ -38,7 +38,7 @@ lies_inside : (low high c : ℕ) → low < c → c < high → is_inside low high
 lies_inside low high c above below =
     and_from (nat_lt low c) (nat_lt c high) (lt-ltb low c above) (lt-ltb c high below)
 
--- a place is inside one of two parts at most, and then it is inside the whole
+-- a cut point is inside one of two parts at most, and then it is inside the whole
 one_part : (p q r : Bool) → (p ≡ true → q ≡ true → ⊥) → (p ≡ true → r ≡ true)
     → (q ≡ true → r ≡ true) → cond {A = ℕ} p 1 0 + cond {A = ℕ} q 1 0 ≤ cond {A = ℕ} r 1 0
 one_part true true r apart left right = absurd (apart refl refl)
@@ -67,7 +67,7 @@ parts low mid high up more (c ∷ cs) =
       sum_by-cons (λ x. cond {A = ℕ} (is_inside low high x) 1 0) c cs,
     )
 
--- where none is inside, no place of the list is
+-- where none is inside, no cut point of the list is
 none_inside : (low high c : ℕ) (cs : List ℕ) → inside low high cs ≡ 0 → Among c cs → low < c
     → c < high → ⊥
 none_inside low high c [] none there above below = there
@@ -96,10 +96,10 @@ all_inside low high (c ∷ cs) =
     at_most true = lit≤ tt
     at_most false = lit≤ tt
 
--- at two addresses with none of these places above the lower and at or below the higher one the
+-- at two addresses with none of these cut points above the lower and at or below the higher one the
 -- answer is the same
 abbrev pub ChangesAt : {A : Type 0} → (ℕ → A) → List ℕ → Type 0
-ChangesAt f places = (a b : ℕ) → a ≤ b → ((c : ℕ) → a < c → c ≤ b → Among c places → ⊥) → f a ≡ f b
+ChangesAt f cuts = (a b : ℕ) → a ≤ b → ((c : ℕ) → a < c → c ≤ b → Among c cuts → ⊥) → f a ≡ f b
 
 module _ {A : Type 0} (eq : A → A → Bool) (equality : IsEquality eq) (f : ℕ → A) where
   size-join : (l r : Tree A) → size (join eq l r) ≤ suc (size l + size r)
@@ -121,17 +121,17 @@ module _ {A : Type 0} (eq : A → A → Bool) (equality : IsEquality eq) (f : �
       (constant_tree n (first + 2 ^ n) x (λ a low high. all a (omega arith) (omega (arith, whole))))
       ∙ join-leaf eq equality x
 
-  module _ (places : List ℕ) (changes : ChangesAt f places) where
-    by : (n first : ℕ) → size (tree eq f n first) ≤ n * inside first (first + 2 ^ n) places
-        → size (tree eq f n (first + 2 ^ n)) ≤ n * inside (first + 2 ^ n) (first + 2 ^ suc n) places
-        → (k : ℕ) → inside first (first + 2 ^ suc n) places ≡ k
-        → size (tree eq f (suc n) first) ≤ suc n * inside first (first + 2 ^ suc n) places
+  module _ (cuts : List ℕ) (changes : ChangesAt f cuts) where
+    by : (n first : ℕ) → size (tree eq f n first) ≤ n * inside first (first + 2 ^ n) cuts
+        → size (tree eq f n (first + 2 ^ n)) ≤ n * inside (first + 2 ^ n) (first + 2 ^ suc n) cuts
+        → (k : ℕ) → inside first (first + 2 ^ suc n) cuts ≡ k
+        → size (tree eq f (suc n) first) ≤ suc n * inside first (first + 2 ^ suc n) cuts
     unfolding tree
     by n first left right zero none =
         let flat = constant_tree (suc n) first (f first) (λ a low high.
         sym (changes first a low
         (λ c above below there.
-        none_inside first (first + 2 ^ suc n) c places none there above (omega arith)))) in
+        none_inside first (first + 2 ^ suc n) c cuts none there above (omega arith)))) in
         let nothing : size (tree eq f (suc n) first) ≡ 0 = ap size flat in
         omega (arith, nothing)
     by n first left right (suc k) some =
@@ -139,21 +139,21 @@ module _ {A : Type 0} (eq : A → A → Bool) (equality : IsEquality eq) (f : �
         let mid = first + 2 ^ n in
         let high = first + 2 ^ suc n in
         let both = mul-le-mul_left n
-        (parts first mid high (omega arith) (omega (arith, whole)) places) in
+        (parts first mid high (omega arith) (omega (arith, whole)) cuts) in
         omega (arith, size-join (tree eq f n first) (tree eq f n mid), left, right, both, some)
 
-    few_here : (n first : ℕ) → size (tree eq f n first) ≤ n * inside first (first + 2 ^ n) places
+    few_here : (n first : ℕ) → size (tree eq f n first) ≤ n * inside first (first + 2 ^ n) cuts
     unfolding tree
     few_here zero first = omega arith
     few_here (suc n) first =
         let mid = first + 2 ^ n in
         let end : mid + 2 ^ n ≡ first + 2 ^ suc n = omega (arith, two-pow-succ n) in
         by n first (few_here n first)
-        (subst (λ e. size (tree eq f n mid) ≤ n * inside mid e places) end (few_here n mid))
-        (inside first (first + 2 ^ suc n) places) refl
+        (subst (λ e. size (tree eq f n mid) ≤ n * inside mid e cuts) end (few_here n mid))
+        (inside first (first + 2 ^ suc n) cuts) refl
 
-    -- no more than so many for each bit of an address and each place
-    pub few_nodes : (n first : ℕ) → size (tree eq f n first) ≤ n * length places
+    -- no more than so many for each bit of an address and each cut point
+    pub few_nodes : (n first : ℕ) → size (tree eq f n first) ≤ n * length cuts
     few_nodes n first =
-        let most = mul-le-mul_left n (all_inside first (first + 2 ^ n) places) in
+        let most = mul-le-mul_left n (all_inside first (first + 2 ^ n) cuts) in
         omega (arith, few_here n first, most)

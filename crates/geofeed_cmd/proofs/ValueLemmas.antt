@@ -9,10 +9,11 @@ use Rattle.geo_terms.specs.Precedence.{record_at}
 use Rattle.geo_terms.specs.Sources.{InForce}
 use Rattle.trie_core.specs.Tree.{Tree, leaf, node, look, HasLeaf, tree}
 use Rattle.trie_core.proofs.TreeLemmas.{TreeOfFunction-holds}
-use Rattle.mmdb_data.specs.Tree.{Tree as Value, Members, Items, map as map_value}
-use Rattle.mmdb_data.specs.Tree.{list as list_value, text as text_value, bytes as bytes_value, u16}
-use Rattle.mmdb_data.specs.Tree.{u32, i32, u64, u128, bool, double, float, no_members, member}
-use Rattle.mmdb_data.specs.Tree.{no_items, item}
+use Rattle.mmdb_data.specs.ValueTree.{ValueTree as Value, Members, Items, map as map_value}
+use Rattle.mmdb_data.specs.ValueTree.{list as list_value, text as text_value, bytes as bytes_value}
+use Rattle.mmdb_data.specs.ValueTree.{u16}
+use Rattle.mmdb_data.specs.ValueTree.{u32, i32, u64, u128, bool, double, float, no_members, member}
+use Rattle.mmdb_data.specs.ValueTree.{no_items, item}
 use Rattle.mmdb_data.specs.View.{members_of}
 use Rattle.mmdb_file.specs.FileImage.{same_answer, record_tree}
 use Rattle.mmdb_file.specs.PlaceValue.{place_value, one, unless_empty, subdivision}

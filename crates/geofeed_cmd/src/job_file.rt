@@ -9,12 +9,9 @@ ghost use Rattle.geofeed_cmd.specs.Run.Plans.{held_job};
 
 use geo_outside::{Folder, WholeErr, read_whole};
 use job_lines::laws::accepted_job_is_within_limits;
-use job_lines::{Job, JobFault, read_job};
+use job_lines::{Job, JobFault, LONGEST_JOB, read_job};
 use job_run::{Cause, Stop};
 use std::alloc::Global;
-
-/// The most bytes of a job.
-const LONGEST_JOB: u64 = 1_048_576;
 
 /// Reads the job of this name, whole.
 pub(crate) fn job_in<F: Folder>(alloc: Global, name: &str, folder: &mut F) -> Result<Job, Stop>
@@ -37,7 +34,7 @@ pub(crate) fn job_in<F: Folder>(alloc: Global, name: &str, folder: &mut F) -> Re
     ensures misses { F.misses folder.old ≤ F.misses folder.new }
     ensures given { F.given folder.new ≤ F.given folder.old + 1114112 }
 {
-    let bytes = match read_whole(alloc, folder, name, LONGEST_JOB) {
+    let bytes = match read_whole(alloc, folder, name, LONGEST_JOB as u64) {
         Ok(bytes) => bytes,
         Err(WholeErr::Failed) => return Err(Stop::ReadFailed),
         Err(WholeErr::Missing) => return Err(Stop::Blocked(Cause::Missing)),

@@ -51,28 +51,28 @@ at_end (z ∷ zs) zero x y e = inl e
 at_end (z ∷ zs) (suc k) x y e =
     elim (at_end zs k x y e) [ inl h ↦ inl h | inr h ↦ inr (ap suc h.0, h.1) ]
 
-pub links_more : (rs : List Reference) (ls : List Link) (place : ℕ) (x : Reference) (l : Link)
-    → AreLinks rs ls → length ls ≡ place → slice_get rs place ≡ Some x → IsLink rs x place l
+pub links_more : (rs : List Reference) (ls : List Link) (index : ℕ) (x : Reference) (l : Link)
+    → AreLinks rs ls → length ls ≡ index → slice_get rs index ≡ Some x → IsLink rs x index l
     → AreLinks rs (ls ++ l ∷ [])
-links_more rs ls place x l old n at is k y m at_k in_k =
+links_more rs ls index x l old n at is k y m at_k in_k =
     elim (at_end ls k l m in_k) [
       | inl h ↦ old k y m at_k h
       | inr h ↦
-          let e : k ≡ place = h.0 ∙ n in
-          let same : x ≡ y = same_at rs place k x y at at_k (sym e) in
+          let e : k ≡ index = h.0 ∙ n in
+          let same : x ≡ y = same_at rs index k x y at at_k (sym e) in
           subst (λ (z : Reference). IsLink rs z k m) same
           (subst (λ (i : ℕ). IsLink rs x i m) (sym e)
-          (subst (λ (j : Link). IsLink rs x place j) h.1 is))
+          (subst (λ (j : Link). IsLink rs x index j) h.1 is))
     ]
 
-pub outer_here : (rs : List Reference) (x : Reference) (place : ℕ) → IsOuter rs x place place
-outer_here rs x place j y at le lt group = absurd (omega arith)
+pub outer_here : (rs : List Reference) (x : Reference) (index : ℕ) → IsOuter rs x index index
+outer_here rs x index j y at le lt group = absurd (omega arith)
 
 pub outer_step : (rs : List Reference) (ls : List Link) (x r : Reference) (l : Link)
-    (place left before : ℕ) → AreLinks rs ls → IsOuter rs x place left → left ≤ before + 1
+    (index left before : ℕ) → AreLinks rs ls → IsOuter rs x index left → left ≤ before + 1
     → slice_get rs before ≡ Some r → slice_get ls before ≡ Some l
-    → same_group r x ≡ true → r.range.last ≤ x.range.last → IsOuter rs x place (min l.outer before)
-outer_step rs ls x r l place left before links outer next at in_before group inner j y at_j le lt
+    → same_group r x ≡ true → r.range.last ≤ x.range.last → IsOuter rs x index (min l.outer before)
+outer_step rs ls x r l index left before links outer next at in_before group inner j y at_j le lt
     with_x =
     elim (three j before) [
       | inl less ↦
@@ -85,42 +85,42 @@ outer_step rs ls x r l place left before links outer next at in_before group inn
       | inr (inr more) ↦ outer j y at_j (omega arith) lt with_x
     ]
 
-pub reach_alone : (rs : List Reference) (x : Reference) (place : ℕ) → slice_get rs place ≡ Some x
-    → ((j : ℕ) (y : Reference) → slice_get rs j ≡ Some y → j < place → same_group y x ≡ true → ⊥)
-    → IsReach rs x place x.range.last
-reach_alone rs x place at none = record {
-  most = λ j y at_j le group. elim (three j place) [
+pub reach_alone : (rs : List Reference) (x : Reference) (index : ℕ) → slice_get rs index ≡ Some x
+    → ((j : ℕ) (y : Reference) → slice_get rs j ≡ Some y → j < index → same_group y x ≡ true → ⊥)
+    → IsReach rs x index x.range.last
+reach_alone rs x index at none = record {
+  most = λ j y at_j le group. elim (three j index) [
     | inl less ↦ absurd (none j y at_j less group)
-    | inr (inl same) ↦ let e : x ≡ y = same_at rs place j x y at at_j (sym same) in
+    | inr (inl same) ↦ let e : x ≡ y = same_at rs index j x y at at_j (sym same) in
         subst (λ (z : Reference). z.range.last ≤ x.range.last) e (omega arith)
     | inr (inr more) ↦ absurd (omega arith)
   ];
-  some = (place, (x, (at, (omega arith, (group_itself x, refl)))));
+  some = (index, (x, (at, (omega arith, (group_itself x, refl)))));
 }
 
 pub reach_first : (rs : List Reference) (x : Reference) → slice_get rs 0 ≡ Some x
     → IsReach rs x 0 x.range.last
 reach_first rs x at = reach_alone rs x 0 at (λ j y at_j lt group. omega arith)
 
-pub reach_other : (rs : List Reference) (x r : Reference) (place before : ℕ) → AreShelved rs
-    → slice_get rs place ≡ Some x → slice_get rs before ≡ Some r → place ≡ before + 1
-    → same_group r x ≡ false → IsReach rs x place x.range.last
-reach_other rs x r place before up at at_before next other =
-    reach_alone rs x place at
+pub reach_other : (rs : List Reference) (x r : Reference) (index before : ℕ) → AreShelved rs
+    → slice_get rs index ≡ Some x → slice_get rs before ≡ Some r → index ≡ before + 1
+    → same_group r x ≡ false → IsReach rs x index x.range.last
+reach_other rs x r index before up at at_before next other =
+    reach_alone rs x index at
     (λ j y at_j lt group. let is : same_group r x ≡ true =
-    between_group rs up j before place y r x (omega arith)
+    between_group rs up j before index y r x (omega arith)
     (omega arith) at_j at_before at group in let f : false ≡ true = sym other ∙ is in cc)
 
 pub reach_more : (rs : List Reference) (ls : List Link) (x r : Reference) (l : Link)
-    (place before : ℕ) → AreLinks rs ls → slice_get rs place ≡ Some x → slice_get rs before ≡ Some r
+    (index before : ℕ) → AreLinks rs ls → slice_get rs index ≡ Some x → slice_get rs before ≡ Some r
     → slice_get ls before ≡ Some l
-    → place ≡ before + 1 → same_group r x ≡ true → IsReach rs x place (max l.reach x.range.last)
-reach_more rs ls x r l place before links at at_before in_before next group = record {
-  most = λ j y at_j le with_x. elim (three j place) [
+    → index ≡ before + 1 → same_group r x ≡ true → IsReach rs x index (max l.reach x.range.last)
+reach_more rs ls x r l index before links at at_before in_before next group = record {
+  most = λ j y at_j le with_x. elim (three j index) [
     | inl less ↦ let h : y.range.last ≤ l.reach =
         link.reach.most j y at_j (omega arith) (group_on y x r with_x (group_back r x group)) in
         omega arith
-    | inr (inl same) ↦ let e : x ≡ y = same_at rs place j x y at at_j (sym same) in
+    | inr (inl same) ↦ let e : x ≡ y = same_at rs index j x y at at_j (sym same) in
         subst (λ (z : Reference). z.range.last ≤ max l.reach x.range.last) e (omega arith)
     | inr (inr more) ↦ absurd (omega arith)
   ];
@@ -149,9 +149,9 @@ reach_more rs ls x r l place before links at at_before in_before next group = re
 
     own : max l.reach x.range.last ≡ x.range.last
         → (j : ℕ) × ((y : Reference) ×
-        ((slice_get rs j ≡ Some y) × ((j ≤ place)
+        ((slice_get rs j ≡ Some y) × ((j ≤ index)
         × ((same_group y x ≡ true) × (y.range.last ≡ max l.reach x.range.last)))))
-    own e = (place, (x, (at, (omega arith, (group_itself x, sym e)))))
+    own e = (index, (x, (at, (omega arith, (group_itself x, sym e)))))
 
 module _ (url : List ℕ) (f last : ℕ) where
   short : (r : Reference) → r.range.last < last → reaches url f last r ≡ false
@@ -181,43 +181,43 @@ module _ (url : List ℕ) (f last : ℕ) where
   none_yet rs end j y le lt at = absurd (omega arith)
 
   pub nearest_step : (rs : List Reference) (ls : List Link) (r : Reference) (l : Link)
-      (end left place : ℕ) → AreLinks rs ls → NoneReaches url f last rs left end → left ≤ place + 1
-      → slice_get rs place ≡ Some r → slice_get ls place ≡ Some l
+      (end left index : ℕ) → AreLinks rs ls → NoneReaches url f last rs left end → left ≤ index + 1
+      → slice_get rs index ≡ Some r → slice_get ls index ≡ Some l
       → is_of url f r ≡ true → r.range.last < last
-      → NoneReaches url f last rs (min l.outer place) end
-  nearest_step rs ls r l end left place links none next at in_place of_it lt j y le below at_j =
-      elim (three j place) [
+      → NoneReaches url f last rs (min l.outer index) end
+  nearest_step rs ls r l end left index links none next at in_links of_it lt j y le below at_j =
+      elim (three j index) [
         | inl less ↦ elim (is_of url f y) as
             (λ b. is_of url f y ≡ b → reaches url f last y ≡ false) [
               | true ↦ λ e. let h : y.range.last ≤ r.range.last =
-                  (links place r l at in_place).outer j y at_j (omega arith) less
+                  (links index r l at in_links).outer j y at_j (omega arith) less
                   (group_of url f y r e of_it) in short y (omega arith)
               | false ↦ λ e. other y e
             ] refl
-        | inr (inl same) ↦ let e : r ≡ y = same_at rs place j r y at at_j (sym same) in
+        | inr (inl same) ↦ let e : r ≡ y = same_at rs index j r y at at_j (sym same) in
             subst (λ (z : Reference). reaches url f last z ≡ false) e (short r lt)
         | inr (inr more) ↦ none j y (omega arith) below at_j
       ]
 
-  pub nearest_none : (rs : List Reference) (r : Reference) (end left place : ℕ)
-      → EndsAt url f rs end → NoneReaches url f last rs left end → left ≤ place + 1 → place < end
-      → slice_get rs place ≡ Some r → is_of url f r ≡ false → NoneReaches url f last rs 0 end
-  nearest_none rs r end left place grouped none next below at out j y le lt at_j =
-      elim (three j place) [
-        | inl less ↦ other y (grouped j place y r (omega arith) below at_j at out)
-        | inr (inl same) ↦ other y (grouped j place y r (omega arith) below at_j at out)
+  pub nearest_none : (rs : List Reference) (r : Reference) (end left index : ℕ)
+      → EndsAt url f rs end → NoneReaches url f last rs left end → left ≤ index + 1 → index < end
+      → slice_get rs index ≡ Some r → is_of url f r ≡ false → NoneReaches url f last rs 0 end
+  nearest_none rs r end left index grouped none next below at out j y le lt at_j =
+      elim (three j index) [
+        | inl less ↦ other y (grouped j index y r (omega arith) below at_j at out)
+        | inr (inl same) ↦ other y (grouped j index y r (omega arith) below at_j at out)
         | inr (inr more) ↦ none j y (omega arith) lt at_j
       ]
 
-  pub nearest_here : (rs : List Reference) (r : Reference) (end left place : ℕ)
-      → NoneReaches url f last rs left end → left ≤ place + 1 → place < end
-      → slice_get rs place ≡ Some r → is_of url f r ≡ true → last ≤ r.range.last
-      → IsNearest url f last rs end (Some place)
-  nearest_here rs r end left place none next below at of_it le = (
+  pub nearest_here : (rs : List Reference) (r : Reference) (end left index : ℕ)
+      → NoneReaches url f last rs left end → left ≤ index + 1 → index < end
+      → slice_get rs index ≡ Some r → is_of url f r ≡ true → last ≤ r.range.last
+      → IsNearest url f last rs end (Some index)
+  nearest_here rs r end left index none next below at of_it le = (
     below,
     (
       (λ x at_x. subst (λ (z : Reference). reaches url f last z ≡ true)
-          (same_at rs place place r x at at_x refl) (reaching r of_it le)),
+          (same_at rs index index r x at at_x refl) (reaching r of_it le)),
       λ j y from lt at_j. none j y (omega arith) lt at_j,
     ),
   )
@@ -228,16 +228,16 @@ module _ (url : List ℕ) (f last : ℕ) where
       [ true ↦ λ e. sym e ∙ reference_weak.one_way r r e | false ↦ λ e. refl ] refl
 
   pub first_step : (rs : List Reference) (first : Option Reference) (r b : Reference)
-      (end left place : ℕ) → IsFirstReaching url f last rs left end first
-      → IsNearest url f last rs left (Some place) → left ≤ end → slice_get rs place ≡ Some r
-      → Some b ≡ better reference_before first r → IsFirstReaching url f last rs place end (Some b)
-  first_step rs None r b end left place so_far near le at is =
+      (end left index : ℕ) → IsFirstReaching url f last rs left end first
+      → IsNearest url f last rs left (Some index) → left ≤ end → slice_get rs index ≡ Some r
+      → Some b ≡ better reference_before first r → IsFirstReaching url f last rs index end (Some b)
+  first_step rs None r b end left index so_far near le at is =
       let same : b ≡ r = cc in
-      subst (λ (z : Reference). IsFirstReaching url f last rs place end (Some z)) (sym same) (
-        (place, (at, (omega (arith, near.0), near.1.0 r at))),
-        λ j y from lt at_j hits. elim (three j place) [
+      subst (λ (z : Reference). IsFirstReaching url f last rs index end (Some z)) (sym same) (
+        (index, (at, (omega (arith, near.0), near.1.0 r at))),
+        λ j y from lt at_j hits. elim (three j index) [
           | inl less ↦ absurd (omega arith)
-          | inr (inl here) ↦ let e : r ≡ y = same_at rs place j r y at at_j (sym here) in
+          | inr (inl here) ↦ let e : r ≡ y = same_at rs index j r y at at_j (sym here) in
               subst (λ (z : Reference). reference_before z r ≡ false) e (not_itself r)
           | inr (inr more) ↦ elim (three j left) [
             | inl below ↦ let misses : reaches url f last y ≡ false =
@@ -249,29 +249,29 @@ module _ (url : List ℕ) (f last : ℕ) where
           ]
         ],
       )
-  first_step rs (Some w) r b end left place so_far near le at is =
+  first_step rs (Some w) r b end left index so_far near le at is =
       elim (reference_before r w) as
       (λ v. reference_before r w ≡ v → Some b ≡ Some (cond v r w)
-      → IsFirstReaching url f last rs place end (Some b)) [
+      → IsFirstReaching url f last rs index end (Some b)) [
         | true ↦ λ e here. let same : b ≡ r = cc in
-            subst (λ (z : Reference). IsFirstReaching url f last rs place end (Some z)) (sym same) (
-              (place, (at, (omega (arith, near.0), near.1.0 r at))),
+            subst (λ (z : Reference). IsFirstReaching url f last rs index end (Some z)) (sym same) (
+              (index, (at, (omega (arith, near.0), near.1.0 r at))),
               λ j y from lt at_j hits. each j y from lt at_j hits r (not_itself r)
                   (λ h. reference_weak.chain y w r h (reference_weak.one_way r w e)),
             )
         | false ↦ λ e here. let same : b ≡ w = cc in
-            subst (λ (z : Reference). IsFirstReaching url f last rs place end (Some z)) (sym same)
+            subst (λ (z : Reference). IsFirstReaching url f last rs index end (Some z)) (sym same)
             (so_far.0, λ j y from lt at_j hits. each j y from lt at_j hits w e (λ h. h))
       ] refl is
     where
-      each : (j : ℕ) (y : Reference) → place ≤ j → j < end → slice_get rs j ≡ Some y
+      each : (j : ℕ) (y : Reference) → index ≤ j → j < end → slice_get rs j ≡ Some y
           → reaches url f last y ≡ true → (z : Reference) → reference_before r z ≡ false
           → (reference_before y w ≡ false → reference_before y z ≡ false)
           → reference_before y z ≡ false
       each j y from lt at_j hits z own later =
-          elim (three j place) [
+          elim (three j index) [
             | inl less ↦ absurd (omega arith)
-            | inr (inl here) ↦ let e : r ≡ y = same_at rs place j r y at at_j (sym here) in
+            | inr (inl here) ↦ let e : r ≡ y = same_at rs index j r y at at_j (sym here) in
                 subst (λ (t : Reference). reference_before t z ≡ false) e own
             | inr (inr more) ↦ elim (three j left) [
               | inl below ↦ let misses : reaches url f last y ≡ false =
@@ -299,17 +299,17 @@ module _ (url : List ℕ) (f last : ℕ) where
     ],
   )
 
-  pub tells_some : (rs : List Reference) (ls : List Link) (r : Reference) (l : Link) (end place : ℕ)
-      (found : Bool) → AreLinks rs ls → EndsAt url f rs end → end ≡ place + 1
-      → slice_get rs place ≡ Some r → slice_get ls place ≡ Some l
+  pub tells_some : (rs : List Reference) (ls : List Link) (r : Reference) (l : Link) (end index : ℕ)
+      (found : Bool) → AreLinks rs ls → EndsAt url f rs end → end ≡ index + 1
+      → slice_get rs index ≡ Some r → slice_get ls index ≡ Some l
       → found ≡ (is_of url f r && leb last l.reach) → TellsSome url f last rs end found
-  tells_some rs ls r l end place found links grouped next at in_place is = record {
+  tells_some rs ls r l end index found links grouped next at in_links is = record {
     some = λ hits.
         let both : (is_of url f r && leb last l.reach) ≡ true = sym is ∙ hits in
         let of_it : is_of url f r ≡ true = and_left (is_of url f r) (leb last l.reach) both in
         let enough : leb last l.reach ≡ true = and_right (is_of url f r) (leb last l.reach) both in
         let le : last ≤ l.reach = grind (arith, nat_tests) in
-        let s = (links place r l at in_place).reach.some in (
+        let s = (links index r l at in_links).reach.some in (
           s.0,
           (
             s.1.0,
@@ -336,7 +336,7 @@ module _ (url : List ℕ) (f last : ℕ) where
           elim (is_of url f r) as (λ b. is_of url f r ≡ b → ⊥) [
             | true ↦ λ of_it.
                 let h : y.range.last ≤ l.reach =
-                (links place r l at in_place).reach.most j y at_j (omega arith)
+                (links index r l at in_links).reach.most j y at_j (omega arith)
                 (group_of url f y r (is_of_it y e) of_it) in
                 let k : last ≤ y.range.last = far y e in
                 let g : leb last l.reach ≡ true = grind (arith, nat_tests) in
@@ -344,7 +344,7 @@ module _ (url : List ℕ) (f last : ℕ) where
                 let t : false ≡ true = sym misses ∙ both in cc
             | false ↦ λ out.
                 let t : is_of url f y ≡ false =
-                grouped j place y r (omega arith) (omega arith) at_j at out in
+                grouped j index y r (omega arith) (omega arith) at_j at out in
                 let u : false ≡ true = sym t ∙ is_of_it y e in cc
           ] refl
 

@@ -1,4 +1,4 @@
--- What is kept of each place among the references in an index: how far those of its group reach,
+-- What is kept of each reference in an index: how far those of its group reach,
 -- and where to go on from it.
 use Rattle.std.specs.Prelude.{◌≡◌, ℕ, ◌+◌, ◌<◌, ◌≤◌, ◌&&◌, Bool, true, false, nat_le, List, Some}
 use Rattle.std.specs.Prelude.{length, slice_get, All, MatchOption, Option}
@@ -16,7 +16,7 @@ abbrev pub AreShelved : List Reference → Type 0
 AreShelved rs = (i j : ℕ) (x y : Reference) → i ≤ j → slice_get rs i ≡ Some x
     → slice_get rs j ≡ Some y → is_lt (shelf_cmp y x) ≡ false
 
--- no reference of the group of x from this place on, up to k, reaches farther than x
+-- no reference of the group of x from this index on, up to k, reaches farther than x
 abbrev pub IsOuter : List Reference → Reference → ℕ → ℕ → Type 0
 IsOuter rs x k outer = (j : ℕ) (y : Reference) → slice_get rs j ≡ Some y → outer ≤ j → j < k
     → same_group y x ≡ true → y.range.last ≤ x.range.last
@@ -50,24 +50,24 @@ pub record IsIndex (rs : List Reference) (bs : List Boundary) (ls : List Link) :
 abbrev pub reaches : List ℕ → ℕ → ℕ → Reference → Bool
 reaches url f last r = is_of url f r && nat_le last r.range.last
 
--- of the places below this one, those of the URL and the family end at it
+-- of the indexes below this one, those of the URL and the family end at it
 abbrev pub EndsAt : List ℕ → ℕ → List Reference → ℕ → Type 0
 EndsAt url f rs end = (i j : ℕ) (x y : Reference) → i ≤ j → j < end → slice_get rs i ≡ Some x
     → slice_get rs j ≡ Some y → is_of url f y ≡ false → is_of url f x ≡ false
 
--- no reference from this place on, up to the end, reaches the address
+-- no reference from this index on, up to the end, reaches the address
 abbrev pub NoneReaches : List ℕ → ℕ → ℕ → List Reference → ℕ → ℕ → Type 0
 NoneReaches url f last rs from end = (j : ℕ) (y : Reference) → from ≤ j → j < end
     → slice_get rs j ≡ Some y → reaches url f last y ≡ false
 
--- the last place below the end at which a reference reaches the address
+-- the last index below the end at which a reference reaches the address
 abbrev pub IsNearest : List ℕ → ℕ → ℕ → List Reference → ℕ → Option ℕ → Type 0
 IsNearest url f last rs end found =
     MatchOption found (NoneReaches url f last rs 0 end)
     (λ p. (p < end) × (((x : Reference) → slice_get rs p ≡ Some x → reaches url f last x ≡ true)
     × NoneReaches url f last rs (p + 1) end))
 
--- the first in the order of references of those from this place on, up to the end, that reach the
+-- the first in the order of references of those from this index on, up to the end, that reach the
 -- address
 abbrev pub IsFirstReaching : List ℕ → ℕ → ℕ → List Reference → ℕ → ℕ → Option Reference → Type 0
 IsFirstReaching url f last rs from end first =

@@ -39,9 +39,9 @@ pub fn first_reaching<'a>(
 {
     let mut first: Option<&'a Reference> = None;
     let mut left = end;
-    while let Some(place) = nearest(refs, links, url, family, last, left) {
-        first = Some(better(first, &refs[place]));
-        left = place;
+    while let Some(index) = nearest(refs, links, url, family, last, left) {
+        first = Some(better(first, &refs[index]));
+        left = index;
     }
     first
 }
@@ -62,7 +62,7 @@ fn better<'a>(first: Option<&'a Reference>, next: &'a Reference) -> &'a Referenc
     }
 }
 
-// The last place before the end at which a reference of this URL and family reaches this address:
+// The last index before the end at which a reference of this URL and family reaches this address:
 // from link to link.
 fn nearest(
     refs: &[Reference],
@@ -77,19 +77,19 @@ fn nearest(
     requires links { AreLinks refs.now links.now }
     requires grouped { EndsAt url.now family refs.now end }
     ensures near { IsNearest url.now family last refs.now end result }
-    ensures below { IfSome result (λ place. place < end) }
+    ensures below { IfSome result (λ index. index < end) }
 {
     let mut left = end;
-    while let Some(place) = left.checked_sub(1) {
-        let reference = &refs[place];
-        let link = links[place];
+    while let Some(index) = left.checked_sub(1) {
+        let reference = &refs[index];
+        let link = links[index];
         if !is_of(url, family, reference) {
             return None;
         }
         if last_of(reference) >= last {
-            return Some(place);
+            return Some(index);
         }
-        left = link.outer.min(place);
+        left = link.outer.min(index);
     }
     None
 }
@@ -109,10 +109,10 @@ pub fn some_reach(
     requires grouped { EndsAt url.now family refs.now end }
     ensures { TellsSome url.now family last refs.now end result }
 {
-    let Some(place) = end.checked_sub(1) else {
+    let Some(index) = end.checked_sub(1) else {
         return false;
     };
-    let reference = &refs[place];
-    let link = links[place];
+    let reference = &refs[index];
+    let link = links[index];
     is_of(url, family, reference) && link.reach >= last
 }

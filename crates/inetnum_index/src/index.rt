@@ -78,8 +78,8 @@ impl Index {
     pub fn best_at(&self, at: Addr) -> Option<&Reference>
         ensures { option_copied result ≡ first_at reference_before (λ r. r.range) self.now at.0 }
     {
-        let place = self.firsts.place_at(at)?;
-        self.refs.as_slice().get(place)
+        let index = self.firsts.index_at(at)?;
+        self.refs.as_slice().get(index)
     }
 
     /// The first reference of this URL, in the order of references, whose range is of the block's

@@ -6,7 +6,5 @@ mod firsts;
 mod index;
 mod links;
 mod shelf;
-#[cfg(test)]
-mod tests;
 
 pub use index::Index;

@@ -10,12 +10,12 @@ use geo_addr::Memory;
 use geo_terms::Reference;
 use std::alloc::Global;
 
-/// What is kept of the reference at a place, of those of its URL and family.
+/// What is kept of the reference at an index, of those of its URL and family.
 #[derive(Clone, Copy, Debug)]
 pub struct Link {
-    /// How far the references up to this place reach.
+    /// How far the references up to this index reach.
     pub reach: u128,
-    /// The place behind the last earlier one that reaches farther than this one.
+    /// The index behind the last earlier one that reaches farther than this one.
     pub outer: usize,
 }
 
@@ -26,26 +26,26 @@ pub fn links_of(alloc: Global, refs: &[Reference]) -> Result<Vec<Link>, Memory>
     ensures linked { IfOk result (λ links. length links.items ≡ length refs.now) }
 {
     let mut links = Vec::with_capacity(alloc, refs.len())?;
-    for (place, reference) in refs.iter().enumerate() {
+    for (index, reference) in refs.iter().enumerate() {
         let link = Link {
-            reach: reach_of(refs, links.as_slice(), place, reference),
-            outer: outer_of(refs, links.as_slice(), place, reference),
+            reach: reach_of(refs, links.as_slice(), index, reference),
+            outer: outer_of(refs, links.as_slice(), index, reference),
         };
         links.push(link)?;
     }
     Ok(links)
 }
 
-// How far the references up to this place reach, by the link of the place before.
-fn reach_of(refs: &[Reference], links: &[Link], place: usize, reference: &Reference) -> u128
-    requires here { slice_get refs.now place ≡ Some reference.now }
-    requires made { length links.now ≡ place }
+// How far the references up to this index reach, by the link of the index before.
+fn reach_of(refs: &[Reference], links: &[Link], index: usize, reference: &Reference) -> u128
+    requires here { slice_get refs.now index ≡ Some reference.now }
+    requires made { length links.now ≡ index }
     requires links { AreLinks refs.now links.now }
     requires shelved { AreShelved refs.now }
-    ensures { IsReach refs.now reference.now place result }
+    ensures { IsReach refs.now reference.now index result }
 {
     let last = last_of(reference);
-    let Some(before) = place.checked_sub(1) else {
+    let Some(before) = index.checked_sub(1) else {
         return last;
     };
     let earlier = &refs[before];
@@ -57,14 +57,14 @@ fn reach_of(refs: &[Reference], links: &[Link], place: usize, reference: &Refere
     }
 }
 
-// Where to go on from this place: from link to link, as long as none reaches farther.
-fn outer_of(refs: &[Reference], links: &[Link], place: usize, reference: &Reference) -> usize
-    requires here { slice_get refs.now place ≡ Some reference.now }
-    requires made { length links.now ≡ place }
+// Where to go on from this index: from link to link, as long as none reaches farther.
+fn outer_of(refs: &[Reference], links: &[Link], index: usize, reference: &Reference) -> usize
+    requires here { slice_get refs.now index ≡ Some reference.now }
+    requires made { length links.now ≡ index }
     requires links { AreLinks refs.now links.now }
-    ensures { IsOuter refs.now reference.now place result }
+    ensures { IsOuter refs.now reference.now index result }
 {
-    let mut left = place;
+    let mut left = index;
     while let Some(before) = left.checked_sub(1) {
         let earlier = &refs[before];
         let link = links[before];

@@ -25,25 +25,25 @@ pub walks : (P : List (ℕ × List ℕ) → DraftParts → Type 0)
     → P (line ∷ more) d → P more n)
     → (lines : List (ℕ × List ℕ)) (d f : DraftParts) → draft_from lines d ≡ Ok f
     → P lines d → P [] f
-walks P step [] d f e p = let same : d ≡ f = cc in subst (P []) same p
-walks P step (line ∷ more) d f e p =
+walks P one [] d f e p = let same : d ≡ f = cc in subst (P []) same p
+walks P one (line ∷ more) d f e p =
     let go : (o : Option DraftParts) → with_line line d ≡ o
     → unless_refused line.0 o (draft_from more) ≡ Ok f → P [] f =
     λ o. elim o
     as (λ t. with_line line d ≡ t → unless_refused line.0 t (draft_from more) ≡ Ok f → P [] f) [
       | None ↦ λ is h. absurd cc
-      | Some n ↦ λ is h. walks P step more n f h (step line more d n is p)
+      | Some n ↦ λ is h. walks P one more n f h (one line more d n is p)
     ] in
     go (with_line line d) refl e
 
--- a line is passed over, or its form keeps its place
+-- a line is passed over, or its form may stand there
 pub taken : (b : Bool) (line : ℕ) (form : Option Form) (d n : DraftParts)
     (P : Option Form → DraftParts → Type 0)
     → (d ≡ n → P None n) → ((f : Form) → with_form line f d ≡ Some n → P (Some f) n)
     → cond b (Some d) (with_fitting line form d) ≡ Some n → P (cond b None form) n
-taken true line form d n P passed placed e = passed cc
-taken false line None d n P passed placed e = absurd cc
-taken false line (Some f) d n P passed placed e = placed f e
+taken true line form d n P passed stands e = passed cc
+taken false line None d n P passed stands e = absurd cc
+taken false line (Some f) d n P passed stands e = stands f e
 
 pub kept_if : (b : Bool) (d n : DraftParts) → cond b (Some d) None ≡ Some n → (b ≡ true) × (d ≡ n)
 kept_if true d n e = (refl, cc)

@@ -1,6 +1,6 @@
 pub mod EmptyJobs
 pub mod LawLemmas
 pub mod LimitLemmas
-pub mod PlaceLemmas
+pub mod OrderLemmas
 pub mod TextLemmas
 pub mod WordLemmas

@@ -95,14 +95,14 @@ form_within (word ∷ rest) = by_within word rest
 abbrev AreWithin : DraftParts → Type 0
 AreWithin d = IsShort d.name × IsFew d.pieces
 
-placed_within : (line : ℕ) (form : Form) (d n : DraftParts)
+ordered_within : (line : ℕ) (form : Form) (d n : DraftParts)
     → IsWithin (Some form) → with_form line form d ≡ Some n → AreWithin d → AreWithin n
-placed_within line (Epoch epoch) d n here e within = subst AreWithin (kept_if _ _ _ e).1 within
-placed_within line (TypeName name) d n here e within =
+ordered_within line (Epoch epoch) d n here e within = subst AreWithin (kept_if _ _ _ e).1 within
+ordered_within line (TypeName name) d n here e within =
     subst AreWithin (kept_if _ _ _ e).1 (here, within.1)
-placed_within line (Pieces number) d n here e within =
+ordered_within line (Pieces number) d n here e within =
     subst AreWithin (kept_if _ _ _ e).1 (within.0, here)
-placed_within line (Do act) d n here e within = subst AreWithin (kept_if _ _ _ e).1 within
+ordered_within line (Do act) d n here e within = subst AreWithin (kept_if _ _ _ e).1 within
 
 fitting_within : (b : Bool) (line : ℕ) (form : Option Form) (d n : DraftParts) → IsWithin form
     → cond b (Some d) (with_fitting line form d) ≡ Some n → AreWithin d → AreWithin n
@@ -110,7 +110,7 @@ fitting_within true line form d n here e within =
     let same : d ≡ n = cc in
     subst AreWithin same within
 fitting_within false line None d n here e within = absurd cc
-fitting_within false line (Some form) d n here e within = placed_within line form d n here e within
+fitting_within false line (Some form) d n here e within = ordered_within line form d n here e within
 
 line_within : (line : ℕ × List ℕ) (more : List (ℕ × List ℕ)) (d n : DraftParts)
     → with_line line d ≡ Some n → AreWithin d → AreWithin n

@@ -25,7 +25,7 @@ has_no_steps (step ∷ steps) = false
 abbrev pub takes_settings : DraftParts → Bool
 takes_settings draft = is_some draft.epoch && has_no_steps draft.steps
 
--- the draft with one more line, where the line's form keeps its place:
+-- the draft with one more line, where the line's form may stand there:
 -- the epoch stands first and only there; the type and the number of pieces stand
 -- before any step, and once each
 abbrev pub with_form : ℕ → Form → DraftParts → Option DraftParts

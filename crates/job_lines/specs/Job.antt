@@ -23,7 +23,7 @@ abbrev pub default_pieces : ℕ
 default_pieces = 4
 
 -- the draft with one more line: the same where the line is passed over,
--- and none where it fits no form or breaks its place
+-- and none where it fits no form or stands where it may not
 abbrev pub with_fitting : ℕ → Option Form → DraftParts → Option DraftParts
 with_fitting line None draft = None
 with_fitting line (Some form) draft = with_form line form draft

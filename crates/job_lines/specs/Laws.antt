@@ -6,7 +6,7 @@ use Rattle.geo_addr.specs.Lines.{numbered_lines}
 use Rattle.job_lines.specs.declared.job.Job.{Job}
 use Rattle.job_lines.specs.declared.fault.JobFault.TheVariants.{Epoch, Line}
 use Rattle.job_lines.specs.Job.{job, longest}
-use Rattle.job_lines.specs.Places.{IsFirstRefused, IsInOrder}
+use Rattle.job_lines.specs.Order.{IsFirstRefused, IsInOrder}
 use Rattle.job_lines.specs.Said.{IsWithinLimits, SaysItsLines}
 use Rattle.job_lines.specs.Words.{is_passed_over, words}
 
@@ -24,7 +24,7 @@ abbrev pub AcceptedJobIsInOrder : Type 0
 AcceptedJobIsInOrder = (bytes : List ℕ) (j : Job) → job bytes ≡ Ok j → IsInOrder bytes j
 
 -- a text is refused at a line exactly where it is no longer than a job may be, is UTF-8, and that
--- line is the first that fits no form or breaks its place
+-- line is the first that fits no form or stands where it may not
 abbrev pub RefusedLineIsFirst : Type 0
 RefusedLineIsFirst = (bytes : List ℕ) (number : ℕ) →
     (job bytes ≡ Err (Line number)) ↔ ((length bytes ≤ longest) × (is_utf8 bytes ≡ true)

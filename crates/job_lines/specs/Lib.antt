@@ -4,6 +4,6 @@ pub mod Forms
 pub mod Job
 pub mod Laws
 pub mod Names
-pub mod Places
+pub mod Order
 pub mod Said
 pub mod Words

@@ -86,7 +86,7 @@ impl Draft {
         }
     }
 
-    // Adds what a form says, where it keeps its place.
+    // Adds what a form says, where it may stand here.
     fn take_form(&mut self, line: u64, form: Form) -> Result<(), JobFault>
         ensures ok { OnOk result (with_form line form self.old ≡ Some self.new) }
         ensures err { IfErr result (λ why. (why ≡ JobFault.Memory)

@@ -9,7 +9,7 @@ pub enum JobFault {
     TooLong,
     #[error("not UTF-8")]
     Utf8,
-    /// The first line that fits no form, or stands in a wrong place.
+    /// The first line that fits no form, or stands where it may not.
     #[error("line {0} is refused")]
     Line(u64),
     /// Every line is passed over.

@@ -27,7 +27,7 @@ pub struct Job {
 }
 
 /// The most bytes of a job.
-const LONGEST: usize = 1_048_576;
+pub const LONGEST_JOB: usize = 1_048_576;
 
 /// Reads a job, whole.
 ///
@@ -43,7 +43,7 @@ pub fn read_job(alloc: Global, bytes: &[u8]) -> Result<Job, JobFault>
     ensures ok { IfOk result (λ j. job bytes.now ≡ Ok j) }
     ensures err { IfErr result (λ why. (why ≡ JobFault.Memory) ⊎ (job bytes.now ≡ Err why)) }
 {
-    if bytes.len() > LONGEST {
+    if bytes.len() > LONGEST_JOB {
         return Err(JobFault::TooLong);
     }
     if !is_text(bytes) {

@@ -23,7 +23,7 @@ pub fn accepted_job_is_in_order()
     ensures { AcceptedJobIsInOrder }
 {}
 
-/// A refused line is the first that fits no form or breaks its place.
+/// A refused line is the first that fits no form or stands where it may not.
 pub fn refused_line_is_first()
     ensures { RefusedLineIsFirst }
 {}

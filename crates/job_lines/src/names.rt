@@ -9,10 +9,10 @@ ghost use Rattle.job_lines.specs.Names.{is_type_name, is_visible};
 use geo_addr::{cut_at, is_blank};
 
 /// The most bytes of a file's name.
-const LONGEST_NAME: usize = 255;
+pub const LONGEST_NAME: usize = 255;
 
 /// The most bytes of a slot and of a database type.
-const LONGEST_WORD: usize = 64;
+pub const LONGEST_WORD: usize = 64;
 
 /// Whether a word is the name of a file: UTF-8, 1 to 255 bytes without blanks and line ends, of
 /// parts between single `/`, none of which is empty, `.` or `..`.

@@ -58,17 +58,17 @@ fn cut_blank(text: &[u8]) -> (&[u8], Option<&[u8]>)
         ≡ result.0.now ∷ pieces_after_blank (option_copied result.1) }
     ensures shorter { IfSome result.1 (λ rest. length rest.now < length text.now) }
 {
-    let place = blank_at(text);
-    if place == text.len() {
+    let cut = blank_at(text);
+    if cut == text.len() {
         return (text, None);
     }
-    (&text[..place], Some(&text[place + 1..]))
+    (&text[..cut], Some(&text[cut + 1..]))
 }
 
 // Where the first blank stands, or the text's length where there is none.
 #[tactic(auto, using(crate::proofs::WordLemmas::first_blank))]
 fn blank_at(text: &[u8]) -> usize
-    ensures place { result ≡ position_or_len is_blank text.now }
+    ensures cut { result ≡ position_or_len is_blank text.now }
     ensures within { result ≤ length text.now }
 {
     for (at, byte) in text.iter().enumerate() {

@@ -22,7 +22,7 @@ course-append (move ∷ moves) more world =
     ap (unless (blocked move world) move world) (course-append moves more (after move world))
     ∙ unless-go_on (blocked move world) move world (course moves (after move world)) more
 
--- a list from the place of a member on
+-- a list from the index of a member on
 pub drop-at : (moves : List Move) (count : ℕ) (move : Move) → slice_get moves count ≡ Some move
     → drop count moves ≡ move ∷ drop (suc count) moves
 drop-at [] count move h = cc

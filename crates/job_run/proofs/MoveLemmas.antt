@@ -49,7 +49,7 @@ pub alone_one : (scope : Scope) (step : Step) → takes scope step.act ≡ true
     → alone scope step ≡ does step ∷ []
 alone_one scope step in_it = ap (λ b. cond b (does step ∷ []) []) in_it
 
--- a list from a place on, with its length
+-- a list from an index on, with its length
 pub rest_of : (steps : List Step) (at : ℕ)
     → take (length steps - at) (drop at steps) ≡ drop at steps
 rest_of steps at = take_all (length steps - at) (drop at steps)

@@ -75,40 +75,40 @@ tail_more SinkFailed old mid new text more part first tail = λ before was.
 tail_more Memory old mid new text more part first tail =
     prints_more old mid new text more first tail
 
--- a place in two lists: it is one of the first, or one of the second
-place_in : (moves more : List Move) (count : ℕ) (move : Move)
+-- an index in two lists: it is one of the first, or one of the second
+get_either : (moves more : List Move) (count : ℕ) (move : Move)
     → slice_get (moves ++ more) count ≡ Some move
     → ((slice_get moves count ≡ Some move) × (take count (moves ++ more) ≡ take count moves))
     ⊎ ((k : ℕ) × (slice_get more k ≡ Some move)
     × (take count (moves ++ more) ≡ moves ++ take k more))
-place_in [] more count move next = inr (count, next, refl)
-place_in (first ∷ rest) more zero move next = inl (next, refl)
-place_in (first ∷ rest) more (suc count) move next = elim (place_in rest more count move next) [
+get_either [] more count move next = inr (count, next, refl)
+get_either (first ∷ rest) more zero move next = inl (next, refl)
+get_either (first ∷ rest) more (suc count) move next = elim (get_either rest more count move next) [
   | inl here ↦ inl (here.0, ap (λ (ms : List Move). first ∷ ms) here.1)
   | inr there ↦ inr (there.0, there.1, ap (λ (ms : List Move). first ∷ ms) there.2)
 ]
 
--- a place in the second of two lists, or in the first, is one in both together
-place_after : (moves more : List Move) (k : ℕ)
+-- an index in the second of two lists, or in the first, is one in both together
+get_after : (moves more : List Move) (k : ℕ)
     → (slice_get (moves ++ more) (length moves + k) ≡ slice_get more k)
     × (take (length moves + k) (moves ++ more) ≡ moves ++ take k more)
-place_after [] more k = let e : 0 + k ≡ k = omega arith in
+get_after [] more k = let e : 0 + k ≡ k = omega arith in
     (ap (slice_get more) e, ap (λ (n : ℕ). take n more) e)
-place_after (first ∷ rest) more k =
-    let p = place_after rest more k in
+get_after (first ∷ rest) more k =
+    let p = get_after rest more k in
     let e : suc (length rest) + k ≡ suc (length rest + k) = omega arith in (
       ap (slice_get (first ∷ (rest ++ more))) e ∙ p.0,
       ap (λ (n : ℕ). take n (first ∷ (rest ++ more))) e ∙ ap (λ (ms : List Move). first ∷ ms) p.1,
     )
 
-place_before : (moves more : List Move) (count : ℕ) (move : Move)
+get_before : (moves more : List Move) (count : ℕ) (move : Move)
     → slice_get moves count ≡ Some move
     → (slice_get (moves ++ more) count ≡ Some move)
     × (take count (moves ++ more) ≡ take count moves)
-place_before [] more count move next = absurd (cc)
-place_before (first ∷ rest) more zero move next = (next, refl)
-place_before (first ∷ rest) more (suc count) move next = let p =
-    place_before rest more count move next in (p.0, ap (λ (ms : List Move). first ∷ ms) p.1)
+get_before [] more count move next = absurd (cc)
+get_before (first ∷ rest) more zero move next = (next, refl)
+get_before (first ∷ rest) more (suc count) move next = let p =
+    get_before rest more count move next in (p.0, ap (λ (ms : List Move). first ∷ ms) p.1)
 
 -- two lists, one behind the other
 course_both : (moves more : List Move) (start mid : World) → course moves start ≡ ended mid
@@ -127,7 +127,7 @@ published_both : (moves more : List Move) (start mid : World) → course moves s
     → (count : ℕ) (move : Move) (then : World) → IsAt (moves ++ more) start count move then
     → Publishes move then.session.state
 published_both moves more start mid done first second count move then there =
-    elim (place_in moves more count move there.next) [
+    elim (get_either moves more count move there.next) [
       | inl here ↦ first count move then
           (record {
             done = ap (λ (ms : List Move). course ms start) (sym here.1) ∙ there.done;
@@ -145,7 +145,7 @@ at_later : (moves more : List Move) (start mid : World) → course moves start �
     → (count : ℕ) (move : Move) (then : World) → IsAt more mid count move then
     → IsAt (moves ++ more) start (length moves + count) move then
 at_later moves more start mid done count move then there =
-    let p = place_after moves more count in
+    let p = get_after moves more count in
     record {
       done = ap (λ (ms : List Move). course ms start) p.1
           ∙ course_both moves (take count more) start mid done ∙ there.done;
@@ -155,7 +155,7 @@ at_later moves more start mid done count move then there =
 at_before : (moves more : List Move) (start : World) (count : ℕ) (move : Move) (then : World)
     → IsAt moves start count move then → IsAt (moves ++ more) start count move then
 at_before moves more start count move then there =
-    let p = place_before moves more count move there.next in
+    let p = get_before moves more count move there.next in
     record { done = ap (λ (ms : List Move). course ms start) p.1 ∙ there.done; next = p.0 }
 
 -- parts: none, one move, and one part behind another

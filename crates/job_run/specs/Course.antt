@@ -24,7 +24,7 @@ abbrev pub go_on : Outcome → List Move → Outcome
 go_on (ended world) more = course more world
 go_on (stopped move why world) more = stopped move why world
 
--- the moves before this place were all made, they led to this world, and this is the next move
+-- the moves before this index were all made, they led to this world, and this is the next move
 pub record IsAt (moves : List Move) (start : World) (count : ℕ) (move : Move)
     (world : World) : Type 0 where
   pub done : course (take count moves) start ≡ ended world

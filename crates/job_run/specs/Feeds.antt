@@ -29,7 +29,7 @@ pub record IsRead (apart : List Apart) (told : Told) (step : Step) (held : Held)
   pub there : held_in apart told file ≡ Some held.bytes.items
   pub readable : unreadable longest (Some held.bytes.items) ≡ None
 
--- the files of the lines before this place can be read, and that of this one was not
+-- the files of the lines before this index can be read, and that of this one was not
 pub record HaltsReading (apart : List Apart) (told : Told) (steps : List Step) (why : Stop)
     (at : ℕ) : Type 0 where
   pub step : Step

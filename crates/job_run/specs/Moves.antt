@@ -81,7 +81,7 @@ abbrev pub read_rooms : List Step → ℕ
 read_rooms [] = 0
 read_rooms (step ∷ steps) = read_room step.act + read_rooms steps
 
--- the line at this place reads the files that stand apart, and none has its name
+-- the line at this index reads the files that stand apart, and none has its name
 pub record LacksAt (apart : List Apart) (steps : List Step) (at : ℕ) : Type 0 where
   pub step : Step
   pub named : slice_get steps at ≡ Some step

@@ -45,7 +45,7 @@ pub record DoesFirst (scope : Scope) (steps : List Step) (count : ℕ) (world : 
   pub split : moves_by scope steps ≡ moves ++ moves_by scope (drop count steps)
   pub part : DoesPart moves world session old new
 
--- of these moves one was not made, which belongs to the step at this place
+-- of these moves one was not made, which belongs to the step at this index
 pub record FailsAt (why : Stop) (moves : List Move) (steps : List Step) (at : ℕ) (world : World)
     (old new : Seen) : Type 0 where
   pub step : Step

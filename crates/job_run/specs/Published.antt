@@ -6,7 +6,7 @@ use Rattle.geo_terms.specs.Precedence.{record_at}
 use Rattle.trie_core.specs.Tree.{HasLeaf}
 use Rattle.least_nodes.specs.NodeList.{Member}
 use Rattle.least_nodes.specs.Laws.{Finds}
-use Rattle.mmdb_data.specs.Tree.{Tree as Value}
+use Rattle.mmdb_data.specs.ValueTree.{ValueTree as Value}
 use Rattle.mmdb_file.specs.FileImage.{fresh, record_tree}
 use Rattle.mmdb_file.specs.PlaceValue.{place_value}
 use Rattle.mmdb_file.specs.Walk.{nodes_told, walk}

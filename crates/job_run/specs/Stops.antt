@@ -117,7 +117,7 @@ pub record DoesAll (moves : List Move) (start : World) (session : Held)
   pub published : (count : ℕ) (move : Move) (then : World) → IsAt moves start count move then
       → Publishes move then.session.state
 
--- the step at this place was not done: the moves before one of its moves were made, and that one
+-- the step at this index was not done: the moves before one of its moves were made, and that one
 -- was not
 pub record StopsAt (why : Stop) (at : ℕ) (moves : List Move) (steps : List Step) (start : World)
     (old new : Seen) : Type 0 where

@@ -27,7 +27,7 @@ use update_session::Session;
 /// The most lines that set feeds together.
 const MOST_TOGETHER: usize = 16;
 
-/// The place of the step of a job that was not done, and why it was not.
+/// The index of the step of a job that was not done, and why it was not.
 #[derive(Clone, Copy, Debug)]
 pub struct StepStop {
     pub at: usize,

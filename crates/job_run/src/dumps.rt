@@ -12,7 +12,7 @@ ghost use Rattle.job_run.specs.World.{bytes_apart, held_in};
 
 use crate::apart::{Apart, find_apart};
 use crate::stop::{Cause, Stop};
-use feed_refs::DumpReader;
+use feed_refs::{DumpReader, LONGEST_DUMP};
 use geo_addr::Memory;
 use geo_outside::{Folder, FolderErr};
 use geo_terms::{Dump, SourceFault};
@@ -20,9 +20,6 @@ use std::alloc::Global;
 
 /// How many bytes one read asks for.
 const PIECE: usize = 65_536;
-
-/// The most bytes of a dump.
-const LONGEST_DUMP: u64 = 1 << 40;
 
 /// The dump of a slot that is read where the lines of a job read: among the files that stand
 /// apart, and in the folder where there are none.
@@ -104,7 +101,7 @@ fn read_dump<F: Folder>(alloc: Global, folder: &mut F, slot: &str, name: &str) -
     let piece: &mut [u8] = &mut buffer;
     let mut reader = DumpReader::new(alloc, slot)?;
     let mut fed = 0_u64;
-    while fed <= LONGEST_DUMP {
+    while fed <= LONGEST_DUMP as u64 {
         let n = read_piece(folder, name, fed, piece)?;
         if n == 0 {
             return whole_dump(reader);
@@ -115,7 +112,7 @@ fn read_dump<F: Folder>(alloc: Global, folder: &mut F, slot: &str, name: &str) -
     unreachable!()
 }
 
-/// Reads the piece of a file that begins at a place; 0 bytes are the end.
+/// Reads the piece of a file that begins at an offset; 0 bytes are the end.
 fn read_piece<F: Folder>(
     folder: &mut F,
     name: &str,

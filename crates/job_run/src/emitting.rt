@@ -117,7 +117,7 @@ fn emit_line(alloc: Global, name: &str, file: &Emitted) -> Result<Text, Memory>
     Ok(text)
 }
 
-/// Puts a file in the place of what the folder has under this name.
+/// Puts a file over what the folder has under this name.
 pub fn put<F: Folder>(folder: &mut F, name: &str, bytes: &[u8]) -> Result<(), Stop>
     ensures ok { (w : Told) → F.told folder.old ≡ Some w
         → OnOk result (F.told folder.new ≡ Some (after_put w name.now bytes.now)) }

@@ -21,7 +21,7 @@ use crate::course::StepStop;
 use crate::reading::read_source;
 use crate::stop::{Cause, Stop};
 use fan_work::{Forks, Work, map_pieces};
-use feed_csv::read_feed;
+use feed_csv::{LONGEST_FEED, read_feed};
 use geo_addr::Memory;
 use geo_outside::{Folder, Gate};
 use geo_terms::{Feed, SourceFault};
@@ -29,11 +29,8 @@ use job_lines::{Act, Step};
 use std::alloc::Global;
 use std::marker::Sync;
 use std::thread::Threads;
-use update_session::Session;
 use update_session::laws::standing_stays;
-
-/// The most bytes of a feed.
-const LONGEST_FEED: u64 = 67_108_864;
+use update_session::{ReadyFeed, Session};
 
 /// What the file of a line holds, and the URL that it is set under.
 #[derive(Debug, Drop)]
@@ -42,17 +39,17 @@ pub(crate) struct Held<'a> {
     pub(crate) bytes: Vec<u8>,
 }
 
-/// Work that reads the lines of a feed.
+/// Work that reads the lines of a feed and makes it ready to be set.
 #[derive(Clone, Copy, Debug)]
 struct Parsing;
 
-impl<'a> Work<Held<'a>, Result<Feed, Stop>> for Parsing {
+impl<'a> Work<Held<'a>, Result<ReadyFeed, Stop>> for Parsing {
     ghost use Rattle.job_run.specs.Feeds.{Parses};
 
     ghost related = { λ work held parsed. Parses held parsed };
 
-    fn done(&self, alloc: Global, item: &Held<'a>) -> Result<Result<Feed, Stop>, Memory> {
-        Ok(feed_of(alloc, item.url, item.bytes.as_slice()))
+    fn done(&self, alloc: Global, item: &Held<'a>) -> Result<Result<ReadyFeed, Stop>, Memory> {
+        Ok(ready_feed(alloc, item.url, item.bytes.as_slice()))
     }
 }
 
@@ -193,7 +190,7 @@ fn read_line<'a, F: Folder>(
     let Act::Feed { url, file } = &step.act else {
         unreachable!()
     };
-    match read_source(alloc, apart, folder, file.as_str(), LONGEST_FEED) {
+    match read_source(alloc, apart, folder, file.as_str(), LONGEST_FEED as u64) {
         Ok(bytes) => Ok(Held {
             url: url.as_str(),
             bytes,
@@ -206,7 +203,7 @@ fn read_line<'a, F: Folder>(
 fn parse_all<R: Threads + Sync, G: Gate>(
     forks: &Forks<R, G>,
     held: &[Held<'_>],
-) -> Result<Vec<Feed>, StepStop>
+) -> Result<Vec<ReadyFeed>, StepStop>
     ensures feeds { IfOk result (λ feeds. AllZip Parses held.now (map Ok feeds.items)) }
     ensures refused { IfErr result (λ stop. RefusesParsing held.now stop.why stop.at) }
 {
@@ -217,7 +214,10 @@ fn parse_all<R: Threads + Sync, G: Gate>(
 }
 
 /// The feeds, where none was refused, or the first that was.
-fn all_feeds(alloc: Global, parsed: Vec<Result<Feed, Stop>>) -> Result<Vec<Feed>, StepStop>
+fn all_feeds(
+    alloc: Global,
+    parsed: Vec<Result<ReadyFeed, Stop>>,
+) -> Result<Vec<ReadyFeed>, StepStop>
     ensures feeds { IfOk result (λ feeds. parsed.items ≡ map Ok feeds.items) }
     ensures refused { IfErr result (λ stop. IsFirstRefused parsed.items stop.why stop.at
         ⊎ ((stop.why ≡ Stop.Memory) × (stop.at ≡ 0))) }
@@ -236,6 +236,26 @@ fn all_feeds(alloc: Global, parsed: Vec<Result<Feed, Stop>>) -> Result<Vec<Feed>
         }
     }
     Ok(feeds)
+}
+
+/// The feed that these bytes are, ready to be set.
+fn ready_feed(alloc: Global, url: &str, bytes: &[u8]) -> Result<ReadyFeed, Stop>
+    ensures feed { IfOk result (λ found. found ≡ feed url.now bytes.now) }
+    ensures few { OnOk result (no_feed (Some bytes.now) ≡ None) }
+    ensures unset { IfErr result (λ why. IsHindered why
+        (λ cause. no_feed (Some bytes.now) ≡ Some cause)) }
+    ensures read { (result ≢ Err Stop.ReadFailed) × (result ≢ Err (Stop.Blocked Cause.Missing)) }
+    ensures reads { (result ≢ Err Stop.PutFailed) × (result ≢ Err Stop.SinkFailed)
+        × (result ≢ Err (Stop.Blocked Cause.Words)) }
+{
+    let feed = match feed_of(alloc, url, bytes) {
+        Ok(feed) => feed,
+        Err(why) => return Err(why),
+    };
+    match ReadyFeed::of(alloc, feed) {
+        Ok(ready) => Ok(ready),
+        Err(Memory) => Err(Stop::Memory),
+    }
 }
 
 /// The feed that these bytes are.
@@ -257,13 +277,13 @@ fn feed_of(alloc: Global, url: &str, bytes: &[u8]) -> Result<Feed, Stop>
 }
 
 /// Sets feeds, one after another.
-fn set_all(feeds: Vec<Feed>, session: &mut Session) -> Result<(), Memory>
+fn set_all(feeds: Vec<ReadyFeed>, session: &mut Session) -> Result<(), Memory>
     ensures { (w : Standing) → Stands session.old w
         → OnOk result (Stands session.new (with_feeds feeds.items w)) }
 {
     standing_stays();
     for feed in feeds {
-        session.set_feed(feed)?;
+        session.set_ready_feed(feed)?;
     }
     Ok(())
 }

@@ -24,6 +24,3 @@ pub use printing::print;
 pub use reading::read_file;
 pub use scope::Scope;
 pub use stop::{Cause, Stop};
-
-#[cfg(test)]
-mod tests;

@@ -16,16 +16,10 @@ use crate::stop::{Cause, Stop};
 use geo_outside::Folder;
 use geo_terms::{Overrides, SourceFault, Stats};
 use job_lines::Act;
-use nro_stats::read_stats;
-use override_rows::read_overrides;
+use nro_stats::{LONGEST_STATS, read_stats};
+use override_rows::{LONGEST_OVERRIDES, read_overrides};
 use std::alloc::Global;
 use update_session::Session;
-
-/// The most bytes of a statistics file.
-const LONGEST_STATS: u64 = 268_435_456;
-
-/// The most bytes of a file of overrides.
-const LONGEST_OVERRIDES: u64 = 67_108_864;
 
 /// Sets the dump in this slot to what the file of this name holds.
 pub(crate) fn set_dump<F: Folder>(
@@ -103,7 +97,7 @@ pub(crate) fn set_stats<F: Folder>(
         × (F.given folder.new ≤ F.given folder.old) }
     ensures given { F.given folder.new ≤ F.given folder.old + (268435456 + 65536) }
 {
-    let bytes = match read_source(alloc, apart, folder, name, LONGEST_STATS) {
+    let bytes = match read_source(alloc, apart, folder, name, LONGEST_STATS as u64) {
         Ok(bytes) => bytes,
         Err(why) => return Err(why),
     };
@@ -162,7 +156,7 @@ pub(crate) fn set_overrides<F: Folder>(
         × (F.given folder.new ≤ F.given folder.old) }
     ensures given { F.given folder.new ≤ F.given folder.old + (67108864 + 65536) }
 {
-    let bytes = match read_source(alloc, apart, folder, name, LONGEST_OVERRIDES) {
+    let bytes = match read_source(alloc, apart, folder, name, LONGEST_OVERRIDES as u64) {
         Ok(bytes) => bytes,
         Err(why) => return Err(why),
     };

@@ -20,8 +20,9 @@ use Rattle.serde_json.specs.Data.{no_members as no_data_members, member as data_
 use Rattle.serde_json.specs.Find.{of_integer, is_float}
 use Rattle.serde_json.specs.Written.{number_text, compact_text, items_text, members_text, has_float}
 use Rattle.serde_json.specs.Written.{items_have_float, members_have_float}
-use Rattle.mmdb_data.specs.Tree.{Tree, Members, Items, map, list, text, bytes, u16, u32, i32, u64}
-use Rattle.mmdb_data.specs.Tree.{u128, bool, double, float, no_members, member, no_items, item}
+use Rattle.mmdb_data.specs.ValueTree.{ValueTree, Members, Items, map, list, text, bytes, u16, u32}
+use Rattle.mmdb_data.specs.ValueTree.{i32, u64}
+use Rattle.mmdb_data.specs.ValueTree.{u128, bool, double, float, no_members, member, no_items, item}
 use Rattle.json_values.specs.Json.{escaped, quoted, Object, object_of, member_text, object_text}
 use Rattle.json_values.specs.Json.{array_text, json, member_texts, item_texts}
 use Rattle.json_values.specs.JsonData.{data_of, members_put, items_data}
@@ -192,7 +193,7 @@ array_said ds xs held =
     ∙ sym (array_text-is xs)
 
 mutual
-  value_text : (t : Tree) → compact_text (data_of t) ≡ json t
+  value_text : (t : ValueTree) → compact_text (data_of t) ≡ json t
   value_text (map members) =
       object_said members (members_put members no_data_members)
       (members_said members no_data_members finite.empty no_entries)
@@ -253,7 +254,7 @@ none_put key d (data_member name e ds) p q =
     (both_false _ _ here (none_put key d ds p later))
 
 mutual
-  pub has_no_float : (t : Tree) → has_float (data_of t) ≡ false
+  pub has_no_float : (t : ValueTree) → has_float (data_of t) ≡ false
   has_no_float (map members) = members_have_none members no_data_members refl
   has_no_float (list items) = items_have_none items
   has_no_float (text content) = refl
@@ -279,7 +280,7 @@ mutual
   items_have_none (item value items) = both_false _ _ (has_no_float value) (items_have_none items)
 
 -- the text that is written for the JSON value of a value
-pub written : (d : Data) (t : Tree) (content : List ℕ) → d ≡ data_of t
+pub written : (d : Data) (t : ValueTree) (content : List ℕ) → d ≡ data_of t
     → (has_float d ≡ false → content ≡ compact_text d) → content ≡ json t
 written d t content is said =
     said (ap has_float is ∙ has_no_float t) ∙ ap compact_text is ∙ value_text t

@@ -8,8 +8,9 @@ use Rattle.std.specs.Ordering.{nat_cmp}
 use Rattle.std.specs.Cmp.Lexicographic.{slice_cmp}
 use Rattle.std.specs.FinMap as finite
 use Rattle.hex.specs.Hex.{encode_lower}
-use Rattle.mmdb_data.specs.Tree.{Tree, Members, Items, map, list, text, bytes, u16, u32, i32, u64}
-use Rattle.mmdb_data.specs.Tree.{u128, bool, double, float, no_members, member, no_items, item}
+use Rattle.mmdb_data.specs.ValueTree.{ValueTree, Members, Items, map, list, text, bytes, u16, u32}
+use Rattle.mmdb_data.specs.ValueTree.{i32, u64}
+use Rattle.mmdb_data.specs.ValueTree.{u128, bool, double, float, no_members, member, no_items, item}
 
 -- what stands in a string for a byte: a quotation mark, a backslash and a control
 -- are escaped (RFC 8259, section 7)
@@ -53,7 +54,7 @@ bool_text false = codes "false"
 -- Numbers of up to 64 bits are numbers. A number of 128 bits is a string of its decimal digits, and
 -- bytes, doubles and floats are strings of two hexadecimal digits a byte.
 abbrev mutual
-  pub json : Tree → List ℕ
+  pub json : ValueTree → List ℕ
   json (map members) = object_text (object_of (member_texts members))
   json (list items) = array_text (item_texts items)
   json (text content) = quoted content

@@ -5,11 +5,12 @@ use Rattle.serde_json.specs.Data.{Data, boolean, number, string, array, object, 
 use Rattle.serde_json.specs.Data.{Items as DataItems, no_items as no_data_items, item as data_item}
 use Rattle.serde_json.specs.Data.{Members as DataMembers, no_members as no_data_members}
 use Rattle.serde_json.specs.Find.{of_integer}
-use Rattle.mmdb_data.specs.Tree.{Tree, Members, Items, map, list, text, bytes, u16, u32, i32, u64}
-use Rattle.mmdb_data.specs.Tree.{u128, bool, double, float, no_members, member, no_items, item}
+use Rattle.mmdb_data.specs.ValueTree.{ValueTree, Members, Items, map, list, text, bytes, u16, u32}
+use Rattle.mmdb_data.specs.ValueTree.{i32, u64}
+use Rattle.mmdb_data.specs.ValueTree.{u128, bool, double, float, no_members, member, no_items, item}
 
 abbrev mutual
-  pub data_of : Tree → Data
+  pub data_of : ValueTree → Data
   data_of (map members) = object (members_put members no_data_members)
   data_of (list items) = array (items_data items)
   data_of (text content) = string content

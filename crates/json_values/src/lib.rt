@@ -1,8 +1,6 @@
 //! Values of the data section as JSON (RFC 8259).
 #![tactic(auto)]
 
-#[cfg(test)]
-mod tests;
 mod text;
 
 pub use text::json_text;

@@ -4,7 +4,7 @@ ghost use Rattle.hex.specs.Hex.{encode_lower};
 ghost use Rattle.serde_json.specs.Data.{string as string_data, no_members};
 ghost use Rattle.serde_json.specs.View.{view as data_view, items_view as data_items_view};
 ghost use Rattle.serde_json.specs.View.{members_view as data_members_view};
-ghost use Rattle.mmdb_data.specs.View.{tree, items_view, members_view};
+ghost use Rattle.mmdb_data.specs.View.{value_tree, items_view, members_view};
 ghost use Rattle.json_values.specs.Json.{json};
 ghost use Rattle.json_values.specs.JsonData.{data_of, members_put, items_data};
 
@@ -18,7 +18,7 @@ use std::alloc::Global;
 /// Maps are objects with ascending keys, of equal ones the last. Numbers of 128 bits are strings of
 /// decimal digits; byte strings, doubles and floats are strings of lower-case hexadecimal digits.
 pub fn json_text(alloc: Global, value: &Value) -> Result<Text, Memory>
-    ensures { IfOk result (λ text. text ≡ json (tree value.now)) }
+    ensures { IfOk result (λ text. text ≡ json (value_tree value.now)) }
 {
     let made = json_of(alloc, value)?;
     let line = made.to_string(alloc)?;
@@ -28,7 +28,7 @@ pub fn json_text(alloc: Global, value: &Value) -> Result<Text, Memory>
 
 #[cycle(making)]
 fn json_of(alloc: Global, value: &Value) -> Result<Json, Memory>
-    ensures { IfOk result (λ made. data_view made ≡ data_of (tree value.now)) }
+    ensures { IfOk result (λ made. data_view made ≡ data_of (value_tree value.now)) }
 {
     match value {
         Value::Map(pairs) => Ok(Json::Object(object_of(alloc, pairs)?)),

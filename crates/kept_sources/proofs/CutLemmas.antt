@@ -6,7 +6,7 @@ use Rattle.std.specs.List.Sorted.{IsStrictlyIncreasing}
 use Rattle.std.proofs.lemmas.List.{get_or-map, length-map, take-map, take_all}
 use Rattle.geo_addr.specs.Ranges.{AreCuts, Ends, IsEdge, IsWithin}
 use Rattle.split_core.proofs.Edges.{cuts_more, cuts_stay}
-use Rattle.cut_segments.specs.CutPlaces.{AreCutsOf, whole}
+use Rattle.cut_segments.specs.CutPoints.{AreCutsOf, whole}
 
 module _ {X : Type 0} (range : X → Ends) (xs : List X) where
   -- one statement more

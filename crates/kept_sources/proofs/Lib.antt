@@ -1,4 +1,5 @@
 pub mod CutLemmas
-pub mod PlaceLemmas
+pub mod RowLemmas
 pub mod ShelfLemmas
 pub mod SpeakingLemmas
+pub mod StatisticsLemmas

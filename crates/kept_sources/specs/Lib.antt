@@ -1,4 +1,4 @@
 pub mod Delegations
-pub mod FeedPlaces
+pub mod FeedCuts
 pub mod Kinds
 pub mod Rows

@@ -21,12 +21,12 @@ pub fn indexed(alloc: Global, files: &[Arc<Stats>]) -> Result<Arc<KindIndex>, Me
     Ok(index)
 }
 
-/// The delegation at a place among those of all files.
-pub fn delegation_at<'a>(files: &'a [Arc<Stats>], place: usize) -> Option<&'a Delegation>
+/// The delegation at an index among those of all files.
+pub fn delegation_at<'a>(files: &'a [Arc<Stats>], index: usize) -> Option<&'a Delegation>
     ensures { option_copied result
-        ≡ slice_get (flat_map (λ t. t.rows) (map arc_value files.entry.now)) place }
+        ≡ slice_get (flat_map (λ t. t.rows) (map arc_value files.entry.now)) index }
 {
-    let mut left = place;
+    let mut left = index;
     for file in files {
         let rows = file.rows.as_slice();
         if left < rows.len() {
@@ -37,10 +37,10 @@ pub fn delegation_at<'a>(files: &'a [Arc<Stats>], place: usize) -> Option<&'a De
     None
 }
 
-fn row_at(rows: &[Delegation], place: usize) -> Option<&Delegation>
-    ensures { option_copied result ≡ slice_get rows.entry.now place }
+fn row_at(rows: &[Delegation], index: usize) -> Option<&Delegation>
+    ensures { option_copied result ≡ slice_get rows.entry.now index }
 {
-    rows.get(place)
+    rows.get(index)
 }
 
 // The delegations of all files, borrowed.

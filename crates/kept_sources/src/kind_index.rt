@@ -1,6 +1,6 @@
 //! What is kept of the statements of one kind.
 ghost use Rattle.std.specs.Prelude.{◌≡◌, ◌++◌, map, All, IfOk, OnOk};
-ghost use Rattle.cut_segments.specs.CutPlaces.{AreCutsOf};
+ghost use Rattle.cut_segments.specs.CutPoints.{AreCutsOf};
 ghost use Rattle.kept_sources.specs.Kinds.{IsKindIndex};
 
 use cut_segments::whole;
@@ -13,7 +13,7 @@ use std::alloc::Global;
 #[derive(Debug, Drop)]
 pub struct KindIndex {
     pub firsts: FirstIndex,
-    pub places: Vec<u128>,
+    pub cuts: Vec<u128>,
 }
 
 /// The index of these statements.
@@ -23,8 +23,8 @@ pub fn index_of<S: Statement>(alloc: Global, statements: &[&S]) -> Result<KindIn
     ensures kept { OnOk result (All S.kept (map (λ s. s.now) statements.entry.now)) }
 {
     let firsts = FirstIndex::of(alloc, statements)?;
-    let places = places_of(alloc, statements)?;
-    Ok(KindIndex { firsts, places })
+    let cuts = cuts_of(alloc, statements)?;
+    Ok(KindIndex { firsts, cuts })
 }
 
 /// Appends the ranges of statements.
@@ -39,15 +39,15 @@ pub fn push_ranges<S: Statement>(ranges: &mut Vec<Range>, statements: &[S]) -> R
 }
 
 /// The cut points of statements.
-pub fn places_of<S: Statement>(alloc: Global, statements: &[&S]) -> Result<Vec<u128>, Memory>
+pub fn cuts_of<S: Statement>(alloc: Global, statements: &[&S]) -> Result<Vec<u128>, Memory>
     ensures { IfOk result
-        (λ places. AreCutsOf (map S.range (map (λ s. s.now) statements.entry.now)) places.items) }
+        (λ cuts. AreCutsOf (map S.range (map (λ s. s.now) statements.entry.now)) cuts.items) }
 {
-    // Of ranges that lie side by side each adds one place.
-    let mut places = Vec::with_capacity(alloc, statements.len())?;
+    // Of ranges that lie side by side each adds one cut point.
+    let mut cuts = Vec::with_capacity(alloc, statements.len())?;
     for statement in statements {
-        push_edges(&mut places, statement.range(), whole())?;
+        push_edges(&mut cuts, statement.range(), whole())?;
     }
-    put_in_order(&mut places);
-    Ok(places)
+    put_in_order(&mut cuts);
+    Ok(cuts)
 }

@@ -5,10 +5,12 @@
 mod delegations;
 mod kind_index;
 mod overriding;
+mod ready;
 mod shelf;
 mod speaking;
 mod statistics;
 
 pub use overriding::Overriding;
+pub use ready::ReadyFeed;
 pub use speaking::Speaking;
 pub use statistics::Statistics;

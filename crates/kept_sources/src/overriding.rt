@@ -50,7 +50,7 @@ impl Overriding {
     ghost use Rattle.geo_terms.specs.Report.{alias_note, notes_in};
     ghost use Rattle.geo_terms.specs.Sources.{rows_in};
     ghost use Rattle.geo_terms.specs.declared.note.Origin.{Origin};
-    ghost use Rattle.cut_segments.specs.CutPlaces.{AreCutsOf};
+    ghost use Rattle.cut_segments.specs.CutPoints.{AreCutsOf};
 
     /// No overrides.
     pub fn new() -> Overriding
@@ -59,7 +59,7 @@ impl Overriding {
         Overriding { held: None }
     }
 
-    /// Puts overrides in the place of those in force, which are handed back.
+    /// Sets overrides; those in force are handed back.
     pub fn set(
         &mut self,
         alloc: Global,
@@ -100,8 +100,8 @@ impl Overriding {
             ≡ first_at override_before (λ o. o.range) (rows_in self.now) at.0 }
     {
         let held = self.held.as_ref()?;
-        let place = held.index.firsts.place_at(at)?;
-        held.overrides.rows.as_slice().get(place)
+        let index = held.index.firsts.index_at(at)?;
+        held.overrides.rows.as_slice().get(index)
     }
 
     /// Appends the ranges of all rows.
@@ -150,11 +150,11 @@ impl Overriding {
     }
 
     /// The cut points of all rows.
-    pub fn places(&self) -> &[u128]
+    pub fn cuts(&self) -> &[u128]
         ensures { AreCutsOf (map (λ o. o.range) (rows_in self.now)) result.now }
     {
         match &self.held {
-            Some(held) => held.index.places.as_slice(),
+            Some(held) => held.index.cuts.as_slice(),
             None => &[],
         }
     }

@@ -1,6 +1,6 @@
 //! Shared values of one kind in the order of their names.
 ghost use Rattle.std.specs.Prelude.{◌≡◌, ◌<◌, ◌≤◌, ℕ, List, length, map, find, insert, option_map};
-ghost use Rattle.std.specs.Prelude.{remove, slice_set, IfOk, OnOk};
+ghost use Rattle.std.specs.Prelude.{remove, slice_set, vec_capacity, vec_len, IfOk, OnOk};
 ghost use Rattle.std.specs.Arc.{arc_value};
 ghost use Rattle.std.specs.List.Sorted.{IsBinarySearchResult, IsSearchInRange};
 ghost use Rattle.std.specs.Option.{option_copied};
@@ -35,13 +35,13 @@ pub fn find_named<'a, T: Named + Drop>(shelf: &'a [Arc<T>], name: &str) -> Optio
     ensures { option_map arc_value (option_copied result)
         ≡ find (λ t. same_text (T.name t) name.now) (map arc_value shelf.entry.now) }
 {
-    match place_of(shelf, name) {
-        Ok(place) => Some(&shelf[place]),
+    match search_shelf(shelf, name) {
+        Ok(index) => Some(&shelf[index]),
         Err(_) => None,
     }
 }
 
-/// The values with one more, which takes the place of the one of its name.
+/// The values with one more, which replaces the one of its name.
 pub fn with_one<T: Named + Drop>(
     alloc: Global,
     shelf: &[Arc<T>],
@@ -52,15 +52,30 @@ pub fn with_one<T: Named + Drop>(
         ≡ placed T.name (arc_value item) (map arc_value shelf.now)) }
 {
     let mut new = copies(alloc, shelf)?;
-    match place_of(new.as_slice(), item.name()) {
-        Ok(place) => {
-            put_at(&mut new, place, item);
-            Ok(new)
-        }
-        Err(place) => {
-            put_between(&mut new, place, item)?;
-            Ok(new)
-        }
+    make_room(&mut new)?;
+    put_one(&mut new, item);
+    Ok(new)
+}
+
+/// Makes room for one more value.
+pub fn make_room<T: Drop>(shelf: &mut Vec<Arc<T>>) -> Result<(), Memory>
+    ensures items { shelf.new.items ≡ shelf.old.items }
+    ensures room { OnOk result (vec_len shelf.new < vec_capacity shelf.new) }
+{
+    shelf.reserve(1)?;
+    Ok(())
+}
+
+/// Puts a value for which there is room among the others, instead of the one of its name.
+pub fn put_one<T: Named + Drop>(shelf: &mut Vec<Arc<T>>, item: Arc<T>)
+    requires order { AreInOrder T.name (map arc_value shelf.old.items) }
+    requires room { vec_len shelf.old < vec_capacity shelf.old }
+    ensures { map arc_value shelf.new.items
+        ≡ placed T.name (arc_value item) (map arc_value shelf.old.items) }
+{
+    match search_shelf(shelf.as_slice(), item.name()) {
+        Ok(index) => put_at(shelf, index, item),
+        Err(index) => put_between(shelf, index, item),
     }
 }
 
@@ -85,34 +100,34 @@ pub fn take_out<T: Named + Drop>(shelf: &mut Vec<Arc<T>>, name: &str)
     ensures { map arc_value shelf.new.items
         ≡ removed T.name name.now (map arc_value shelf.old.items) }
 {
-    match place_of(shelf.as_slice(), name) {
-        Ok(place) => {
-            let _taken = take_at(shelf, place);
+    match search_shelf(shelf.as_slice(), name) {
+        Ok(index) => {
+            let _taken = take_at(shelf, index);
         }
         Err(_) => {}
     }
 }
 
-fn put_at<T: Drop>(shelf: &mut Vec<Arc<T>>, place: usize, item: Arc<T>)
-    requires { place < length shelf.old.items }
-    ensures { shelf.new.items ≡ slice_set shelf.old.items place item }
+fn put_at<T: Drop>(shelf: &mut Vec<Arc<T>>, index: usize, item: Arc<T>)
+    requires { index < length shelf.old.items }
+    ensures { shelf.new.items ≡ slice_set shelf.old.items index item }
 {
-    shelf[place] = item;
+    shelf[index] = item;
 }
 
-fn put_between<T: Drop>(shelf: &mut Vec<Arc<T>>, place: usize, item: Arc<T>) -> Result<(), Memory>
-    requires { place ≤ length shelf.old.items }
-    ensures { OnOk result (shelf.new.items ≡ insert shelf.old.items place item) }
+fn put_between<T: Drop>(shelf: &mut Vec<Arc<T>>, index: usize, item: Arc<T>)
+    requires index { index ≤ length shelf.old.items }
+    requires room { vec_len shelf.old < vec_capacity shelf.old }
+    ensures { shelf.new.items ≡ insert shelf.old.items index item }
 {
-    shelf.insert(place, item)?;
-    Ok(())
+    let _put = shelf.insert(index, item);
 }
 
-fn take_at<T: Drop>(shelf: &mut Vec<Arc<T>>, place: usize) -> Arc<T>
-    requires { place < length shelf.old.items }
-    ensures { shelf.new.items ≡ remove shelf.old.items place }
+fn take_at<T: Drop>(shelf: &mut Vec<Arc<T>>, index: usize) -> Arc<T>
+    requires { index < length shelf.old.items }
+    ensures { shelf.new.items ≡ remove shelf.old.items index }
 {
-    shelf.remove(place)
+    shelf.remove(index)
 }
 
 /// Second owners of the values.
@@ -150,7 +165,7 @@ pub fn held<T: Named + Drop>(shelf: &[Arc<T>], name: &str) -> Result<Option<Arc<
 }
 
 // Where the value of a name stands, or where one is to be put.
-fn place_of<T: Named + Drop>(shelf: &[Arc<T>], name: &str) -> Result<usize, usize>
+fn search_shelf<T: Named + Drop>(shelf: &[Arc<T>], name: &str) -> Result<usize, usize>
     ensures within { IsSearchInRange result (length shelf.now) }
     ensures found { IsBinarySearchResult (λ t. text_cmp (T.name (arc_value t)) name.now)
         shelf.now result }

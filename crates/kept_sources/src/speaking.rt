@@ -5,35 +5,20 @@ ghost use Rattle.std.specs.Arc.{arc_value};
 ghost use Rattle.std.specs.List.{AllAdjacentBelow};
 ghost use Rattle.std.specs.List.Sorted.{IsStrictlyIncreasing};
 ghost use Rattle.geo_addr.specs.Ranges.{IsRange, IsWithin, range_of_block};
-ghost use Rattle.cut_segments.specs.CutPlaces.{AreCutsOf};
-ghost use Rattle.kept_sources.specs.FeedPlaces.{HasCutsOf, kept_places};
+ghost use Rattle.cut_segments.specs.CutPoints.{AreCutsOf};
+ghost use Rattle.kept_sources.specs.FeedCuts.{kept_cuts};
 
-use crate::kind_index::{places_of, push_ranges};
-use crate::shelf::{Named, copies, find_named, second, take_out, with_one};
+use crate::kind_index::push_ranges;
+use crate::ready::{FeedCuts, ReadyFeed};
+use crate::shelf::{Named, copies, find_named, make_room, put_one, second, take_out};
 use authority::{Authority, DropFault};
-use cut_segments::{cut_places, push_inside};
-use geo_addr::{Memory, Range, Text};
-use geo_terms::{Dump, Entry, Feed, Note};
-use source_changes::push_borrows;
+use cut_segments::{cut_points, push_inside};
+use geo_addr::{Memory, Range};
+use geo_terms::{Dump, Feed, Note};
 use source_notes::{push_dump_aliases, push_dump_notes, push_feed_aliases, push_feed_notes};
 use std::alloc::Global;
 use std::marker::Model;
 use std::sync::Arc;
-
-/// The cut points of the entries of a feed.
-#[derive(Debug, Drop)]
-pub struct FeedPlaces {
-    url: Text,
-    places: Vec<u128>,
-}
-
-impl Named for FeedPlaces {
-    ghost name = { λ f. f.url };
-
-    fn name(&self) -> &str {
-        self.url.as_str()
-    }
-}
 
 impl Named for Dump {
     ghost name = { λ d. d.slot };
@@ -45,8 +30,8 @@ impl Named for Dump {
 
 /// The cut points of the references of all dumps.
 #[derive(Debug, Drop)]
-pub struct ReferencePlaces {
-    places: Vec<u128>,
+pub struct ReferenceCuts {
+    cuts: Vec<u128>,
 }
 
 /// The dumps and feeds in force, with the cut points of their statements.
@@ -57,13 +42,13 @@ pub struct Speaking {
     alloc: Global,
     authority: Authority,
     // None before the first dump.
-    references: Option<Arc<ReferencePlaces>>,
-    feeds: Vec<Arc<FeedPlaces>>,
+    references: Option<Arc<ReferenceCuts>>,
+    feeds: Vec<Arc<FeedCuts>>,
 }
 
 impl Model for Speaking {
     ghost use Rattle.geo_terms.specs.Sources.{InForce};
-    ghost use Rattle.kept_sources.specs.FeedPlaces.{AreSpeaking};
+    ghost use Rattle.kept_sources.specs.FeedCuts.{AreSpeaking};
 
     ghost Value = { InForce };
 
@@ -84,7 +69,7 @@ impl Speaking {
     ghost use Rattle.geo_terms.specs.SlotOrder.{placed, removed};
     ghost use Rattle.geo_terms.specs.Sources.{entries, no_sources, references};
     ghost use Rattle.geo_terms.specs.declared.note.Origin.{Origin};
-    ghost use Rattle.cut_segments.specs.CutPlaces.{AreCutsInside, AreCutsOf};
+    ghost use Rattle.cut_segments.specs.CutPoints.{AreCutsInside, AreCutsOf};
 
     /// No dumps and no feeds.
     pub fn new(alloc: Global) -> Speaking
@@ -98,7 +83,7 @@ impl Speaking {
         }
     }
 
-    /// Puts a dump in the place of the one with the same slot, and hands the old one back.
+    /// Sets a dump, which replaces the one with the same slot, and hands the old one back.
     pub fn set_dump(&mut self, dump: Dump) -> Result<Option<Arc<Dump>>, Memory>
         ensures sources { OnOk result
             (self.new ≡ record self.old { dumps = placed (λ d. d.slot) dump self.old.dumps }) }
@@ -108,9 +93,9 @@ impl Speaking {
     {
         let mut next = self.authority.snapshot()?;
         let old = next.set_dump(dump)?;
-        let places = places_of_dumps(self.alloc, next.dumps())?;
+        let cuts = cuts_of_dumps(self.alloc, next.dumps())?;
         self.authority = next;
-        self.references = Some(places);
+        self.references = Some(cuts);
         Ok(old)
     }
 
@@ -129,24 +114,25 @@ impl Speaking {
         };
         let mut left = self.authority.snapshot()?;
         let old = left.drop_dump(slot)?;
-        let places = places_of_dumps(self.alloc, left.dumps())?;
+        let cuts = cuts_of_dumps(self.alloc, left.dumps())?;
         self.authority = left;
-        self.references = Some(places);
+        self.references = Some(cuts);
         Ok(old)
     }
 
-    /// Puts a feed in the place of the one with the same URL, and hands the old one back.
-    pub fn set_feed(&mut self, feed: Feed) -> Result<Option<Arc<Feed>>, Memory>
+    /// Sets a feed, which replaces the one with the same URL, and hands the old one back. Nothing
+    /// is put in order: the feed is ready.
+    pub fn set_feed(&mut self, feed: ReadyFeed) -> Result<Option<Arc<Feed>>, Memory>
         ensures sources { OnOk result
             (self.new ≡ record self.old { feeds = placed (λ f. f.url) feed self.old.feeds }) }
         ensures old { IfOk result (λ old. option_map arc_value old
             ≡ find (λ f. same_text f.url feed.url) self.old.feeds) }
         ensures err { OnErr result (self.new ≡ self.old) }
     {
-        let places = places_of_feed(self.alloc, &feed)?;
-        let feeds = with_one(self.alloc, self.feeds.as_slice(), places)?;
+        let (feed, cuts) = feed.parts();
+        make_room(&mut self.feeds)?;
         let old = self.authority.set_feed(feed)?;
-        self.feeds = feeds;
+        put_one(&mut self.feeds, cuts);
         Ok(old)
     }
 
@@ -185,15 +171,15 @@ impl Speaking {
 
     /// Appends the cut points of all references and entries that lie inside one of ascending
     /// ranges, to an empty vector.
-    pub fn push_inside(&self, places: &mut Vec<u128>, bounds: &[Range]) -> Result<(), Memory>
+    pub fn push_inside(&self, cuts: &mut Vec<u128>, bounds: &[Range]) -> Result<(), Memory>
         requires ranges { All IsRange bounds.now }
         requires apart { AllAdjacentBelow (λ r t. r.last < t.first) bounds.now (length bounds.now) }
-        requires none { places.old.items ≡ [] }
+        requires none { cuts.old.items ≡ [] }
         ensures { OnOk result (AreCutsInside (map (λ r. r.range) (references self.now)
-            ++ map (λ e. range_of_block e.block) (entries self.now)) bounds.now places.new.items) }
+            ++ map (λ e. range_of_block e.block) (entries self.now)) bounds.now cuts.new.items) }
     {
-        push_inside(places, self.kept_references(), bounds)?;
-        push_feeds_inside(places, self.feeds.as_slice(), bounds)?;
+        push_inside(cuts, self.kept_references(), bounds)?;
+        push_feeds_inside(cuts, self.feeds.as_slice(), bounds)?;
         Ok(())
     }
 
@@ -202,7 +188,7 @@ impl Speaking {
         ensures { AreCutsOf (map (λ r. r.range) (references self.now)) result.now }
     {
         match &self.references {
-            Some(kept) => kept.places.as_slice(),
+            Some(kept) => kept.cuts.as_slice(),
             None => &[],
         }
     }
@@ -211,7 +197,7 @@ impl Speaking {
     pub fn count(&self) -> usize {
         let mut count = self.kept_references().len();
         for feed in self.feeds.as_slice() {
-            count = count.saturating_add(feed.places.len());
+            count = count.saturating_add(feed.cuts.len());
         }
         count
     }
@@ -256,43 +242,24 @@ impl Speaking {
 }
 
 // The cut points of the references of these dumps, to be shared.
-fn places_of_dumps(alloc: Global, dumps: &[Arc<Dump>]) -> Result<Arc<ReferencePlaces>, Memory>
+fn cuts_of_dumps(alloc: Global, dumps: &[Arc<Dump>]) -> Result<Arc<ReferenceCuts>, Memory>
     ensures { IfOk result
         (λ kept. AreCutsOf (map (λ r. r.range) (flat_map (λ d. d.refs) (map arc_value dumps.now)))
-        (arc_value kept).places.items) }
+        (arc_value kept).cuts.items) }
 {
-    let places = reference_places(alloc, dumps)?;
-    let kept = Arc::new(alloc, ReferencePlaces { places })?;
+    let cuts = reference_cuts(alloc, dumps)?;
+    let kept = Arc::new(alloc, ReferenceCuts { cuts })?;
     Ok(kept)
 }
 
-fn reference_places(alloc: Global, dumps: &[Arc<Dump>]) -> Result<Vec<u128>, Memory>
-    ensures { IfOk result (λ places. AreCutsOf
-        (map (λ r. r.range) (flat_map (λ d. d.refs) (map arc_value dumps.now))) places.items) }
+fn reference_cuts(alloc: Global, dumps: &[Arc<Dump>]) -> Result<Vec<u128>, Memory>
+    ensures { IfOk result (λ cuts. AreCutsOf
+        (map (λ r. r.range) (flat_map (λ d. d.refs) (map arc_value dumps.now))) cuts.items) }
 {
     let mut ranges = Vec::new(alloc);
     push_references(&mut ranges, dumps)?;
-    let places = cut_places(alloc, ranges.as_slice())?;
-    Ok(places)
-}
-
-// The cut points of the entries of a feed, under its URL, to be shared.
-fn places_of_feed(alloc: Global, feed: &Feed) -> Result<Arc<FeedPlaces>, Memory>
-    ensures { IfOk result (λ kept. HasCutsOf feed.now (arc_value kept)) }
-{
-    let places = entry_places(alloc, feed.entries.as_slice())?;
-    let url = feed.url.copied()?;
-    let kept = Arc::new(alloc, FeedPlaces { url, places })?;
-    Ok(kept)
-}
-
-fn entry_places(alloc: Global, entries: &[Entry]) -> Result<Vec<u128>, Memory>
-    ensures { IfOk result
-        (λ places. AreCutsOf (map (λ e. range_of_block e.block) entries.now) places.items) }
-{
-    let mut borrowed = Vec::new(alloc);
-    push_borrows(&mut borrowed, entries)?;
-    places_of(alloc, borrowed.as_slice())
+    let cuts = cut_points(alloc, ranges.as_slice())?;
+    Ok(cuts)
 }
 
 fn push_references(ranges: &mut Vec<Range>, dumps: &[Arc<Dump>]) -> Result<(), Memory>
@@ -317,18 +284,18 @@ fn push_entries(ranges: &mut Vec<Range>, feeds: &[Arc<Feed>]) -> Result<(), Memo
 
 // Appends the cut points of the entries of these feeds that lie inside one of ascending ranges.
 fn push_feeds_inside(
-    places: &mut Vec<u128>,
-    feeds: &[Arc<FeedPlaces>],
+    cuts: &mut Vec<u128>,
+    feeds: &[Arc<FeedCuts>],
     bounds: &[Range],
 ) -> Result<(), Memory>
-    requires ascending { All (λ f. IsStrictlyIncreasing (kept_places f)) feeds.now }
+    requires ascending { All (λ f. IsStrictlyIncreasing (kept_cuts f)) feeds.now }
     requires ranges { All IsRange bounds.now }
     requires apart { AllAdjacentBelow (λ r t. r.last < t.first) bounds.now (length bounds.now) }
-    ensures { OnOk result ((c : ℕ) → Contains places.new.items c ↔ (Contains places.old.items c
-        ⊎ (Any (λ f. Contains (kept_places f) c) feeds.now × Any (λ r. IsWithin r c) bounds.now))) }
+    ensures { OnOk result ((c : ℕ) → Contains cuts.new.items c ↔ (Contains cuts.old.items c
+        ⊎ (Any (λ f. Contains (kept_cuts f) c) feeds.now × Any (λ r. IsWithin r c) bounds.now))) }
 {
     for feed in feeds {
-        push_inside(places, feed.places.as_slice(), bounds)?;
+        push_inside(cuts, feed.cuts.as_slice(), bounds)?;
     }
     Ok(())
 }

@@ -48,7 +48,7 @@ impl Statistics {
     ghost use Rattle.geo_terms.specs.Report.{alias_note};
     ghost use Rattle.geo_terms.specs.SlotOrder.{AreInOrder, placed, removed};
     ghost use Rattle.geo_terms.specs.declared.note.Origin.{Origin};
-    ghost use Rattle.cut_segments.specs.CutPlaces.{AreCutsOf};
+    ghost use Rattle.cut_segments.specs.CutPoints.{AreCutsOf};
     ghost use Rattle.authority.specs.declared.fault.DropFault.{DropFault};
 
     /// No files.
@@ -62,7 +62,7 @@ impl Statistics {
         }
     }
 
-    /// Puts a file in the place of the one with the same slot, and hands the old one back.
+    /// Sets a file, which replaces the one with the same slot, and hands the old one back.
     pub fn set(&mut self, stats: Stats) -> Result<Option<Arc<Stats>>, Memory>
         ensures new { OnOk result (self.new ≡ placed (λ t. t.slot) stats self.old) }
         ensures old { IfOk result
@@ -112,8 +112,8 @@ impl Statistics {
             ≡ first_at delegation_before (λ d. d.range) (flat_map (λ t. t.rows) self.now) at.0 }
     {
         let index = self.index.as_ref()?;
-        let place = index.firsts.place_at(at)?;
-        delegation_at(self.files.as_slice(), place)
+        let offset = index.firsts.index_at(at)?;
+        delegation_at(self.files.as_slice(), offset)
     }
 
     /// Appends the ranges of all delegations, file by file.
@@ -157,11 +157,11 @@ impl Statistics {
     }
 
     /// The cut points of all delegations.
-    pub fn places(&self) -> &[u128]
+    pub fn cuts(&self) -> &[u128]
         ensures { AreCutsOf (map (λ d. d.range) (flat_map (λ t. t.rows) self.now)) result.now }
     {
         match &self.index {
-            Some(index) => index.places.as_slice(),
+            Some(index) => index.cuts.as_slice(),
             None => &[],
         }
     }

@@ -254,7 +254,7 @@ module _ {X : Type 0} (eq : X → X → Bool) (equality : IsEquality eq) where
         filter-append test xs (x ∷ []) ∙ ap (λ l. filter test xs ++ l) (filter-fail x [] fails)
         ∙ append-nil (filter test xs)
 
-    -- to keep the first of equal elements each and to keep those that pass may change places
+    -- to keep the first of equal elements each and to keep those that pass may be exchanged
     pub filter-each_once : (seen xs : List X)
         → filter test (each_once eq seen xs) ≡ each_once eq (filter test seen) (filter test xs)
     filter-each_once seen [] = refl

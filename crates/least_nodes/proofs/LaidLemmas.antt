@@ -14,7 +14,7 @@ use Rattle.least_nodes.proofs.Elements.{In, In-left, In-right, In-each_once-new}
 use Rattle.least_nodes.proofs.TreeParts.{IsEquality-tree_eq}
 
 module _ {X : Type 0} (eq : X → X → Bool) (equality : IsEquality eq) where
-  -- an element has a place in its list
+  -- an element has a position in its list
   pub position-within : (x : X) (xs : List X) → In x xs → position_or_len (eq x) xs < length xs
   position-within x [] is = absurd is
   position-within x (y ∷ ys) is =

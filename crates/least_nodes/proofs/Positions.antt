@@ -182,11 +182,11 @@ module _ {A : Type 0} where
 module _ {X : Type 0} (eq : X → X → Bool) (equality : IsEquality eq) (n : ℕ) (StandsAt : X → ℕ
     → Type 0) (alone : (x y : X) (i : ℕ) → StandsAt x i → StandsAt y i → x ≡ y) where
   -- a position below n for each element, no two the same
-  record Placed (xs : List X) : Type 0 where
-    places : List ℕ
-    long : length places ≡ length xs
-    distinct : IsDistinct eqb places
-    each : (q : ℕ) → In q places → (x : X) × In x xs × StandsAt x q × (q < n)
+  record Positioned (xs : List X) : Type 0 where
+    positions : List ℕ
+    long : length positions ≡ length xs
+    distinct : IsDistinct eqb positions
+    each : (q : ℕ) → In q positions → (x : X) × In x xs × StandsAt x q × (q < n)
 
   all_other : (i : ℕ) (js : List ℕ) → (In i js → ⊥) → AllByRecursion (λ j. eqb i j ≡ false) js
   all_other i [] out = tt
@@ -200,19 +200,20 @@ module _ {X : Type 0} (eq : X → X → Bool) (equality : IsEquality eq) (n : �
   none_equal x (y ∷ ys) other (inl same) = true≢false (sym ((equality x y).1 same) ∙ other.0)
   none_equal x (y ∷ ys) other (inr rest) = none_equal x ys other.1 rest
 
-  placed : (xs : List X) → IsDistinct eq xs
-      → ((x : X) → In x xs → (i : ℕ) × StandsAt x i × (i < n)) → Placed xs
+  positioned : (xs : List X) → IsDistinct eq xs
+      → ((x : X) → In x xs → (i : ℕ) × StandsAt x i × (i < n)) → Positioned xs
   unfolding IsDistinct
-  placed [] distinct where_is =
-      record { places = []; long = refl; distinct = tt; each = λ q is. absurd is }
-  placed (x ∷ xs) distinct where_is =
+  positioned [] distinct where_is =
+      record { positions = []; long = refl; distinct = tt; each = λ q is. absurd is }
+  positioned (x ∷ xs) distinct where_is =
       let here = where_is x (inl refl) in
-      let rest = placed xs distinct.1 (λ y is. where_is y (inr is)) in
+      let rest = positioned xs distinct.1 (λ y is. where_is y (inr is)) in
       record {
-        places = here.0 ∷ rest.places;
+        positions = here.0 ∷ rest.positions;
         long = ap suc rest.long;
         distinct = (
-          all_other here.0 rest.places (λ has. let other = rest.each here.0 has in none_equal x xs
+          all_other here.0 rest.positions
+              (λ has. let other = rest.each here.0 has in none_equal x xs
               distinct.0 (subst (λ v. In v xs) (alone other.0 x here.0 other.2 here.1) other.1)),
           rest.distinct,
         );
@@ -227,9 +228,9 @@ module _ {X : Type 0} (eq : X → X → Bool) (equality : IsEquality eq) (n : �
   pub length-le_from_apart : (xs : List X) → IsDistinct eq xs
       → ((x : X) → In x xs → (i : ℕ) × StandsAt x i × (i < n)) → length xs ≤ n
   length-le_from_apart xs distinct where_is =
-      let all = placed xs distinct where_is in
-      let few = length-le_from_distinct_below all.places n all.distinct
-      (λ q found. (all.each q (In-from_any eqb Decides-eqb q all.places found)).3) in
+      let all = positioned xs distinct where_is in
+      let few = length-le_from_distinct_below all.positions n all.distinct
+      (λ q found. (all.each q (In-from_any eqb Decides-eqb q all.positions found)).3) in
       omega (arith, few, all.long)
 
 module _ {A : Type 0} where

@@ -23,7 +23,7 @@ module _ {X Y : Type 0} (eq : X → X → Bool) (equality : IsEquality eq)
       same_from_decides (eq' (g x) (g y)) (eq x y) (equality' (g x) (g y))
       (λ is. ap g ((equality x y).0 is), λ same. (equality x y).1 (apart x y x-ok y-ok same))
 
-  -- an element and its name stand at one place
+  -- an element and its name stand at one position
   pub position-map : (x : X) (xs : List X) → P x → ((y : X) → In y xs → P y)
       → position_or_len (eq' (g x)) (map g xs) ≡ position_or_len (eq x) xs
   position-map x [] x-ok ok = refl

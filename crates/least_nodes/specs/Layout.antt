@@ -44,7 +44,7 @@ module _ {A : Type 0} where
     abbrev pub leaf_order : Tree A → List A
     leaf_order t = each_once eq [] (leaves t)
 
-    -- the record for a tree: its answer, or its place among the nodes
+    -- the record for a tree: its answer, or its index among the nodes
     abbrev pub member : List (Tree A) → Tree A → Member A
     member nodes (leaf a) = says a
     member nodes (node l r) = at (position_or_len (tree_eq eq (node l r)) nodes)

@@ -6,8 +6,6 @@ pub mod laws;
 mod layout;
 mod node_set;
 mod seen;
-#[cfg(test)]
-mod tests;
 
 pub use layout::{Layout, order};
 pub use node_set::NodeSet;

@@ -10,8 +10,8 @@ use Rattle.std.specs.Map.{lookup}
 use Rattle.std.proofs.lemmas.List.{take_at, take-map}
 use Rattle.indexmap.specs.IndexMap.{insert_entry}
 use Rattle.byteorder.proofs.Bytes.{between-bytes_high_first}
-use Rattle.mmdb_data.specs.Tree.{Tree, Members, Items, map, list, members_len, items_len}
-use Rattle.mmdb_data.specs.Tree.{CanBePacked, IsWithinLimits}
+use Rattle.mmdb_data.specs.ValueTree.{ValueTree, Members, Items, map, list, members_len, items_len}
+use Rattle.mmdb_data.specs.ValueTree.{CanBePacked, IsWithinLimits}
 use Rattle.mmdb_data.specs.Reading.{reads}
 use Rattle.mmdb_data.specs.Spelling.{head, spelling}
 use Rattle.mmdb_data.specs.Packing.{Packed, nothing_packed, offset_of, with_bytes, noted}
@@ -96,7 +96,7 @@ list_packed (Ok x) new mid old len items is_len first second =
 list_packed (Err e) new mid old len items is_len first second = tt
 
 -- a value that is known is not noted again
-pub known_full : {T E : Type 0} (r : Result T E) (value : Tree) (new old : Packed)
+pub known_full : {T E : Type 0} (r : Result T E) (value : ValueTree) (new old : Packed)
     → is_some (offset_of (spelling value) old) ≡ true → OnOk r (new ≡ content_in value old)
     → OnOk r (new ≡ in_full value old)
 known_full (Ok x) value new old known is =
@@ -110,13 +110,14 @@ none_from : (r : Option ℕ) → is_some r ≡ false → r ≡ None
 none_from None h = refl
 none_from (Some at) h = absurd cc
 
-pub still_unknown : (value : Tree) (old mid : Packed) (spelled : List ℕ) → spelled ≡ spelling value
+pub still_unknown : (value : ValueTree) (old mid : Packed) (spelled : List ℕ) → spelled
+    ≡ spelling value
     → mid ≡ content_in value old → is_some (offset_of (spelling value) old) ≡ false
     → offset_of spelled mid ≡ None
 still_unknown value old mid spelled is mid_is unknown =
     rw (is, mid_is) (own_offset value old ∙ none_from (offset_of (spelling value) old) unknown)
 
-pub new_full : {T E : Type 0} (r : Result T E) (value : Tree) (new mid old : Packed)
+pub new_full : {T E : Type 0} (r : Result T E) (value : ValueTree) (new mid old : Packed)
     (spelled : List ℕ) (at : ℕ) → spelled ≡ spelling value → at ≡ length old.bytes
     → mid ≡ content_in value old
     → OnOk r (new ≡ noted spelled at mid) → OnOk r (new ≡ in_full value old)
@@ -136,9 +137,9 @@ pub low_bytes : (n len : ℕ) → len ≤ 4
 low_bytes n len few = between-bytes_high_first 4 len n few
 
 -- reading where a value was put
-pub put_reads : (value : Tree) (old new : Packed) (at : ℕ) → new ≡ in_full value old
+pub put_reads : (value : ValueTree) (old new : Packed) (at : ℕ) → new ≡ in_full value old
     → at ≡ length old.bytes → CanBePacked value
-    → (before : List Tree) (later : List ℕ) → All CanBePacked before
+    → (before : List ValueTree) (later : List ℕ) → All CanBePacked before
     → old ≡ all_in_full before nothing_packed → IsWithinLimits value
     → reads (new.bytes ++ later) at ≡ Ok value
 put_reads value old new at new_is at_is can before later all old_is within =

@@ -8,10 +8,11 @@ use Rattle.std.proofs.lemmas.List.{length-take-le, length-drop}
 use Rattle.std.specs.Str.{is_utf8}
 use Rattle.mmdb_data.specs.declared.fault.DataCause.TheVariants.{Truncated, PointerToPointer}
 use Rattle.mmdb_data.specs.declared.fault.DataCause.TheVariants.{OutOfSection, Key, Many, Utf8}
-use Rattle.mmdb_data.specs.Tree.{Tree, Members, Items, map, list, text, bytes, u16, u32, i32, u64}
-use Rattle.mmdb_data.specs.Tree.{u128, bool, double, float, no_members, member, no_items, item}
-use Rattle.mmdb_data.specs.Tree.{depth, members_depth, items_depth, count, members_count}
-use Rattle.mmdb_data.specs.Tree.{items_count, bytes_in, members_bytes, items_bytes}
+use Rattle.mmdb_data.specs.ValueTree.{ValueTree, Members, Items, map, list, text, bytes, u16, u32}
+use Rattle.mmdb_data.specs.ValueTree.{i32, u64}
+use Rattle.mmdb_data.specs.ValueTree.{u128, bool, double, float, no_members, member, no_items, item}
+use Rattle.mmdb_data.specs.ValueTree.{depth, members_depth, items_depth, count, members_count}
+use Rattle.mmdb_data.specs.ValueTree.{items_count, bytes_in, members_bytes, items_bytes}
 use Rattle.mmdb_data.specs.Reading.{◌>>=◌, Fault, Budget, left_of, Read, Scalar, scalar_of}
 use Rattle.mmdb_data.specs.Reading.{one_less, byte_from, bytes_from, head_from, pointer_from}
 use Rattle.mmdb_data.specs.Reading.{key_of, members_from, items_from, scalar_bytes_from}
@@ -54,7 +55,7 @@ ok_is x y e = cc
 
 -- ---- one value
 
-record IsOne (value : Tree) : Type 0 where
+record IsOne (value : ValueTree) : Type 0 where
   pub depth_is : depth value ≡ 1
   pub count_is : count value ≡ 1
   pub light : bytes_in value ≡ 0
@@ -64,7 +65,7 @@ abbrev AreOne : Option Scalar → Type 0
 AreOne None = Unit {0}
 AreOne (Some scalar) = (content : List ℕ) → IsOne (scalar.value content)
 
-one : {value : Tree} → depth value ≡ 1 → count value ≡ 1 → bytes_in value ≡ 0 → IsOne value
+one : {value : ValueTree} → depth value ≡ 1 → count value ≡ 1 → bytes_in value ≡ 0 → IsOne value
 one d c l = record { depth_is = d; count_is = c; light = l }
 
 either_one : (b : Bool) (x y : Option Scalar) → AreOne x → AreOne y → AreOne (cond b x y)
@@ -84,7 +85,7 @@ scalars_are_one kind =
 
 value_is_one : (section : List ℕ) (is_key : Bool) (at : ℕ) (scalar : Option Scalar)
     (size offset : ℕ)
-    (value : Tree) → AreOne scalar
+    (value : ValueTree) → AreOne scalar
     → scalar_value_from section is_key at scalar size offset ≡ Ok value → IsOne value
 value_is_one section is_key at None size offset value h e = absurd cc
 value_is_one section is_key at (Some scalar) size offset value h e =
@@ -144,14 +145,14 @@ byte_string_spent section is_key at size offset left found e =
     subst (λ (x : List ℕ × Budget). AreSpent x.0 left x.1) same
     (content_spent section at size offset left b.0 b.1)
 
--- one value, one level deep, and what it spent beside its place among the values
-record IsLeaf (value : Tree) (before after : Budget) : Type 0 where
+-- one value, one level deep, and what it spent beside being one of the values
+record IsLeaf (value : ValueTree) (before after : Budget) : Type 0 where
   pub depth_is : depth value ≡ 1
   pub count_is : count value ≡ 1
   pub values_stay : after.values ≡ before.values
   pub bytes_spent : bytes_in value + after.bytes ≡ before.bytes
 
-leaf : {value : Tree} {before after : Budget} → IsOne value → after ≡ before
+leaf : {value : ValueTree} {before after : Budget} → IsOne value → after ≡ before
     → IsLeaf value before after
 leaf {before = before} h same =
     record {
@@ -164,7 +165,7 @@ leaf {before = before} h same =
     }
 
 leaf_is_one : (section : List ℕ) (is_key : Bool) (at kind size offset : ℕ) (left : Budget)
-    (found : Tree × ℕ × Budget) → leaf_from section is_key at kind size offset left ≡ Ok found
+    (found : ValueTree × ℕ × Budget) → leaf_from section is_key at kind size offset left ≡ Ok found
     → IsLeaf found.0 left found.2
 unfolding leaf_from scalar_from
 leaf_is_one section is_key at kind size offset left found e =
@@ -172,7 +173,7 @@ leaf_is_one section is_key at kind size offset left found e =
       | inl a ↦ let b = bind_ok (text_from section at size offset left)
           (λ x. Ok (text x.0, offset + size, x.1)) found a.1 in
           let h = text_spent section at size offset left b.0 b.1 in
-          subst (λ (x : Tree × ℕ × Budget). IsLeaf x.0 left x.2)
+          subst (λ (x : ValueTree × ℕ × Budget). IsLeaf x.0 left x.2)
           (ok_is (text b.0.0, offset + size, b.0.1) found b.2)
           (record {
             depth_is = refl;
@@ -185,7 +186,7 @@ leaf_is_one section is_key at kind size offset left found e =
         | inl b ↦ let c = bind_ok (byte_string_from section is_key at size offset left)
             (λ x. Ok (bytes x.0, offset + size, x.1)) found b.1 in
             let h = byte_string_spent section is_key at size offset left c.0 c.1 in
-            subst (λ (x : Tree × ℕ × Budget). IsLeaf x.0 left x.2)
+            subst (λ (x : ValueTree × ℕ × Budget). IsLeaf x.0 left x.2)
             (ok_is (bytes c.0.0, offset + size, c.0.1) found c.2)
             (record {
               depth_is = refl;
@@ -196,11 +197,11 @@ leaf_is_one section is_key at kind size offset left found e =
         | inr b ↦ elim (chosen (eqb kind 14) _ _ (Ok found) b.1) [
           | inl c ↦ let d = bind_ok (bool_from is_key at size)
               (λ v. Ok (bool v, offset, left)) found c.1 in
-              subst (λ (x : Tree × ℕ × Budget). IsLeaf x.0 left x.2)
+              subst (λ (x : ValueTree × ℕ × Budget). IsLeaf x.0 left x.2)
               (ok_is (bool d.0, offset, left) found d.2) (leaf (one refl refl refl) refl)
           | inr c ↦ let d = bind_ok (scalar_value_from section is_key at
               (scalar_of kind) size offset) (λ v. Ok (v, offset + size, left)) found c.1 in
-              subst (λ (x : Tree × ℕ × Budget). IsLeaf x.0 left x.2)
+              subst (λ (x : ValueTree × ℕ × Budget). IsLeaf x.0 left x.2)
               (ok_is (d.0, offset + size, left) found d.2)
               (leaf (value_is_one section is_key at (scalar_of kind) size offset d.0
               (scalars_are_one kind) d.1) refl)
@@ -210,7 +211,7 @@ leaf_is_one section is_key at kind size offset left found e =
 
 -- ---- values, by the levels that are left
 
-record IsWithin (levels : ℕ) (value : Tree) (before after : Budget) : Type 0 where
+record IsWithin (levels : ℕ) (value : ValueTree) (before after : Budget) : Type 0 where
   pub deep : depth value ≤ levels
   pub spent : count value + after.values ≡ before.values
   pub bytes_spent : bytes_in value + after.bytes ≡ before.bytes
@@ -226,10 +227,11 @@ record ItemsAreWithin (levels : ℕ) (items : Items) (before after : Budget) : T
   pub bytes_spent : items_bytes items + after.bytes ≡ before.bytes
 
 abbrev StaysWithin : ℕ → Read → Type 0
-StaysWithin levels read = (is_key : Bool) (at : ℕ) (left : Budget) (found : Tree × ℕ × Budget)
+StaysWithin levels read = (is_key : Bool) (at : ℕ) (left : Budget) (found : ValueTree × ℕ × Budget)
     → read is_key at left ≡ Ok found → IsWithin levels found.0 left found.2
 
-key_is : (offset : ℕ) (key : Tree) (name : List ℕ) → key_of offset key ≡ Ok name → key ≡ text name
+key_is : (offset : ℕ) (key : ValueTree) (name : List ℕ) → key_of offset key ≡ Ok name → key
+    ≡ text name
 key_is offset (text content) name e = ap text (ok_is content name e)
 key_is offset (map pairs) name e = absurd cc
 key_is offset (list values) name e = absurd cc
@@ -267,7 +269,7 @@ members_within levels read within (suc n) offset left found e =
     (λ rest. Ok (member name value.0 rest.0, rest.1, rest.2)) found c.2 in
     let rest = d.0 in
     let first : IsWithin levels (text name) left key.2 =
-    subst (λ (k : Tree). IsWithin levels k left key.2) (key_is offset key.0 name b.1)
+    subst (λ (k : ValueTree). IsWithin levels k left key.2) (key_is offset key.0 name b.1)
     (within true offset left key a.1) in
     let second = within false key.1 key.2 value c.1 in
     let others = members_within levels read within n value.1 value.2 rest d.1 in
@@ -309,14 +311,14 @@ items_within levels read within (suc n) offset left found e =
     })
 
 -- one value more than its parts, one level deeper
-record IsOneMore (levels : ℕ) (value : Tree) (before after : Budget) : Type 0 where
+record IsOneMore (levels : ℕ) (value : ValueTree) (before after : Budget) : Type 0 where
   pub deep : depth value ≤ suc levels
   pub spent : count value + after.values ≡ suc before.values
   pub bytes_spent : bytes_in value + after.bytes ≡ before.bytes
 
 content_within : (levels : ℕ) (read : Read) → StaysWithin levels read
     → (section : List ℕ) (is_key : Bool) (at kind size offset : ℕ) (left : Budget)
-    (found : Tree × ℕ × Budget)
+    (found : ValueTree × ℕ × Budget)
     → content_from read section is_key at kind size offset left ≡ Ok found
     → IsOneMore levels found.0 left found.2
 unfolding content_from
@@ -326,7 +328,7 @@ content_within levels read within section is_key at kind size offset left found 
           let b = bind_ok (members_from read size offset left)
           (λ x. Ok (map x.0, x.1, x.2)) found p in
           let h = members_within levels read within size offset left b.0 b.1 in
-          subst (λ (x : Tree × ℕ × Budget). IsOneMore levels x.0 left x.2)
+          subst (λ (x : ValueTree × ℕ × Budget). IsOneMore levels x.0 left x.2)
           (ok_is (map b.0.0, b.0.1, b.0.2) found b.2)
           (record {
             deep = omega (arith, h.deep);
@@ -339,7 +341,7 @@ content_within levels read within section is_key at kind size offset left found 
             let b = bind_ok (items_from read size offset left)
             (λ x. Ok (list x.0, x.1, x.2)) found p in
             let h = items_within levels read within size offset left b.0 b.1 in
-            subst (λ (x : Tree × ℕ × Budget). IsOneMore levels x.0 left x.2)
+            subst (λ (x : ValueTree × ℕ × Budget). IsOneMore levels x.0 left x.2)
             (ok_is (list b.0.0, b.0.1, b.0.2) found b.2)
             (record {
               deep = omega (arith, h.deep);
@@ -357,7 +359,7 @@ content_within levels read within section is_key at kind size offset left found 
     ]
 
 plain_within : (levels : ℕ) (read : Read) → StaysWithin levels read
-    → (section : List ℕ) (is_key : Bool) (at : ℕ) (left : Budget) (found : Tree × ℕ × Budget)
+    → (section : List ℕ) (is_key : Bool) (at : ℕ) (left : Budget) (found : ValueTree × ℕ × Budget)
     → plain_from read section is_key at left ≡ Ok found → IsOneMore levels found.0 left found.2
 unfolding plain_from
 plain_within levels read within section is_key at left found e =
@@ -367,7 +369,7 @@ plain_within levels read within section is_key at left found e =
 
 target_within : (levels : ℕ) (read : Read) → StaysWithin levels read
     → (section : List ℕ) (is_key : Bool) (at control : ℕ) (left : Budget)
-    (found : Tree × ℕ × Budget)
+    (found : ValueTree × ℕ × Budget)
     → target_from read section is_key at control left ≡ Ok found
     → IsOneMore levels found.0 left found.2
 unfolding target_from
@@ -378,7 +380,7 @@ target_within levels read within section is_key at control left found e =
     let c = bind_ok (plain_from read section is_key a.0.0 left)
     (λ x. Ok (x.0, a.0.1, x.2)) found p in
     let h = plain_within levels read within section is_key a.0.0 left c.0 c.1 in
-    subst (λ (x : Tree × ℕ × Budget). IsOneMore levels x.0 left x.2)
+    subst (λ (x : ValueTree × ℕ × Budget). IsOneMore levels x.0 left x.2)
     (ok_is (c.0.0, a.0.1, c.0.2) found c.2) h
 
 record IsOneLess (before after : Budget) : Type 0 where
@@ -419,7 +421,7 @@ value_within section (suc levels) is_key at left found e =
     }
 
 -- what is read has at most 32 levels, 100,000 values and 67,108,864 bytes
-pub are_bounded : (section : List ℕ) (at : ℕ) (value : Tree) → reads section at ≡ Ok value
+pub are_bounded : (section : List ℕ) (at : ℕ) (value : ValueTree) → reads section at ≡ Ok value
     → (depth value ≤ 32) × (count value ≤ 100000) × (bytes_in value ≤ 67108864)
 unfolding reads
 are_bounded section at value e =
@@ -427,5 +429,5 @@ are_bounded section at value e =
     let b = bind_ok (value_from section 32 false at (left_of 100000 67108864))
     (λ found. Ok found.0) value p in
     let h = value_within section 32 false at (left_of 100000 67108864) b.0 b.1 in
-    subst (λ (v : Tree). (depth v ≤ 32) × (count v ≤ 100000) × (bytes_in v ≤ 67108864))
+    subst (λ (v : ValueTree). (depth v ≤ 32) × (count v ≤ 100000) × (bytes_in v ≤ 67108864))
     (ok_is b.0.0 value b.2) (h.deep, omega (arith, h.spent), omega (arith, h.bytes_spent))

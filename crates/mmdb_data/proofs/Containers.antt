@@ -1,10 +1,12 @@
 -- Maps and lists whose parts stand one after the other.
 use Rattle.std.proofs.Common.{◌≡◌, ℕ, ◌+◌, ◌≤◌, Bool, true, false, List, ◌++◌, length, drop, Ok}
 use Rattle.std.proofs.Common.{refl, arith}
-use Rattle.mmdb_data.specs.Tree.{Tree, Members, Items, map, list, text, no_members, member}
-use Rattle.mmdb_data.specs.Tree.{no_items, item, members_len, items_len, members_depth, items_depth}
-use Rattle.mmdb_data.specs.Tree.{count, members_count, items_count, bytes_in, members_bytes}
-use Rattle.mmdb_data.specs.Tree.{items_bytes, most}
+use Rattle.mmdb_data.specs.ValueTree.{ValueTree, Members, Items, map, list, text, no_members}
+use Rattle.mmdb_data.specs.ValueTree.{member}
+use Rattle.mmdb_data.specs.ValueTree.{no_items, item, members_len, items_len, members_depth}
+use Rattle.mmdb_data.specs.ValueTree.{items_depth}
+use Rattle.mmdb_data.specs.ValueTree.{count, members_count, items_count, bytes_in, members_bytes}
+use Rattle.mmdb_data.specs.ValueTree.{items_bytes, most}
 use Rattle.mmdb_data.specs.Spelling.{head}
 use Rattle.mmdb_data.specs.Reading.{left_of, members_from, items_from, content_from, value_from}
 use Rattle.mmdb_data.proofs.Values.{MayStand, StandsFull, Stands, full_from_head}
@@ -33,7 +35,8 @@ none_left section at levels n m b c deep few light =
     let c_is : c ≡ m = omega (arith, light) in
     rw (b_is, c_is) refl
 
-pub member_stands : (section key : List ℕ) (value : Tree) (later : Members) (at : ℕ) {p q after : ℕ}
+pub member_stands : (section key : List ℕ) (value : ValueTree) (later : Members) (at : ℕ)
+    {p q after : ℕ}
     → Stands section (text key) at p → Stands section value p q → MembersStand section later q after
     → MembersStand section (member key value later) at after
 member_stands section key value later at one two others levels n m b c deep few light =
@@ -46,7 +49,7 @@ member_stands section key value later at one two others levels n m b c deep few 
     let rest_found = others levels n m n2 m2 (omega (arith, deep)) refl refl in
     rw (key_found, value_found, rest_found) refl
 
-pub item_stands : (section : List ℕ) (value : Tree) (later : Items) (at : ℕ) {p after : ℕ}
+pub item_stands : (section : List ℕ) (value : ValueTree) (later : Items) (at : ℕ) {p after : ℕ}
     → Stands section value at p → ItemsStand section later p after
     → ItemsStand section (item value later) at after
 item_stands section value later at one others levels n m b c deep few light =

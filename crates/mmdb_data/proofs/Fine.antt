@@ -4,11 +4,14 @@ use Rattle.std.proofs.Common.{arith}
 use Rattle.std.specs.Prelude.{◌&&◌}
 use Rattle.std.proofs.lemmas.Bool.{ltb-true, leb-true, lt-ltb, le-leb, and_parts, and_from}
 use Rattle.std.proofs.lemmas.Bool.{and_left, and_right, lt-leb}
-use Rattle.mmdb_data.specs.Tree.{Tree, Members, Items, map, list, text, bytes, u16, u32, i32, u64}
-use Rattle.mmdb_data.specs.Tree.{u128, bool, double, float, no_members, member, no_items, item}
-use Rattle.mmdb_data.specs.Tree.{members_len, items_len, depth, members_depth, items_depth, most}
-use Rattle.mmdb_data.specs.Tree.{IsNarrow, MembersAreNarrow, ItemsAreNarrow, CanBeSpelled, fits_in}
-use Rattle.mmdb_data.specs.Tree.{members_fit, items_fit}
+use Rattle.mmdb_data.specs.ValueTree.{ValueTree, Members, Items, map, list, text, bytes, u16, u32}
+use Rattle.mmdb_data.specs.ValueTree.{i32, u64}
+use Rattle.mmdb_data.specs.ValueTree.{u128, bool, double, float, no_members, member, no_items, item}
+use Rattle.mmdb_data.specs.ValueTree.{members_len, items_len, depth, members_depth, items_depth}
+use Rattle.mmdb_data.specs.ValueTree.{most}
+use Rattle.mmdb_data.specs.ValueTree.{IsNarrow, MembersAreNarrow, ItemsAreNarrow, CanBeSpelled}
+use Rattle.mmdb_data.specs.ValueTree.{fits_in}
+use Rattle.mmdb_data.specs.ValueTree.{members_fit, items_fit}
 
 -- the three tests of a map or a list
 pub all_three : (levels len : ℕ) (inner : Bool) → 0 < levels → len ≤ most
@@ -23,7 +26,7 @@ too_many levels len inner many =
     (and_left (leb len most) inner (lt-leb len most many)))
 
 mutual
-  is_fine : (value : Tree) (levels : ℕ) → fits_in value levels ≡ true
+  is_fine : (value : ValueTree) (levels : ℕ) → fits_in value levels ≡ true
       → IsNarrow value × (depth value ≤ levels)
   is_fine (map members) levels e =
       let a = and_parts (ltb 0 levels)
@@ -77,7 +80,7 @@ mutual
       ((one.0, rest.0), omega (arith, one.1, rest.1))
 
 mutual
-  fine_fits : (value : Tree) (levels : ℕ) → IsNarrow value → depth value ≤ levels
+  fine_fits : (value : ValueTree) (levels : ℕ) → IsNarrow value → depth value ≤ levels
       → fits_in value levels ≡ true
   fine_fits (map members) levels narrow deep =
       and_from (ltb 0 levels) (leb (members_len members) most && members_fit members (levels - 1))
@@ -126,8 +129,8 @@ mutual
       (fine_fits value levels narrow.0 (omega arith))
       (fine_items_fit others levels narrow.1 (omega arith))
 
-pub fits_means : (value : Tree) → fits_in value 32 ≡ true → CanBeSpelled value
+pub fits_means : (value : ValueTree) → fits_in value 32 ≡ true → CanBeSpelled value
 fits_means value e = is_fine value 32 e
 
-pub fits_when : (value : Tree) → CanBeSpelled value → fits_in value 32 ≡ true
+pub fits_when : (value : ValueTree) → CanBeSpelled value → fits_in value 32 ≡ true
 fits_when value fits = fine_fits value 32 fits.0 fits.1

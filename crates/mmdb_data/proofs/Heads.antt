@@ -5,7 +5,7 @@ use Rattle.std.proofs.Common.{length, drop, Ok, refl, ap, ◌∙◌, append_asso
 use Rattle.std.proofs.lemmas.Bool.{lt-ltb, le-ltb, ne_eqb, cases_lt}
 use Rattle.std.proofs.lemmas.List.{length-append}
 use Rattle.mmdb_data.specs.declared.fault.DataCause.TheVariants.{Truncated}
-use Rattle.mmdb_data.specs.Tree.{most}
+use Rattle.mmdb_data.specs.ValueTree.{most}
 use Rattle.mmdb_data.specs.Spelling.{size_code, size_bytes, kind_bytes, head}
 use Rattle.mmdb_data.specs.Reading.{Fault, byte_from, kind_from, size_from, head_from, is_pointer}
 use Rattle.mmdb_data.proofs.Offsets.{moved, byte_here, number_here}

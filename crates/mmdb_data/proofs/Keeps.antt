@@ -7,8 +7,9 @@ use Rattle.std.specs.Cmp.Lexicographic.{pointwise, bytes_decides}
 use Rattle.std.specs.Map.{lookup}
 use Rattle.std.proofs.lemmas.Bool.{lt-ltb, le-ltb, cases_lt, false_from_ne_true}
 use Rattle.std.proofs.lemmas.List.{length-append}
-use Rattle.mmdb_data.specs.Tree.{Tree, Members, Items, map, list, no_members, member, no_items}
-use Rattle.mmdb_data.specs.Tree.{item, members_len, items_len}
+use Rattle.mmdb_data.specs.ValueTree.{ValueTree, Members, Items, map, list, no_members, member}
+use Rattle.mmdb_data.specs.ValueTree.{no_items}
+use Rattle.mmdb_data.specs.ValueTree.{item, members_len, items_len}
 use Rattle.mmdb_data.specs.Spelling.{kind_bytes, head, sized, spelling, members_spelling}
 use Rattle.mmdb_data.specs.Spelling.{items_spelling}
 use Rattle.mmdb_data.specs.Packing.{Packed, offset_of, with_bytes, noted, full_by, shorter_pointer}
@@ -73,7 +74,7 @@ head_has_byte kind size =
     ]
 
 mutual
-  pub content_keeps : (value : Tree) (n : ℕ) → length (spelling value) ≤ n
+  pub content_keeps : (value : ValueTree) (n : ℕ) → length (spelling value) ≤ n
       → KeepsFrom n (content_in value)
   content_keeps (map members) n short other section long =
       let front = head 7 (members_len members) in
@@ -118,7 +119,7 @@ mutual
       (content_keeps value n (omega (arith, short, whole))) other section long
 
 -- the value's own spelling is as known after its content as before
-pub own_offset : (value : Tree) (section : Packed)
+pub own_offset : (value : ValueTree) (section : Packed)
     → offset_of (spelling value) (content_in value section) ≡ offset_of (spelling value) section
 own_offset value section = content_keeps value (length (spelling value)) (omega arith)
     (spelling value) section (omega arith)
@@ -138,7 +139,7 @@ lookup-stays test (e ∷ entries) more at h =
     stays_by test true k entries more at h inner = h
     stays_by test false k entries more at h inner = inner h
 
-pub offsets_stay : (spelled : List ℕ) (value : Tree) (section : Packed) (at : ℕ)
+pub offsets_stay : (spelled : List ℕ) (value : ValueTree) (section : Packed) (at : ℕ)
     → offset_of spelled section ≡ Some at → offset_of spelled (in_full value section) ≡ Some at
 offsets_stay spelled value section at h =
     let begins = (in_full_grows value section).full in
@@ -165,7 +166,7 @@ noted_new spelled at section none =
     rw none (lookup-new (pointwise nat_eq spelled) section.full spelled at none
     ((bytes_decides spelled spelled).1 refl))
 
-pub new_offset : (value : Tree) (section : Packed) → offset_of (spelling value) section ≡ None
+pub new_offset : (value : ValueTree) (section : Packed) → offset_of (spelling value) section ≡ None
     → offset_of (spelling value) (in_full value section) ≡ Some (length section.bytes)
 new_offset value section none =
     noted_new (spelling value) (length section.bytes) (content_in value section)

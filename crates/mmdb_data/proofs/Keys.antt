@@ -7,7 +7,7 @@ use Rattle.std.proofs.lemmas.Str.{IsUtf8-from_is_utf8}
 use Rattle.mmdb_data.specs.declared.fault.DataCause.TheVariants.{Truncated, PointerToPointer}
 use Rattle.mmdb_data.specs.declared.fault.DataCause.TheVariants.{OutOfSection, Key, Many, Size}
 use Rattle.mmdb_data.specs.declared.fault.DataCause.TheVariants.{Utf8}
-use Rattle.mmdb_data.specs.Tree.{Tree, text, bytes, bool}
+use Rattle.mmdb_data.specs.ValueTree.{ValueTree, text, bytes, bool}
 use Rattle.mmdb_data.specs.Laws.{KeysAreTexts}
 use Rattle.mmdb_data.specs.Reading.{◌>>=◌, Fault, Budget, Read, Scalar, scalar_of, one_less}
 use Rattle.mmdb_data.specs.Reading.{byte_from, bytes_from, head_from, pointer_from}
@@ -17,11 +17,11 @@ use Rattle.mmdb_data.specs.Reading.{leaf_from, content_from, plain_from, target_
 use Rattle.mmdb_data.specs.Reading.{is_pointer}
 use Rattle.mmdb_data.proofs.Bounds.{bind_ok, chosen, passed, ok_is, kept_if}
 
-abbrev IsText : Tree → Type 0
+abbrev IsText : ValueTree → Type 0
 IsText value = (content : List ℕ) × (value ≡ text content) × IsUtf8 content
 
 -- what was found is a text
-abbrev FindsText : Tree × ℕ × Budget → Type 0
+abbrev FindsText : ValueTree × ℕ × Budget → Type 0
 FindsText found = IsText found.0
 
 no_bytes : (section : List ℕ) (at size offset : ℕ) (left : Budget) (found : List ℕ × Budget)
@@ -48,7 +48,8 @@ no_content section at least greatest size offset found e =
     p in
     absurd (let never = b.2 in cc)
 
-no_scalar : (section : List ℕ) (at : ℕ) (scalar : Option Scalar) (size offset : ℕ) (found : Tree)
+no_scalar : (section : List ℕ) (at : ℕ) (scalar : Option Scalar) (size offset : ℕ)
+    (found : ValueTree)
     → scalar_value_from section true at scalar size offset ≡ Ok found → ⊥
 no_scalar section at None size offset found e = absurd cc
 no_scalar section at (Some scalar) size offset found e =
@@ -57,7 +58,7 @@ no_scalar section at (Some scalar) size offset found e =
     no_content section at scalar.least scalar.greatest size offset a.0 a.1
 
 leaf_is_text : (section : List ℕ) (at kind size offset : ℕ) (left : Budget)
-    (found : Tree × ℕ × Budget) → leaf_from section true at kind size offset left ≡ Ok found
+    (found : ValueTree × ℕ × Budget) → leaf_from section true at kind size offset left ≡ Ok found
     → FindsText found
 unfolding leaf_from scalar_from text_from
 leaf_is_text section at kind size offset left found e =
@@ -86,7 +87,7 @@ leaf_is_text section at kind size offset left found e =
     ]
 
 content_is_text : (read : Read) (section : List ℕ) (at kind size offset : ℕ) (left : Budget)
-    (found : Tree × ℕ × Budget)
+    (found : ValueTree × ℕ × Budget)
     → content_from read section true at kind size offset left ≡ Ok found → FindsText found
 unfolding content_from
 content_is_text read section at kind size offset left found e =
@@ -99,7 +100,8 @@ content_is_text read section at kind size offset left found e =
     ]
 
 plain_is_text : (read : Read) (section : List ℕ) (at : ℕ) (left : Budget)
-    (found : Tree × ℕ × Budget) → plain_from read section true at left ≡ Ok found → FindsText found
+    (found : ValueTree × ℕ × Budget) → plain_from read section true at left ≡ Ok found
+    → FindsText found
 unfolding plain_from
 plain_is_text read section at left found e =
     let b = bind_ok (head_from section at)
@@ -107,7 +109,7 @@ plain_is_text read section at left found e =
     content_is_text read section at b.0.0 b.0.1 b.0.2 left found b.2
 
 target_is_text : (read : Read) (section : List ℕ) (at control : ℕ) (left : Budget)
-    (found : Tree × ℕ × Budget) → target_from read section true at control left ≡ Ok found
+    (found : ValueTree × ℕ × Budget) → target_from read section true at control left ≡ Ok found
     → FindsText found
 unfolding target_from
 target_is_text read section at control left found e =

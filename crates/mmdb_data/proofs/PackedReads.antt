@@ -4,7 +4,7 @@ use Rattle.std.proofs.Common.{ap, ◌∙◌, arith, All}
 use Rattle.std.proofs.lemmas.List.Elements.{All-head, All-tail}
 use Rattle.std.specs.Prelude.{slice_index, slice_index_or}
 use Rattle.std.proofs.lemmas.List.{length-append}
-use Rattle.mmdb_data.specs.Tree.{Tree, CanBePacked, CanBeReadBack, IsWithinLimits}
+use Rattle.mmdb_data.specs.ValueTree.{ValueTree, CanBePacked, CanBeReadBack, IsWithinLimits}
 use Rattle.mmdb_data.specs.Reading.{reads}
 use Rattle.mmdb_data.specs.Packing.{Packed, nothing_packed, in_full, all_in_full, packed}
 use Rattle.mmdb_data.specs.Packing.{offsets_in, packed_offsets, Begins}
@@ -16,7 +16,7 @@ use Rattle.mmdb_data.proofs.Packs.{top_appends}
 begins_len : (front whole : List ℕ) → Begins front whole → length front ≤ length whole
 begins_len front whole begins = omega (arith, ap length begins.1, length-append front begins.0)
 
-all_stand : (whole : List ℕ) (values : List Tree) → All CanBePacked values → (before : Packed)
+all_stand : (whole : List ℕ) (values : List ValueTree) → All CanBePacked values → (before : Packed)
     → Begins (all_in_full values before).bytes whole → AllStand whole before.full
     → AllStand whole (all_in_full values before).full
 all_stand whole [] can before begins stand = stand
@@ -29,7 +29,8 @@ all_stand whole (value ∷ values) can before begins stand =
     all_stand whole values (All-tail CanBePacked value values can) next begins one.all
 
 -- a value that is put behind others
-pub put_is_read : (before : List Tree) (value : Tree) (later : List ℕ) → All CanBePacked before
+pub put_is_read : (before : List ValueTree) (value : ValueTree) (later : List ℕ)
+    → All CanBePacked before
     → CanBePacked value → IsWithinLimits value
     → reads ((in_full value (all_in_full before nothing_packed)).bytes ++ later)
     (length (all_in_full before nothing_packed).bytes) ≡ Ok value
@@ -44,7 +45,7 @@ put_is_read before value later all can within =
     let one = top_appends whole value can.0.0 can.1 section begins stand in
     reads_full whole value (length section.bytes) (length next.bytes) one.here can.0.1 within
 
-all_and_one : (values : List Tree) (value : Tree) (section : Packed)
+all_and_one : (values : List ValueTree) (value : ValueTree) (section : Packed)
     → all_in_full (values ++ value ∷ []) section ≡ in_full value (all_in_full values section)
 all_and_one [] value section = refl
 all_and_one (v ∷ values) value section = all_and_one values value (in_full v section)
@@ -54,7 +55,8 @@ packed_back before value later all can within =
     ap (λ (s : Packed). reads (s.bytes ++ later) (length (packed before)))
     (all_and_one before value nothing_packed) ∙ put_is_read before value later all can within
 
-each_in : (whole : List ℕ) (values : List Tree) (default : Tree) → All CanBeReadBack values
+each_in : (whole : List ℕ) (values : List ValueTree) (default : ValueTree)
+    → All CanBeReadBack values
     → (before : Packed) → Begins (all_in_full values before).bytes whole
     → AllStand whole before.full
     → (k : ℕ) → k < length values
@@ -82,7 +84,7 @@ packed_each values default later can k inside =
     each_in (packed values ++ later) values default can nothing_packed
     (begins_append (packed values) later) tt k inside
 
-offsets-le : (values : List Tree) (section : Packed) (k : ℕ)
+offsets-le : (values : List ValueTree) (section : Packed) (k : ℕ)
     → slice_index (offsets_in values section) k ≤ length (all_in_full values section).bytes
 offsets-le [] section k = omega arith
 offsets-le (value ∷ values) section zero =
@@ -91,11 +93,11 @@ offsets-le (value ∷ values) section zero =
 offsets-le (value ∷ values) section (suc k) = offsets-le values (in_full value section) k
 
 -- no value begins behind the section
-pub packed_offsets-le : (values : List Tree) (k : ℕ)
+pub packed_offsets-le : (values : List ValueTree) (k : ℕ)
     → slice_index (packed_offsets values) k ≤ length (packed values)
 packed_offsets-le values k = offsets-le values nothing_packed k
 
-offsets-len : (values : List Tree) (section : Packed)
+offsets-len : (values : List ValueTree) (section : Packed)
     → length (offsets_in values section) ≡ length values
 offsets-len [] section = refl
 offsets-len (value ∷ values) section = ap suc (offsets-len values (in_full value section))

@@ -1,20 +1,21 @@
 -- Data sections that the definition of packing computes.
 use Rattle.std.proofs.Common.{◌≡◌, ℕ, List, [], ◌∷◌, ◌++◌, length, refl}
 use Rattle.std.specs.Prelude.{codes}
-use Rattle.mmdb_data.specs.Tree.{Tree, Members, map, list, text, no_members, member, no_items, item}
+use Rattle.mmdb_data.specs.ValueTree.{ValueTree, Members, map, list, text, no_members, member}
+use Rattle.mmdb_data.specs.ValueTree.{no_items, item}
 use Rattle.mmdb_data.specs.Spelling.{head, sized, kind_bytes, size_code, size_bytes}
 use Rattle.mmdb_data.specs.Packing.{pointer, packed, packed_offsets}
 
-abbrev one : List ℕ → Tree → Members
+abbrev one : List ℕ → ValueTree → Members
 one key value = member key value no_members
 
-abbrev coded : List ℕ → Tree
+abbrev coded : List ℕ → ValueTree
 coded code = map (one (codes "iso_code") (text code))
 
-abbrev city : List ℕ → Tree
+abbrev city : List ℕ → ValueTree
 city name = map (one (codes "names") (map (one (codes "en") (text name))))
 
-abbrev regions : List ℕ → Tree
+abbrev regions : List ℕ → ValueTree
 regions code = list (item (coded code) no_items)
 
 -- a city with a region and a country: the key of the region's code stands already, and so does that

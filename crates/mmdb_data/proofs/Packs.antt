@@ -8,10 +8,11 @@ use Rattle.std.specs.Map.{lookup}
 use Rattle.std.specs.Str.{IsUtf8}
 use Rattle.std.proofs.lemmas.Bool.{ltb-true, and_parts}
 use Rattle.std.proofs.lemmas.List.{length-append, append-nil, drop_at}
-use Rattle.mmdb_data.specs.Tree.{Tree, Members, Items, map, list, text, no_members, member}
-use Rattle.mmdb_data.specs.Tree.{no_items, item, members_len, items_len, most, IsNarrow}
-use Rattle.mmdb_data.specs.Tree.{MembersAreNarrow, ItemsAreNarrow, IsTyped, MembersAreTyped}
-use Rattle.mmdb_data.specs.Tree.{ItemsAreTyped}
+use Rattle.mmdb_data.specs.ValueTree.{ValueTree, Members, Items, map, list, text, no_members}
+use Rattle.mmdb_data.specs.ValueTree.{member}
+use Rattle.mmdb_data.specs.ValueTree.{no_items, item, members_len, items_len, most, IsNarrow}
+use Rattle.mmdb_data.specs.ValueTree.{MembersAreNarrow, ItemsAreNarrow, IsTyped, MembersAreTyped}
+use Rattle.mmdb_data.specs.ValueTree.{ItemsAreTyped}
 use Rattle.mmdb_data.specs.Spelling.{head, sized, spelling}
 use Rattle.mmdb_data.specs.Packing.{pointer, Packed, offset_of, with_bytes, noted, full_by}
 use Rattle.mmdb_data.specs.Packing.{shorter_pointer, pointed_or, part_by, key_part, content_in}
@@ -92,7 +93,7 @@ pub key_grows : (key : List ℕ) → Grows (key_part key)
 key_grows key = part_grows (sized 2 key) (with_bytes (sized 2 key)) (with_bytes_kept (sized 2 key))
 
 mutual
-  pub content_grows : (value : Tree) → Grows (content_in value)
+  pub content_grows : (value : ValueTree) → Grows (content_in value)
   content_grows (map members) section =
       let mid = with_bytes (head 7 (members_len members)) section in
       kept_trans section mid (members_in members mid)
@@ -121,10 +122,10 @@ mutual
       (part_grows (spelling value) (content_in value) (content_grows value) section)
       (items_grow items first)
 
-pub in_full_grows : (value : Tree) → Grows (in_full value)
+pub in_full_grows : (value : ValueTree) → Grows (in_full value)
 in_full_grows value = full_grows (spelling value) (content_in value) (content_grows value)
 
-pub all_grow : (values : List Tree) → Grows (all_in_full values)
+pub all_grow : (values : List ValueTree) → Grows (all_in_full values)
 all_grow [] section = kept_self section
 all_grow (value ∷ values) section =
     kept_trans section (in_full value section) (all_in_full values (in_full value section))
@@ -134,7 +135,7 @@ all_grow (value ∷ values) section =
 
 -- a value of this spelling stands there
 pub record Entry (whole spelled : List ℕ) (at : ℕ) : Type 0 where
-  pub value : Tree
+  pub value : ValueTree
   pub after : ℕ
   pub narrow : IsNarrow value
   pub typed : IsTyped value
@@ -216,7 +217,7 @@ behind_stands whole front more begins =
     ap (drop (length front)) (begins.1 ∙ append_assoc front more begins.0)
     ∙ drop_at front (more ++ begins.0) (length front) refl
 
-pub full_appends : (whole : List ℕ) (value : Tree) (content : Packed → Packed) → IsNarrow value
+pub full_appends : (whole : List ℕ) (value : ValueTree) (content : Packed → Packed) → IsNarrow value
     → IsTyped value → Appends whole (StandsFull whole value) content
     → Appends whole (StandsFull whole value) (full_by (spelling value) content)
 full_appends whole value content narrow typed inner before begins all =
@@ -262,7 +263,7 @@ reached spelled section (Some to) written e h =
       | inr a ↦ absurd cc
     ]
 
-part_of : (whole : List ℕ) (value : Tree) (content : Packed → Packed) → IsNarrow value
+part_of : (whole : List ℕ) (value : ValueTree) (content : Packed → Packed) → IsNarrow value
     → IsTyped value → Appends whole (StandsFull whole value) content
     → (before : Packed) (choice : Option (List ℕ))
     → shorter_pointer (spelling value) (offset_of (spelling value) before) ≡ choice
@@ -278,7 +279,7 @@ part_of whole value content narrow typed inner before (Some written) is begins a
     let e = found_stands whole (spelling value) before.full r.to all r.known in
     let same : e.value ≡ value = spelled_apart e.value value e.narrow narrow e.typed typed
     (sym e.spelled_is) in
-    let full = subst (λ (v : Tree). StandsFull whole v r.to e.after) same e.full in
+    let full = subst (λ (v : ValueTree). StandsFull whole v r.to e.after) same e.full in
     let here = behind_stands whole before.bytes written begins
     ∙ ap (λ (x : List ℕ). x ++ begins.0) r.is in
     let one = pointed (length before.bytes) begins.0 full r.near here in
@@ -288,14 +289,14 @@ part_of whole value content narrow typed inner before (Some written) is begins a
       all = all;
     }
 
-pub part_appends : (whole : List ℕ) (value : Tree) (content : Packed → Packed) → IsNarrow value
+pub part_appends : (whole : List ℕ) (value : ValueTree) (content : Packed → Packed) → IsNarrow value
     → IsTyped value → Appends whole (StandsFull whole value) content
     → Appends whole (Stands whole value) (part_by (spelling value) content)
 part_appends whole value content narrow typed inner before begins all =
     part_of whole value content narrow typed inner before
     (shorter_pointer (spelling value) (offset_of (spelling value) before)) refl begins all
 
-leaf_appends : (whole : List ℕ) (value : Tree) → Again whole value
+leaf_appends : (whole : List ℕ) (value : ValueTree) → Again whole value
     → Appends whole (StandsFull whole value) (with_bytes (spelling value))
 leaf_appends whole value again before begins all =
     record {
@@ -341,7 +342,7 @@ list_appends whole items fits inner before begins all =
       all = one.all;
     }
 
-member_appends : (whole key : List ℕ) (value : Tree) (later : Members) → IsUtf8 key
+member_appends : (whole key : List ℕ) (value : ValueTree) (later : Members) → IsUtf8 key
     → length key ≤ most → IsNarrow value → IsTyped value
     → Appends whole (StandsFull whole value) (content_in value)
     → Appends whole (MembersStand whole later) (members_in later)
@@ -366,7 +367,7 @@ member_appends whole key value later utf8 fits narrow typed inner others before 
       all = three.all;
     }
 
-item_appends : (whole : List ℕ) (value : Tree) (later : Items) → IsNarrow value → IsTyped value
+item_appends : (whole : List ℕ) (value : ValueTree) (later : Items) → IsNarrow value → IsTyped value
     → Appends whole (StandsFull whole value) (content_in value)
     → Appends whole (ItemsStand whole later) (items_in later)
     → Appends whole (ItemsStand whole (item value later)) (items_in (item value later))
@@ -383,7 +384,7 @@ item_appends whole value later narrow typed inner others before begins all =
     }
 
 mutual
-  pub content_appends : (whole : List ℕ) (value : Tree) → IsNarrow value → IsTyped value
+  pub content_appends : (whole : List ℕ) (value : ValueTree) → IsNarrow value → IsTyped value
       → Appends whole (StandsFull whole value) (content_in value)
   content_appends whole (map members) fits typed =
       map_appends whole members fits.0 (members_append whole members fits.1 typed)
@@ -408,7 +409,7 @@ mutual
       item_appends whole value later fits.0 typed.0 (content_appends whole value fits.0 typed.0)
       (items_append whole later fits.1 typed.1)
 
-pub top_appends : (whole : List ℕ) (value : Tree) → IsNarrow value → IsTyped value
+pub top_appends : (whole : List ℕ) (value : ValueTree) → IsNarrow value → IsTyped value
     → Appends whole (StandsFull whole value) (in_full value)
 top_appends whole value narrow typed =
     full_appends whole value (content_in value) narrow typed

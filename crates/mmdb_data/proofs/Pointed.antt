@@ -7,7 +7,7 @@ use Rattle.std.proofs.lemmas.List.{append-nil, drop_at}
 use Rattle.byteorder.specs.Endian.{big_number}
 use Rattle.byteorder.specs.Numbers.{big_from-bytes, length-bytes_high_first}
 use Rattle.mmdb_data.specs.declared.fault.DataCause.TheVariants.{Truncated, Many, OutOfSection}
-use Rattle.mmdb_data.specs.Tree.{Tree}
+use Rattle.mmdb_data.specs.ValueTree.{ValueTree}
 use Rattle.mmdb_data.specs.Reading.{Fault, byte_from, number_from, pointer_from, is_pointer}
 use Rattle.mmdb_data.specs.Reading.{target_from, value_from}
 use Rattle.mmdb_data.specs.Packing.{pointer}
@@ -115,7 +115,7 @@ pointers_back to before after fits =
     pointer_here (before ++ (pointer to ++ after)) (length before) to after fits
     (drop_at before (pointer to ++ after) (length before) refl)
 
-pub pointed : {section : List ℕ} {value : Tree} {to after : ℕ} (at : ℕ) (y : List ℕ)
+pub pointed : {section : List ℕ} {value : ValueTree} {to after : ℕ} (at : ℕ) (y : List ℕ)
     → StandsFull section value to after → to < 2 ^ 32 → drop at section ≡ pointer to ++ y
     → Stands section value at (at + length (pointer to))
 unfolding value_from target_from

@@ -9,11 +9,13 @@ use Rattle.std.proofs.lemmas.Bool.{lt-ltb, ltb-true}
 use Rattle.std.proofs.lemmas.Int.{to_z-of_z, ints}
 use Rattle.std.proofs.lemmas.List.{length-append, append-nil, drop_at}
 use Rattle.byteorder.specs.Endian.{big_number}
-use Rattle.mmdb_data.specs.Tree.{Tree, Members, Items, map, list, text, bytes, u16, u32, i32, u64}
-use Rattle.mmdb_data.specs.Tree.{u128, bool, double, float, no_members, member, no_items, item}
-use Rattle.mmdb_data.specs.Tree.{members_len, items_len, count, depth, bytes_in, most, CanBeSpelled}
-use Rattle.mmdb_data.specs.Tree.{IsWithinLimits, IsNarrow, MembersAreNarrow, ItemsAreNarrow}
-use Rattle.mmdb_data.specs.Tree.{IsTyped, MembersAreTyped, ItemsAreTyped}
+use Rattle.mmdb_data.specs.ValueTree.{ValueTree, Members, Items, map, list, text, bytes, u16, u32}
+use Rattle.mmdb_data.specs.ValueTree.{i32, u64}
+use Rattle.mmdb_data.specs.ValueTree.{u128, bool, double, float, no_members, member, no_items, item}
+use Rattle.mmdb_data.specs.ValueTree.{members_len, items_len, count, depth, bytes_in, most}
+use Rattle.mmdb_data.specs.ValueTree.{CanBeSpelled}
+use Rattle.mmdb_data.specs.ValueTree.{IsWithinLimits, IsNarrow, MembersAreNarrow, ItemsAreNarrow}
+use Rattle.mmdb_data.specs.ValueTree.{IsTyped, MembersAreTyped, ItemsAreTyped}
 use Rattle.mmdb_data.specs.Spelling.{head, sized, without_zeros, spelling, members_spelling}
 use Rattle.mmdb_data.specs.Spelling.{items_spelling}
 use Rattle.mmdb_data.specs.Reading.{Fault, Budget, byte_from, Scalar, unsigned, signed, kept}
@@ -28,7 +30,7 @@ use Rattle.mmdb_data.proofs.Containers.{MembersStand, ItemsStand, no_more, none_
 use Rattle.mmdb_data.proofs.Containers.{item_stands, map_stands, list_stands}
 
 -- wherever it is written it stands
-abbrev pub Again : List ℕ → Tree → Type 0
+abbrev pub Again : List ℕ → ValueTree → Type 0
 Again section value = (at : ℕ) (y : List ℕ) → drop at section ≡ spelling value ++ y
     → StandsFull section value at (at + length (spelling value))
 
@@ -64,7 +66,8 @@ list_again section items fits inner at y here =
     (omega (arith, length-append (head 11 (items_len items)) (items_spelling items)))
 
 -- an unsigned number, in its fewest bytes
-number_is : (section : List ℕ) (kind size n : ℕ) (value : ℕ → Tree) → ((k : ℕ) → IsPlain (value k))
+number_is : (section : List ℕ) (kind size n : ℕ) (value : ℕ → ValueTree)
+    → ((k : ℕ) → IsPlain (value k))
     → spelling (value n) ≡ sized kind (without_zeros (bytes_high_first size n))
     → IsScalar kind (unsigned size value) → n < 256 ^ size → Again section (value n)
 number_is section kind size n value plain spelled is fits at y here =
@@ -76,7 +79,7 @@ number_is section kind size n value plain spelled is fits at y here =
     (number_again size n fits) found) (ap (λ (x : List ℕ). at + length x) (sym spelled))
 
 -- bytes that are their own value
-bytes_are : (section : List ℕ) (kind size : ℕ) (content : List ℕ) (value : List ℕ → Tree)
+bytes_are : (section : List ℕ) (kind size : ℕ) (content : List ℕ) (value : List ℕ → ValueTree)
     → IsPlain (value content) → spelling (value content) ≡ sized kind content
     → IsScalar kind (kept size size value) → length content ≡ size → Again section (value content)
 bytes_are section kind size content value plain spelled is len at y here =
@@ -154,7 +157,7 @@ bool_is section false at y here =
     (record { one = refl; light = refl; no_key = λ may. may }) (omega arith) (omega arith) here
     (λ levels n m. refl)
 
-one_member : (section : List ℕ) (key : List ℕ) (value : Tree) (later : Members) → IsUtf8 key
+one_member : (section : List ℕ) (key : List ℕ) (value : ValueTree) (later : Members) → IsUtf8 key
     → length key ≤ most → Again section value → MembersAgain section later
     → MembersAgain section (member key value later)
 one_member section key value later utf8 fits one others at y here =
@@ -181,7 +184,7 @@ one_member section key value later utf8 fits one others at y here =
     ) in
     subst (λ (k : ℕ). MembersStand section (member key value later) at k) offset whole
 
-one_item : (section : List ℕ) (value : Tree) (items : Items) → Again section value
+one_item : (section : List ℕ) (value : ValueTree) (items : Items) → Again section value
     → ItemsAgain section items → ItemsAgain section (item value items)
 one_item section value items one others at y here =
     let behind_value = here ∙ append_assoc (spelling value) (items_spelling items) y in
@@ -204,7 +207,7 @@ no_item_again section at y here =
     subst (λ (k : ℕ). ItemsStand section no_items at k) (omega arith) (none_left section at)
 
 mutual
-  pub value_again : (section : List ℕ) (value : Tree) → IsNarrow value → IsTyped value
+  pub value_again : (section : List ℕ) (value : ValueTree) → IsNarrow value → IsTyped value
       → Again section value
   value_again section (map members) fits typed =
       map_again section members fits.0 (members_again section members fits.1 typed)
@@ -251,12 +254,12 @@ mutual
 
 -- ---- equal spellings, equal values
 
-value_or : Tree → Result (Tree × ℕ × Budget) Fault → Tree
+value_or : ValueTree → Result (ValueTree × ℕ × Budget) Fault → ValueTree
 value_or other (Ok found) = found.0
 value_or other (Err fault) = other
 
 -- one section that is read as both
-pub spelled_apart : (a b : Tree) → IsNarrow a → IsNarrow b → IsTyped a → IsTyped b
+pub spelled_apart : (a b : ValueTree) → IsNarrow a → IsNarrow b → IsTyped a → IsTyped b
     → spelling a ≡ spelling b → a ≡ b
 unfolding value_or
 spelled_apart a b narrow_a narrow_b typed_a typed_b same =
@@ -287,7 +290,7 @@ inside_if section at control fault e =
     ]
 
 -- what stands at an offset is what reading gives there
-pub reads_full : (section : List ℕ) (value : Tree) (at after : ℕ)
+pub reads_full : (section : List ℕ) (value : ValueTree) (at after : ℕ)
     → StandsFull section value at after → depth value ≤ 32 → IsWithinLimits value
     → reads section at ≡ Ok value
 unfolding reads
@@ -298,7 +301,7 @@ reads_full section value at after h deep within =
     let inside = inside_if section at h.control (at, Truncated) (h.first (at, Truncated)) in
     rw (lt-ltb at (length section) inside, found) refl
 
-pub is_read_again : (value : Tree) (before after : List ℕ) → CanBeSpelled value → IsTyped value
+pub is_read_again : (value : ValueTree) (before after : List ℕ) → CanBeSpelled value → IsTyped value
     → IsWithinLimits value → reads (before ++ (spelling value ++ after)) (length before) ≡ Ok value
 is_read_again value before after fits typed within =
     let section = before ++ (spelling value ++ after) in

@@ -10,7 +10,7 @@ use Rattle.std.proofs.lemmas.List.{length-append}
 use Rattle.byteorder.specs.Endian.{big_number, big_from}
 use Rattle.byteorder.specs.Numbers.{length-bytes_high_first, big_from-cons}
 use Rattle.mmdb_data.specs.declared.fault.DataCause.TheVariants.{Truncated, Many}
-use Rattle.mmdb_data.specs.Tree.{Tree, map, text, bytes, most, depth, count, bytes_in}
+use Rattle.mmdb_data.specs.ValueTree.{ValueTree, map, text, bytes, most, depth, count, bytes_in}
 use Rattle.mmdb_data.specs.Spelling.{head, sized, without_zeros}
 use Rattle.mmdb_data.specs.Reading.{Fault, Budget, Found, left_of, Read, Scalar, one_less}
 use Rattle.mmdb_data.specs.Reading.{byte_from, is_pointer, scalar_of, scalar_from}
@@ -25,32 +25,32 @@ unfolding one_less
 one_less_is n m fault = rw (lt-ltb 0 (suc n) (omega arith))
     (ap (λ (k : ℕ). Ok (left_of k m)) (omega arith))
 
-abbrev found_is : Tree → ℕ → ℕ → ℕ → Found Tree
+abbrev found_is : ValueTree → ℕ → ℕ → ℕ → Found ValueTree
 found_is value after n m = Ok (value, after, left_of n m)
 
 -- the same offset and the same budget in other terms
-same_found : (value : Tree) {p q b n c m : ℕ} → p ≡ q → b ≡ n → c ≡ m
+same_found : (value : ValueTree) {p q b n c m : ℕ} → p ≡ q → b ≡ n → c ≡ m
     → found_is value p b c ≡ found_is value q n m
 same_found value p_is b_is c_is = rw (p_is, b_is, c_is) refl
 
 -- every value is one at least, and at least one level deep
-pub some_levels : (value : Tree) → 0 < depth value
+pub some_levels : (value : ValueTree) → 0 < depth value
 some_levels (map pairs) = omega arith
 some_levels _ = omega arith
 
-pub some_values : (value : Tree) → 0 < count value
+pub some_values : (value : ValueTree) → 0 < count value
 some_values (map pairs) = omega arith
 some_values _ = omega arith
 
 -- as a key only a text may stand
-abbrev pub MayStand : Bool → Tree → Type 0
+abbrev pub MayStand : Bool → ValueTree → Type 0
 MayStand false value = Unit {0}
 MayStand true (text content) = Unit {0}
 MayStand true _ = ⊥
 
 -- the value stands from `at` to `after`, as it is and through no pointer, and is read there
 -- whatever may be spent beyond it
-pub record StandsFull (section : List ℕ) (value : Tree) (at after : ℕ) : Type 0 where
+pub record StandsFull (section : List ℕ) (value : ValueTree) (at after : ℕ) : Type 0 where
   pub control : ℕ
   pub first : (fault : Fault) → byte_from section at fault ≡ Ok control
   pub no_pointer : is_pointer control ≡ false
@@ -60,12 +60,13 @@ pub record StandsFull (section : List ℕ) (value : Tree) (at after : ℕ) : Typ
       (value, after, left_of n m)
 
 -- the value is read from `at` to `after`, where it stands or a pointer to it does
-abbrev pub Stands : List ℕ → Tree → ℕ → ℕ → Type 0
+abbrev pub Stands : List ℕ → ValueTree → ℕ → ℕ → Type 0
 Stands section value at after = (levels : ℕ) (is_key : Bool) (n m b c : ℕ) → MayStand is_key value
     → depth value ≤ levels → b ≡ count value + n → c ≡ bytes_in value + m
     → value_from section levels is_key at (left_of b c) ≡ Ok (value, after, left_of n m)
 
-pub stands : {section : List ℕ} {value : Tree} {at after : ℕ} → StandsFull section value at after
+pub stands : {section : List ℕ} {value : ValueTree} {at after : ℕ}
+    → StandsFull section value at after
     → Stands section value at after
 unfolding value_from
 stands {value = value} h zero is_key n m b c may deep few light =
@@ -76,7 +77,8 @@ stands {at = at} h (suc levels) is_key n m (suc b) c may deep few light =
     rw (one_less_is b c (at, Many), h.first (at, Truncated), h.no_pointer)
     (h.read levels is_key n m b c may deep few light)
 
-pub ends_at : {section : List ℕ} {value : Tree} {at p q : ℕ} → StandsFull section value at p → p ≡ q
+pub ends_at : {section : List ℕ} {value : ValueTree} {at p q : ℕ} → StandsFull section value at p
+    → p ≡ q
     → StandsFull section value at q
 ends_at {section = section} {value = value} {at = at} h e =
     subst (λ (k : ℕ). StandsFull section value at k) e h
@@ -89,14 +91,14 @@ unfolding plain_from
 plain_is read section is_key at kind size left h = rw h.read refl
 
 -- what stands behind the head is read as the value
-abbrev pub ContentStands : List ℕ → Tree → ℕ → ℕ → ℕ → ℕ → ℕ → Type 0
+abbrev pub ContentStands : List ℕ → ValueTree → ℕ → ℕ → ℕ → ℕ → ℕ → Type 0
 ContentStands section value at kind size offset after =
     (levels : ℕ) (is_key : Bool) (n m b c : ℕ) → MayStand is_key value → depth value ≤ suc levels
     → suc b ≡ count value + n → c ≡ bytes_in value + m
     → content_from (value_from section levels) section is_key at kind size offset (left_of b c) ≡ Ok
     (value, after, left_of n m)
 
-pub full_from_head : (section : List ℕ) (value : Tree) (at kind size after : ℕ) (y : List ℕ)
+pub full_from_head : (section : List ℕ) (value : ValueTree) (at kind size after : ℕ) (y : List ℕ)
     → 2 ≤ kind → size ≤ most → drop at section ≡ head kind size ++ y
     → ContentStands section value at kind size (at + length (head kind size)) after
     → StandsFull section value at after
@@ -166,18 +168,19 @@ byte_string_again section at content y fits here =
     ])
 
 -- one value with no bytes that count, and no key
-pub record IsPlain (value : Tree) : Type 0 where
+pub record IsPlain (value : ValueTree) : Type 0 where
   pub one : count value ≡ 1
   pub light : bytes_in value ≡ 0
   pub no_key : MayStand true value → ⊥
 
 -- what is read of such a value with any budget
-abbrev pub ReadAlone : List ℕ → Tree → ℕ → ℕ → ℕ → ℕ → ℕ → Type 0
+abbrev pub ReadAlone : List ℕ → ValueTree → ℕ → ℕ → ℕ → ℕ → ℕ → Type 0
 ReadAlone section value at kind size offset after =
     (levels n m : ℕ) → content_from (value_from section levels) section false at kind size offset
     (left_of n m) ≡ Ok (value, after, left_of n m)
 
-alone_in : (section : List ℕ) (value : Tree) (at kind size offset after levels : ℕ) (is_key : Bool)
+alone_in : (section : List ℕ) (value : ValueTree) (at kind size offset after levels : ℕ)
+    (is_key : Bool)
     → IsPlain value → ReadAlone section value at kind size offset after
     → (n m b c : ℕ) → MayStand is_key value → suc b ≡ count value + n → c ≡ bytes_in value + m
     → content_from (value_from section levels) section is_key at kind size offset (left_of b c) ≡ Ok
@@ -188,7 +191,8 @@ alone_in section value at kind size offset after levels false plain inner n m b 
     inner levels b c ∙ same_found value refl (omega (arith, few, plain.one))
     (omega (arith, light, plain.light))
 
-pub alone : (section : List ℕ) (value : Tree) (at kind size after : ℕ) (y : List ℕ) → IsPlain value
+pub alone : (section : List ℕ) (value : ValueTree) (at kind size after : ℕ) (y : List ℕ)
+    → IsPlain value
     → 2 ≤ kind → size ≤ most → drop at section ≡ head kind size ++ y
     → ReadAlone section value at kind size (at + length (head kind size)) after
     → StandsFull section value at after

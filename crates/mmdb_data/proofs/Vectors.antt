@@ -4,7 +4,7 @@ use Rattle.std.specs.Str.{is_utf8, chars}
 use Rattle.std.specs.Char.{encode_utf8}
 use Rattle.mmdb_data.specs.declared.fault.DataCause.TheVariants.{Truncated, Kind, PointerToPointer}
 use Rattle.mmdb_data.specs.declared.fault.DataCause.TheVariants.{OutOfSection, Key, Size}
-use Rattle.mmdb_data.specs.Tree.{text, u16, u128, bool, map, no_members}
+use Rattle.mmdb_data.specs.ValueTree.{text, u16, u128, bool, map, no_members}
 use Rattle.mmdb_data.specs.Reading.{reads, value_from, plain_from, target_from, content_from}
 use Rattle.mmdb_data.specs.Reading.{leaf_from, content_bytes_from, text_from, byte_string_from}
 use Rattle.mmdb_data.specs.Reading.{bool_from, scalar_from, scalar_bytes_from, scalar_of}

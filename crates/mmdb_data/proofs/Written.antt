@@ -1,7 +1,7 @@
 -- A container is written once its head and its parts are.
 use Rattle.std.proofs.Common.{◌≡◌, ℕ, List, ◌++◌, Result, Ok, Err, ap, ◌∙◌, append_assoc}
 use Rattle.std.specs.Prelude.{OnOk}
-use Rattle.mmdb_data.specs.Tree.{Members, Items, map, list, members_len, items_len}
+use Rattle.mmdb_data.specs.ValueTree.{Members, Items, map, list, members_len, items_len}
 use Rattle.mmdb_data.specs.Spelling.{head, spelling, members_spelling, items_spelling}
 
 pub map_written : {T E : Type 0} (r : Result T E) (new mid old : List ℕ) (len : ℕ) (pairs : Members)

@@ -1,4 +1,4 @@
-pub mod Tree
+pub mod ValueTree
 pub mod Kinds
 pub mod Spelling
 pub mod Reading

@@ -5,8 +5,9 @@ use Rattle.std.specs.Prelude.{[], ◌∷◌, ◌++◌, length, Option, Some, Non
 use Rattle.std.specs.Cmp.Lexicographic.{pointwise}
 use Rattle.std.specs.Int.{bytes_high_first}
 use Rattle.std.specs.Map.{lookup}
-use Rattle.mmdb_data.specs.Tree.{Tree, Members, Items, map, list, no_members, member, no_items}
-use Rattle.mmdb_data.specs.Tree.{item, members_len, items_len}
+use Rattle.mmdb_data.specs.ValueTree.{ValueTree, Members, Items, map, list, no_members, member}
+use Rattle.mmdb_data.specs.ValueTree.{no_items}
+use Rattle.mmdb_data.specs.ValueTree.{item, members_len, items_len}
 use Rattle.mmdb_data.specs.Spelling.{head, sized, spelling}
 
 -- the pointer to an offset below 2^32, in the fewest bytes
@@ -66,7 +67,7 @@ key_part key = part_by (sized 2 key) (with_bytes (sized 2 key))
 
 -- the head and the content of a value, in which each part is on its own a pointer or in full
 abbrev mutual
-  pub content_in : Tree → Packed → Packed
+  pub content_in : ValueTree → Packed → Packed
   content_in (map members) section =
       members_in members (with_bytes (head 7 (members_len members)) section)
   content_in (list items) section = items_in items (with_bytes (head 11 (items_len items)) section)
@@ -82,30 +83,30 @@ abbrev mutual
   items_in (item value items) section =
       items_in items (part_by (spelling value) (content_in value) section)
 
-abbrev pub in_full : Tree → Packed → Packed
+abbrev pub in_full : ValueTree → Packed → Packed
 in_full value section = full_by (spelling value) (content_in value) section
 
-abbrev pub all_in_full : List Tree → Packed → Packed
+abbrev pub all_in_full : List ValueTree → Packed → Packed
 all_in_full [] section = section
 all_in_full (value ∷ values) section = all_in_full values (in_full value section)
 
 -- the data section of the values, and where each of them begins
-abbrev pub packed : List Tree → List ℕ
+abbrev pub packed : List ValueTree → List ℕ
 packed values = (all_in_full values nothing_packed).bytes
 
-abbrev pub offsets_in : List Tree → Packed → List ℕ
+abbrev pub offsets_in : List ValueTree → Packed → List ℕ
 offsets_in [] section = []
 offsets_in (value ∷ values) section =
     length section.bytes ∷ offsets_in values (in_full value section)
 
-abbrev pub packed_offsets : List Tree → List ℕ
+abbrev pub packed_offsets : List ValueTree → List ℕ
 packed_offsets values = offsets_in values nothing_packed
 
 -- one list begins with the other
 abbrev pub Begins : {A : Type 0} → List A → List A → Type 0
 Begins {A} front whole = (rest : List A) × (whole ≡ front ++ rest)
 
--- all that was written and noted is there still, and in its place
+-- all that was written and noted is there still, where it was
 pub record IsKept (old new : Packed) : Type 0 where
   pub bytes : Begins old.bytes new.bytes
   pub full : Begins old.full new.full

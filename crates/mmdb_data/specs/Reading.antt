@@ -13,8 +13,9 @@ use Rattle.mmdb_data.specs.declared.fault.DataCause.TheVariants.{OutOfSection, U
 use Rattle.mmdb_data.specs.declared.fault.DataCause.TheVariants.{Many, Size, Big}
 use Rattle.mmdb_data.specs.declared.fault.DataFault.{DataFault}
 use Rattle.mmdb_data.specs.declared.fault.DataFault.TheVariants as faults
-use Rattle.mmdb_data.specs.Tree.{Tree, Members, Items, map, list, text, bytes, u16, u32, i32, u64}
-use Rattle.mmdb_data.specs.Tree.{u128, bool, double, float, no_members, member, no_items, item}
+use Rattle.mmdb_data.specs.ValueTree.{ValueTree, Members, Items, map, list, text, bytes, u16, u32}
+use Rattle.mmdb_data.specs.ValueTree.{i32, u64}
+use Rattle.mmdb_data.specs.ValueTree.{u128, bool, double, float, no_members, member, no_items, item}
 
 -- the offset of the control byte of the value at fault, and its cause
 abbrev pub Fault : Type 0
@@ -85,10 +86,10 @@ head_from section at = do
 pub record Scalar : Type 0 where
   pub least : ℕ
   pub greatest : ℕ
-  pub value : List ℕ → Tree
+  pub value : List ℕ → ValueTree
 
 -- an unsigned number of at most so many bytes, the highest first
-abbrev pub unsigned : ℕ → (ℕ → Tree) → Scalar
+abbrev pub unsigned : ℕ → (ℕ → ValueTree) → Scalar
 unsigned greatest value = record {
   least = 0;
   greatest = greatest;
@@ -105,7 +106,7 @@ signed = record {
 }
 
 -- so many bytes, kept as they are
-abbrev pub kept : ℕ → ℕ → (List ℕ → Tree) → Scalar
+abbrev pub kept : ℕ → ℕ → (List ℕ → ValueTree) → Scalar
 kept least greatest value = record { least = least; greatest = greatest; value = value }
 
 -- the scalars of a bounded size; 12 and 13 stand in no section
@@ -140,10 +141,10 @@ pointer_from section at control =
 
 -- how a value is read: as a key or not, from an offset, with a budget
 abbrev pub Read : Type 0
-Read = Bool → ℕ → Budget → Found Tree
+Read = Bool → ℕ → Budget → Found ValueTree
 
 -- only a text is a key
-abbrev pub key_of : ℕ → Tree → Result (List ℕ) Fault
+abbrev pub key_of : ℕ → ValueTree → Result (List ℕ) Fault
 key_of at (text content) = Ok content
 key_of at _ = Err (at, Key)
 
@@ -170,13 +171,13 @@ scalar_bytes_from section is_key at least greatest size offset =
     else (bytes_from section offset size (at, Truncated) >>= λ content. if is_key then Err (at, Key)
     else Ok content)
 
-abbrev pub scalar_value_from : List ℕ → Bool → ℕ → Option Scalar → ℕ → ℕ → Result Tree Fault
+abbrev pub scalar_value_from : List ℕ → Bool → ℕ → Option Scalar → ℕ → ℕ → Result ValueTree Fault
 scalar_value_from section is_key at None size offset = Err (at, Kind)
 scalar_value_from section is_key at (Some scalar) size offset =
     scalar_bytes_from section is_key at scalar.least scalar.greatest size offset >>= λ content. Ok
     (scalar.value content)
 
-unfoldable pub scalar_from : List ℕ → Bool → ℕ → ℕ → ℕ → ℕ → Result Tree Fault
+unfoldable pub scalar_from : List ℕ → Bool → ℕ → ℕ → ℕ → ℕ → Result ValueTree Fault
 scalar_from section is_key at kind size offset =
     scalar_value_from section is_key at (scalar_of kind) size offset
 
@@ -205,7 +206,7 @@ bool_from is_key at size = if nat_lt 1 size then Err (at, Size) else if is_key t
     else Ok (size == 1)
 
 -- a value without parts
-unfoldable pub leaf_from : List ℕ → Bool → ℕ → ℕ → ℕ → ℕ → Budget → Found Tree
+unfoldable pub leaf_from : List ℕ → Bool → ℕ → ℕ → ℕ → ℕ → Budget → Found ValueTree
 leaf_from section is_key at kind size offset left =
     if kind == 2 then (text_from section at size offset left >>= λ found. Ok
     (text found.0, offset + size, found.1))
@@ -217,7 +218,7 @@ leaf_from section is_key at kind size offset left =
 
 -- the value at an offset by its type, its size and the offset of its content: 7 is a map, and 11 a
 -- list
-unfoldable pub content_from : Read → List ℕ → Bool → ℕ → ℕ → ℕ → ℕ → Budget → Found Tree
+unfoldable pub content_from : Read → List ℕ → Bool → ℕ → ℕ → ℕ → ℕ → Budget → Found ValueTree
 content_from read section is_key at kind size offset left =
     if kind == 7 then (if is_key then Err (at, Key)
     else (members_from read size offset left >>= λ found. Ok (map found.0, found.1, found.2)))
@@ -226,13 +227,13 @@ content_from read section is_key at kind size offset left =
     else leaf_from section is_key at kind size offset left
 
 -- the value at an offset that is no pointer
-unfoldable pub plain_from : Read → List ℕ → Bool → ℕ → Budget → Found Tree
+unfoldable pub plain_from : Read → List ℕ → Bool → ℕ → Budget → Found ValueTree
 plain_from read section is_key at left = do
   head ← head_from section at
   content_from read section is_key at head.0 head.1 head.2 left
 
 -- the value that a pointer leads to, and the offset after the pointer
-unfoldable pub target_from : Read → List ℕ → Bool → ℕ → ℕ → Budget → Found Tree
+unfoldable pub target_from : Read → List ℕ → Bool → ℕ → ℕ → Budget → Found ValueTree
 target_from read section is_key at control left = do
   pointer ← pointer_from section at control
   first ← byte_from section pointer.0 (at, OutOfSection)
@@ -241,7 +242,7 @@ target_from read section is_key at control left = do
       (found.0, pointer.1, found.2))
 
 -- the value at an offset, with so many levels left; a pointer and its target are one value
-unfoldable pub value_from : List ℕ → ℕ → Bool → ℕ → Budget → Found Tree
+unfoldable pub value_from : List ℕ → ℕ → Bool → ℕ → Budget → Found ValueTree
 value_from section zero is_key at left = Err (at, Deep)
 value_from section (suc levels) is_key at left = do
   rest ← one_less left (at, Many)
@@ -251,7 +252,7 @@ value_from section (suc levels) is_key at left = do
 
 -- the value at an offset of a section: at most 32 levels, 100,000 values, keys counted, and
 -- 67,108,864 bytes of texts, keys and byte strings
-unfoldable pub reads : List ℕ → ℕ → Result Tree Fault
+unfoldable pub reads : List ℕ → ℕ → Result ValueTree Fault
 reads section at =
     if nat_lt at (length section) then
     (value_from section 32 false at (left_of 100000 67108864) >>= λ found. Ok found.0)

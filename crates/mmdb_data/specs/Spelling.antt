@@ -3,9 +3,10 @@
 use Rattle.std.specs.Prelude.{ℕ, zero, suc, ◌+◌, ◌-◌, ◌*◌, nat_lt, if◌then◌else◌, Bool, true, false}
 use Rattle.std.specs.Prelude.{List, [], ◌∷◌, ◌++◌, length}
 use Rattle.std.specs.Int.{w32, bytes_high_first, cast_unsigned}
-use Rattle.mmdb_data.specs.Tree.{Tree, Members, Items, map, list, text, bytes, u16, u32, i32, u64}
-use Rattle.mmdb_data.specs.Tree.{u128, bool, double, float, no_members, member, no_items, item}
-use Rattle.mmdb_data.specs.Tree.{members_len, items_len}
+use Rattle.mmdb_data.specs.ValueTree.{ValueTree, Members, Items, map, list, text, bytes, u16, u32}
+use Rattle.mmdb_data.specs.ValueTree.{i32, u64}
+use Rattle.mmdb_data.specs.ValueTree.{u128, bool, double, float, no_members, member, no_items, item}
+use Rattle.mmdb_data.specs.ValueTree.{members_len, items_len}
 
 -- the low five bits of the control byte: the size, or how many size bytes follow
 unfoldable pub size_code : ℕ → ℕ
@@ -41,7 +42,7 @@ spelling_of_bool true = head 14 1
 spelling_of_bool false = head 14 0
 
 abbrev mutual
-  pub spelling : Tree → List ℕ
+  pub spelling : ValueTree → List ℕ
   spelling (map members) = head 7 (members_len members) ++ members_spelling members
   spelling (list items) = head 11 (items_len items) ++ items_spelling items
   spelling (text content) = sized 2 content

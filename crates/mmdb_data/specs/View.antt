@@ -1,22 +1,23 @@
 -- The tree that a `Value` stands for, and what `Left` says may still be spent.
 use Rattle.std.specs.Prelude.{ℕ, List, [], ◌∷◌, map as map_list}
-use Rattle.mmdb_data.specs.Tree.{Tree, Members, Items, map, list, text, bytes, u16, u32, i32, u64}
-use Rattle.mmdb_data.specs.Tree.{u128, bool, double, float, no_members, member, no_items, item}
+use Rattle.mmdb_data.specs.ValueTree.{ValueTree, Members, Items, map, list, text, bytes, u16, u32}
+use Rattle.mmdb_data.specs.ValueTree.{i32, u64}
+use Rattle.mmdb_data.specs.ValueTree.{u128, bool, double, float, no_members, member, no_items, item}
 use Rattle.mmdb_data.specs.declared.value.Value.{Value, fold-Value}
 use Rattle.mmdb_data.specs.declared.value.Value.TheOpen.{Value-F}
 use Rattle.mmdb_data.specs.declared.budget.Left.{Left}
 use Rattle.mmdb_data.specs.Reading.{Budget, left_of}
 
-abbrev pub items_of : List Tree → Items
+abbrev pub items_of : List ValueTree → Items
 items_of [] = no_items
 items_of (value ∷ values) = item value (items_of values)
 
-abbrev pub members_of : List (List ℕ × Tree) → Members
+abbrev pub members_of : List (List ℕ × ValueTree) → Members
 members_of [] = no_members
 members_of (pair ∷ pairs) = member pair.0 pair.1 (members_of pairs)
 
 -- one level, with each value inside already seen as its tree
-abbrev pub view_step : Value-F Tree → Tree
+abbrev pub view_step : Value-F ValueTree → ValueTree
 view_step (Value-F.Map pairs) = map (members_of pairs.items)
 view_step (Value-F.List values) = list (items_of values.items)
 view_step (Value-F.Text content) = text content
@@ -30,14 +31,14 @@ view_step (Value-F.Bool b) = bool b
 view_step (Value-F.Raw8 content) = double content
 view_step (Value-F.Raw4 content) = float content
 
-abbrev pub tree : Value → Tree
-tree = fold-Value Tree view_step
+abbrev pub value_tree : Value → ValueTree
+value_tree = fold-Value ValueTree view_step
 
 abbrev pub items_view : List Value → Items
-items_view values = items_of (map_list tree values)
+items_view values = items_of (map_list value_tree values)
 
-abbrev pub pair_view : List ℕ × Value → List ℕ × Tree
-pair_view pair = (pair.0, tree pair.1)
+abbrev pub pair_view : List ℕ × Value → List ℕ × ValueTree
+pair_view pair = (pair.0, value_tree pair.1)
 
 abbrev pub members_view : List (List ℕ × Value) → Members
 members_view pairs = members_of (map_list pair_view pairs)

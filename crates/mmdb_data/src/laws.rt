@@ -1,7 +1,7 @@
 //! Laws over the definitions.
 
 ghost use Rattle.std.specs.Prelude.{◌≡◌, ◌≤◌, ◌++◌, ℕ, List, length, Ok};
-ghost use Rattle.mmdb_data.specs.Tree.{Tree, CanBeSpelled, IsTyped, IsWithinLimits};
+ghost use Rattle.mmdb_data.specs.ValueTree.{ValueTree, CanBeSpelled, IsTyped, IsWithinLimits};
 ghost use Rattle.mmdb_data.specs.Spelling.{spelling};
 ghost use Rattle.mmdb_data.specs.Reading.{reads};
 ghost use Rattle.mmdb_data.specs.Laws.{PackedReadsBack, PackedReadsEach, NewValueIsNoted};
@@ -10,7 +10,7 @@ ghost use Rattle.mmdb_data.specs.Laws.{KeysAreTexts};
 
 /// What is written of a value is read again, whatever stands before and after it in the section.
 pub fn reads_back()
-    ensures { (value : Tree) (before after : List ℕ) → CanBeSpelled value → IsTyped value
+    ensures { (value : ValueTree) (before after : List ℕ) → CanBeSpelled value → IsTyped value
         → IsWithinLimits value
         → reads (before ++ (spelling value ++ after)) (length before) ≡ Ok value }
 {}

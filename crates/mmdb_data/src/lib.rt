@@ -9,6 +9,7 @@ mod laws;
 mod leaves;
 mod packer;
 mod packing;
+mod reader;
 mod reading;
 mod section;
 mod sizes;
@@ -22,6 +23,3 @@ pub use packer::Packer;
 pub use sizes::fits;
 pub use value::Value;
 pub use writing::encode;
-
-#[cfg(test)]
-mod tests;

@@ -1,9 +1,10 @@
 //! Data sections in which no part stands twice where a pointer is shorter.
 
 ghost use Rattle.std.specs.Prelude.{◌≡◌, ◌++◌, ℕ, List, length, All, OnOk, OnErr, IfOk, Ok};
-ghost use Rattle.mmdb_data.specs.Tree.{Tree, CanBeSpelled, CanBePacked, IsWithinLimits, IsTyped};
+ghost use Rattle.mmdb_data.specs.ValueTree.{ValueTree, CanBeSpelled, CanBePacked, IsWithinLimits};
+ghost use Rattle.mmdb_data.specs.ValueTree.{IsTyped};
 ghost use Rattle.mmdb_data.specs.Reading.{reads};
-ghost use Rattle.mmdb_data.specs.View.{tree};
+ghost use Rattle.mmdb_data.specs.View.{value_tree};
 ghost use Rattle.mmdb_data.specs.Packing.{nothing_packed, in_full, all_in_full};
 
 use crate::packing::append_top;
@@ -46,16 +47,16 @@ impl Packer {
     ///
     /// If memory runs out, the section is as it was.
     pub fn put(&mut self, value: &Value) -> Result<u64, Memory>
-        requires { CanBeSpelled (tree value.now) }
-        ensures packed { OnOk result (self.new ≡ in_full (tree value.now) self.old) }
+        requires { CanBeSpelled (value_tree value.now) }
+        ensures packed { OnOk result (self.new ≡ in_full (value_tree value.now) self.old) }
         ensures at { IfOk result (λ at. at ≡ length self.old.bytes) }
-        ensures typed { OnOk result (IsTyped (tree value.now)) }
+        ensures typed { OnOk result (IsTyped (value_tree value.now)) }
 
         // Reading there gives the value, whatever is appended later.
-        ensures read { IfOk result (λ at. (before : List Tree) (later : List ℕ)
+        ensures read { IfOk result (λ at. (before : List ValueTree) (later : List ℕ)
             → All CanBePacked before
-            → self.old ≡ all_in_full before nothing_packed → IsWithinLimits (tree value.now)
-            → reads (self.new.bytes ++ later) at ≡ Ok (tree value.now)) }
+            → self.old ≡ all_in_full before nothing_packed → IsWithinLimits (value_tree value.now)
+            → reads (self.new.bytes ++ later) at ≡ Ok (value_tree value.now)) }
         ensures refused { OnErr result (self.new ≡ self.old) }
     {
         let (len, count) = (self.section.bytes.len(), self.section.full.len());

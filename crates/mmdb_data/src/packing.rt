@@ -1,9 +1,9 @@
 //! Values with their parts, each part a pointer where one is shorter.
 
 ghost use Rattle.std.specs.Prelude.{◌≡◌, OnOk, is_some};
-ghost use Rattle.mmdb_data.specs.Tree.{IsNarrow, MembersAreNarrow, ItemsAreNarrow, IsTyped};
+ghost use Rattle.mmdb_data.specs.ValueTree.{IsNarrow, MembersAreNarrow, ItemsAreNarrow, IsTyped};
 ghost use Rattle.mmdb_data.specs.Spelling.{spelling};
-ghost use Rattle.mmdb_data.specs.View.{tree, items_view, members_view};
+ghost use Rattle.mmdb_data.specs.View.{value_tree, items_view, members_view};
 ghost use Rattle.mmdb_data.specs.Packing.{offset_of, part_by, content_in, members_in, items_in};
 ghost use Rattle.mmdb_data.specs.Packing.{in_full, IsKept};
 ghost use Rattle.mmdb_data.specs.Section.{packed_of};
@@ -15,11 +15,11 @@ use geo_addr::{Memory, Text};
 
 /// The value in full, whether it stands already or not.
 pub(crate) fn append_top(section: &mut Section, value: &Value) -> Result<(), Memory>
-    requires { IsNarrow (tree value.now) }
+    requires { IsNarrow (value_tree value.now) }
     ensures appended { OnOk result
-        (packed_of section.new ≡ in_full (tree value.now) (packed_of section.old)) }
+        (packed_of section.new ≡ in_full (value_tree value.now) (packed_of section.old)) }
     ensures kept { IsKept (packed_of section.old) (packed_of section.new) }
-    ensures typed { OnOk result (IsTyped (tree value.now)) }
+    ensures typed { OnOk result (IsTyped (value_tree value.now)) }
 {
     section.spell(value)?;
     let is_known = section.found().is_some();
@@ -28,9 +28,9 @@ pub(crate) fn append_top(section: &mut Section, value: &Value) -> Result<(), Mem
 
 #[cycle(packing)]
 fn append_part(section: &mut Section, value: &Value) -> Result<(), Memory>
-    requires { IsNarrow (tree value.now) }
+    requires { IsNarrow (value_tree value.now) }
     ensures appended { OnOk result (packed_of section.new
-        ≡ part_by (spelling (tree value.now)) (content_in (tree value.now))
+        ≡ part_by (spelling (value_tree value.now)) (content_in (value_tree value.now))
         (packed_of section.old)) }
     ensures kept { IsKept (packed_of section.old) (packed_of section.new) }
 {
@@ -44,12 +44,12 @@ fn append_part(section: &mut Section, value: &Value) -> Result<(), Memory>
 
 #[cycle(packing)]
 fn append_full(section: &mut Section, value: &Value, is_known: bool) -> Result<(), Memory>
-    requires narrow { IsNarrow (tree value.now) }
-    requires spelled { section.old.piece.items ≡ spelling (tree value.now) }
+    requires narrow { IsNarrow (value_tree value.now) }
+    requires spelled { section.old.piece.items ≡ spelling (value_tree value.now) }
     requires known { is_known
-        ≡ is_some (offset_of (spelling (tree value.now)) (packed_of section.old)) }
+        ≡ is_some (offset_of (spelling (value_tree value.now)) (packed_of section.old)) }
     ensures appended { OnOk result
-        (packed_of section.new ≡ in_full (tree value.now) (packed_of section.old)) }
+        (packed_of section.new ≡ in_full (value_tree value.now) (packed_of section.old)) }
     ensures kept { IsKept (packed_of section.old) (packed_of section.new) }
 {
     if is_known {
@@ -63,10 +63,10 @@ fn append_full(section: &mut Section, value: &Value, is_known: bool) -> Result<(
 
 #[cycle(packing)]
 fn append_content(section: &mut Section, value: &Value) -> Result<(), Memory>
-    requires narrow { IsNarrow (tree value.now) }
-    requires spelled { section.old.piece.items ≡ spelling (tree value.now) }
+    requires narrow { IsNarrow (value_tree value.now) }
+    requires spelled { section.old.piece.items ≡ spelling (value_tree value.now) }
     ensures appended { OnOk result
-        (packed_of section.new ≡ content_in (tree value.now) (packed_of section.old)) }
+        (packed_of section.new ≡ content_in (value_tree value.now) (packed_of section.old)) }
     ensures kept { IsKept (packed_of section.old) (packed_of section.new) }
 {
     match value {

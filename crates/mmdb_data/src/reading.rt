@@ -2,7 +2,7 @@
 
 ghost use Rattle.std.specs.Prelude.{◌≡◌, ◌≤◌, ◌<◌, ◌+◌, ◌^◌, length, OnOk, IfOk};
 ghost use Rattle.byteorder.specs.Endian.{big_number};
-ghost use Rattle.mmdb_data.specs.Tree.{most as most_size};
+ghost use Rattle.mmdb_data.specs.ValueTree.{most as most_size};
 ghost use Rattle.mmdb_data.specs.Reading.{Gives, byte_from, bytes_from, number_from};
 ghost use Rattle.mmdb_data.specs.Reading.{kind_from, size_from, head_from, pointer_from};
 ghost use Rattle.mmdb_data.specs.Reading.{is_pointer as is_control_of_pointer};

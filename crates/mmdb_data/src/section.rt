@@ -3,10 +3,10 @@
 ghost use Rattle.std.specs.Prelude.{◌≡◌, ◌≤◌, ◌<◌, ◌^◌, ◌++◌, ◌∷◌, None, OnOk, OnErr, length};
 ghost use Rattle.std.specs.Prelude.{option_map, is_some};
 ghost use Rattle.std.specs.Int.{bytes_high_first};
-ghost use Rattle.mmdb_data.specs.Tree.{most, IsNarrow, IsTyped};
+ghost use Rattle.mmdb_data.specs.ValueTree.{most, IsNarrow, IsTyped};
 ghost use Rattle.mmdb_data.specs.Kinds.{kind_code};
 ghost use Rattle.mmdb_data.specs.Spelling.{head, sized, spelling};
-ghost use Rattle.mmdb_data.specs.View.{tree};
+ghost use Rattle.mmdb_data.specs.View.{value_tree};
 ghost use Rattle.mmdb_data.specs.Packing.{pointer, nothing_packed, offset_of, with_bytes, noted};
 ghost use Rattle.mmdb_data.specs.Packing.{full_by, shorter_pointer, part_by, key_part, IsKept};
 ghost use Rattle.mmdb_data.specs.Section.{packed_of};
@@ -41,9 +41,9 @@ impl Section {
     }
 
     pub(crate) fn spell(&mut self, value: &Value) -> Result<(), Memory>
-        requires { IsNarrow (tree value.now) }
-        ensures spelled { OnOk result (self.new.piece.items ≡ spelling (tree value.now)) }
-        ensures typed { OnOk result (IsTyped (tree value.now)) }
+        requires { IsNarrow (value_tree value.now) }
+        ensures spelled { OnOk result (self.new.piece.items ≡ spelling (value_tree value.now)) }
+        ensures typed { OnOk result (IsTyped (value_tree value.now)) }
         ensures same { packed_of self.new ≡ packed_of self.old }
     {
         self.piece.clear();

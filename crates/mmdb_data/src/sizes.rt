@@ -1,9 +1,9 @@
 //! Whether a value can be written.
 
 ghost use Rattle.std.specs.Prelude.{◌≡◌, ◌↔◌, IsTrue};
-ghost use Rattle.mmdb_data.specs.Tree.{CanBeSpelled, fits_in, members_fit as are_members_fit};
-ghost use Rattle.mmdb_data.specs.Tree.{items_fit as are_items_fit};
-ghost use Rattle.mmdb_data.specs.View.{tree, items_view, members_view};
+ghost use Rattle.mmdb_data.specs.ValueTree.{CanBeSpelled, fits_in, members_fit as are_members_fit};
+ghost use Rattle.mmdb_data.specs.ValueTree.{items_fit as are_items_fit};
+ghost use Rattle.mmdb_data.specs.View.{value_tree, items_view, members_view};
 
 use crate::value::Value;
 use geo_addr::Text;
@@ -17,14 +17,14 @@ pub(crate) const LEVELS: u8 = 32;
 /// Whether the value can be written: every map, list, text and byte string has at most 16,843,036
 /// pairs, members or bytes, and values are nested at most 32 deep, the outermost counted.
 pub fn fits(value: &Value) -> bool
-    ensures { IsTrue result ↔ CanBeSpelled (tree value.now) }
+    ensures { IsTrue result ↔ CanBeSpelled (value_tree value.now) }
 {
     fits_within(value, LEVELS)
 }
 
 #[cycle(sizes)]
 fn fits_within(value: &Value, levels: u8) -> bool
-    ensures { result ≡ fits_in (tree value.now) levels }
+    ensures { result ≡ fits_in (value_tree value.now) levels }
 {
     if levels == 0 {
         return false;

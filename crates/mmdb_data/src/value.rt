@@ -2,7 +2,7 @@ use geo_addr::{Bytes, Text};
 
 /// A value of the data section (MaxMind DB 2.0, "Output Data Section").
 ///
-/// Contracts see the tree that it stands for, with lists in place of the vectors. The pairs of a
+/// Contracts see the tree that it stands for, with lists instead of the vectors. The pairs of a
 /// map keep their order, and keys may repeat. Doubles and floats are kept as their bytes, the
 /// highest first.
 #[derive(Debug, Drop, PartialEq, Eq)]

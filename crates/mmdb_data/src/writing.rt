@@ -2,15 +2,16 @@
 
 ghost use Rattle.std.specs.Prelude.{◌≡◌, ◌≤◌, ◌<◌, ◌^◌, ◌++◌, ℕ, List, length, OnOk, OnErr, Ok};
 ghost use Rattle.std.specs.Int.{bytes_high_first};
-ghost use Rattle.mmdb_data.specs.Tree.{most, CanBeSpelled, IsWithinLimits, IsNarrow};
-ghost use Rattle.mmdb_data.specs.Tree.{MembersAreNarrow, ItemsAreNarrow, IsTyped, MembersAreTyped};
-ghost use Rattle.mmdb_data.specs.Tree.{ItemsAreTyped};
+ghost use Rattle.mmdb_data.specs.ValueTree.{most, CanBeSpelled, IsWithinLimits, IsNarrow};
+ghost use Rattle.mmdb_data.specs.ValueTree.{MembersAreNarrow, ItemsAreNarrow, IsTyped};
+ghost use Rattle.mmdb_data.specs.ValueTree.{MembersAreTyped};
+ghost use Rattle.mmdb_data.specs.ValueTree.{ItemsAreTyped};
 ghost use Rattle.mmdb_data.specs.Spelling.{size_code, size_bytes, kind_bytes, head, sized};
 ghost use Rattle.mmdb_data.specs.Spelling.{without_zeros as bytes_without_zeros, spelling};
 ghost use Rattle.mmdb_data.specs.Spelling.{members_spelling, items_spelling};
 ghost use Rattle.mmdb_data.specs.Kinds.{kind_code};
 ghost use Rattle.mmdb_data.specs.Reading.{reads};
-ghost use Rattle.mmdb_data.specs.View.{tree, items_view, members_view};
+ghost use Rattle.mmdb_data.specs.View.{value_tree, items_view, members_view};
 
 use crate::kind::Kind;
 use crate::value::Value;
@@ -26,10 +27,11 @@ const ROOM: usize = 128;
 ///
 /// The value then stands at the offset where the section ended before, whatever is appended later.
 pub fn encode(alloc: Global, value: &Value, out: &mut Vec<u8>) -> Result<(), Memory>
-    requires { CanBeSpelled (tree value.now) }
-    ensures spelled { OnOk result (out.new.items ≡ out.old.items ++ spelling (tree value.now)) }
-    ensures read_back { OnOk result (IsWithinLimits (tree value.now) → (after : List ℕ)
-        → reads (out.new.items ++ after) (length out.old.items) ≡ Ok (tree value.now)) }
+    requires { CanBeSpelled (value_tree value.now) }
+    ensures spelled { OnOk result
+        (out.new.items ≡ out.old.items ++ spelling (value_tree value.now)) }
+    ensures read_back { OnOk result (IsWithinLimits (value_tree value.now) → (after : List ℕ)
+        → reads (out.new.items ++ after) (length out.old.items) ≡ Ok (value_tree value.now)) }
     ensures refused { OnErr result (out.new.items ≡ out.old.items) }
 {
     let mut spelled = Vec::with_capacity(alloc, ROOM)?;
@@ -40,9 +42,10 @@ pub fn encode(alloc: Global, value: &Value, out: &mut Vec<u8>) -> Result<(), Mem
 
 #[cycle(writing)]
 pub(crate) fn put_value(out: &mut Vec<u8>, value: &Value) -> Result<(), Memory>
-    requires { IsNarrow (tree value.now) }
-    ensures spelled { OnOk result (out.new.items ≡ out.old.items ++ spelling (tree value.now)) }
-    ensures typed { OnOk result (IsTyped (tree value.now)) }
+    requires { IsNarrow (value_tree value.now) }
+    ensures spelled { OnOk result
+        (out.new.items ≡ out.old.items ++ spelling (value_tree value.now)) }
+    ensures typed { OnOk result (IsTyped (value_tree value.now)) }
 {
     match value {
         Value::Map(pairs) => {

@@ -7,8 +7,8 @@ use Rattle.std.specs.Prelude.{codes}
 use Rattle.std.specs.Int.{bytes_high_first}
 use Rattle.std.specs.Str.{IsUtf8}
 use Rattle.std.proofs.lemmas.Bool.{cases_lt, lt-ltb, le-ltb}
-use Rattle.mmdb_data.specs.Tree.{Tree, Members, list, text, u16, u32, u64}
-use Rattle.mmdb_data.specs.Tree.{no_members, member, item, no_items}
+use Rattle.mmdb_data.specs.ValueTree.{ValueTree, Members, list, text, u16, u32, u64}
+use Rattle.mmdb_data.specs.ValueTree.{no_members, member, item, no_items}
 use Rattle.mmdb_data.specs.Spelling.{spelling, members_spelling, sized, head}
 use Rattle.mmdb_data.specs.Spelling.{kind_bytes, size_code, size_bytes, without_zeros}
 use Rattle.mmdb_tree.specs.declared.bits.Bits.{Bits}
@@ -95,14 +95,14 @@ number_before_pair x z c d y is short none later =
     rw is (short_then_pair x c d y short none (rw is at later))
 
 -- a key that is plain
-key_before : (key : List ℕ) (value : Tree) (members : Members) → plain (sized 2 key) ≡ true
+key_before : (key : List ℕ) (value : ValueTree) (members : Members) → plain (sized 2 key) ≡ true
     → last_marker (spelling value ++ members_spelling members) ≡ None
     → last_marker (members_spelling (member key value members)) ≡ None
 key_before key value members none later =
     plain_then (sized 2 key) (spelling value ++ members_spelling members) none later
 
 -- a member that is plain, its key and its value
-member_before : (key : List ℕ) (value : Tree) (members : Members)
+member_before : (key : List ℕ) (value : ValueTree) (members : Members)
     → plain (sized 2 key) ≡ true → plain (spelling value) ≡ true
     → last_marker (members_spelling members) ≡ None
     → last_marker (members_spelling (member key value members)) ≡ None
@@ -111,7 +111,7 @@ member_before key value members key_plain value_plain later =
     (plain_then (spelling value) (members_spelling members) value_plain later)
 
 -- the bytes with which a member begins are those of its key
-member_begins : (key : List ℕ) (value : Tree) (members : Members) (c : ℕ) (y : List ℕ)
+member_begins : (key : List ℕ) (value : ValueTree) (members : Members) (c : ℕ) (y : List ℕ)
     → sized 2 key ≡ c ∷ y
     → members_spelling (member key value members)
     ≡ c ∷ (y ++ (spelling value ++ members_spelling members))

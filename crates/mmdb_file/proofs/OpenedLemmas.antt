@@ -10,7 +10,7 @@ use Rattle.std.proofs.Math.Seq.{drop-append-add}
 use Rattle.std.proofs.lemmas.Bool.{lt-ltb, le-ltb}
 use Rattle.std.proofs.lemmas.List.{take_at}
 use Rattle.std.proofs.lemmas.Str.{IsUtf8-from_is_utf8}
-use Rattle.mmdb_data.specs.Tree.{map, IsTyped, MembersAreTyped, IsWithinLimits}
+use Rattle.mmdb_data.specs.ValueTree.{map, IsTyped, MembersAreTyped, IsWithinLimits}
 use Rattle.mmdb_data.specs.View.{members_of}
 use Rattle.mmdb_data.specs.Spelling.{spelling}
 use Rattle.mmdb_data.specs.Reading.{reads}
@@ -22,7 +22,8 @@ use Rattle.mmdb_file.specs.declared.fault.OpenFault.TheVariants.{Version}
 use Rattle.mmdb_file.specs.Marker.{marker, last_marker}
 use Rattle.mmdb_file.specs.Metadata.{tree_members, told_members, english, metadata}
 use Rattle.mmdb_file.specs.FileImage.{file_of}
-use Rattle.mmdb_file.specs.Walk.{Told, told_of, told_of_value, number_field, count_of, bits_of_size}
+use Rattle.mmdb_file.specs.Walk.{MetadataParts, told_of, told_of_value, number_field, count_of}
+use Rattle.mmdb_file.specs.Walk.{bits_of_size}
 use Rattle.mmdb_file.specs.Walk.{is_known, cut, nodes_of, nodes_told, opened}
 use Rattle.mmdb_file.proofs.AdoptLemmas.{told_is, opened_is}
 use Rattle.mmdb_file.proofs.MetadataLemmas.{last_is_the_writers}
@@ -175,7 +176,7 @@ bits_taken B28 = refl
 bits_taken B32 = refl
 
 -- what the metadata of a file with these nodes tells
-abbrev told_by : (nodes : ℕ) → Bits → Told
+abbrev told_by : (nodes : ℕ) → Bits → MetadataParts
 told_by nodes bits = record { nodes = nodes; bits = bits; major = 2; ip = 6 }
 
 told_again : (epoch : ℕ) (name : List ℕ) (nodes : ℕ) (bits : Bits) → 0 < nodes → nodes < 2 ^ 32
@@ -236,7 +237,7 @@ opened_again bits nodes section epoch name some few low utf8 short =
     let front : List ℕ = tree_bytes bits nodes ++ (replicate 16 0 ++ section) in
     let meta : List ℕ = metadata epoch name (length nodes) (record_size bits) in
     let file : List ℕ = front ++ (marker ++ meta) in
-    let told : Told = told_by (length nodes) bits in
+    let told : MetadataParts = told_by (length nodes) bits in
     let last : last_marker file ≡ Some (length front) =
     last_is_the_writers front epoch name (length nodes) bits utf8 short in
     let ahead : front ≡ take (length front) file =

@@ -12,9 +12,9 @@ use lib.Utf8.{encode}
 use Rattle.std.proofs.lemmas.Bool.{cases_lt, and_parts, leb-true, false≢true}
 use Rattle.std.proofs.lemmas.Bool.Decides.{eqb_tells}
 use Rattle.std.proofs.Math.ListN.{drop_of_length-le}
-use Rattle.mmdb_data.specs.Tree.{Tree, map, text, IsNarrow, MembersAreNarrow, IsTyped}
-use Rattle.mmdb_data.specs.Tree.{MembersAreTyped, members_len, members_depth, members_count}
-use Rattle.mmdb_data.specs.Tree.{members_bytes, depth, count, bytes_in, most, CanBeReadBack}
+use Rattle.mmdb_data.specs.ValueTree.{ValueTree, map, text, IsNarrow, MembersAreNarrow, IsTyped}
+use Rattle.mmdb_data.specs.ValueTree.{MembersAreTyped, members_len, members_depth, members_count}
+use Rattle.mmdb_data.specs.ValueTree.{members_bytes, depth, count, bytes_in, most, CanBeReadBack}
 use Rattle.mmdb_data.specs.View.{members_of}
 use Rattle.geo_terms.specs.PlaceForm.{PlaceParts, IsPlace, country_fits, region_fits, lengths_fit}
 use Rattle.geo_terms.specs.PlaceForm.{is_empty, is_subdivision, longest}
@@ -22,7 +22,7 @@ use Rattle.mmdb_file.specs.PlaceValue.{one, unless_empty, subdivision, city_memb
 use Rattle.mmdb_file.specs.PlaceValue.{postal_member, region_member, subdivision_list, place_value}
 
 -- a member that can be read, and whose value is small
-record IsFine (pair : List ℕ × Tree) : Type 0 where
+record IsFine (pair : List ℕ × ValueTree) : Type 0 where
   key_short : length pair.0 ≤ most
   narrow : IsNarrow pair.1
   low : depth pair.1 ≤ 8
@@ -31,51 +31,54 @@ record IsFine (pair : List ℕ × Tree) : Type 0 where
   few : count pair.1 ≤ 9
   light : length pair.0 + bytes_in pair.1 ≤ 2000
 
-abbrev AreFine : List (List ℕ × Tree) → Type 0
+abbrev AreFine : List (List ℕ × ValueTree) → Type 0
 AreFine [] = Unit {0}
 AreFine (pair ∷ pairs) = IsFine pair × AreFine pairs
 
-AreFine-append : (xs ys : List (List ℕ × Tree)) → AreFine xs → AreFine ys → AreFine (xs ++ ys)
+AreFine-append : (xs ys : List (List ℕ × ValueTree)) → AreFine xs → AreFine ys → AreFine (xs ++ ys)
 AreFine-append [] ys a b = b
 AreFine-append (x ∷ xs) ys a b = (a.0, AreFine-append xs ys a.1 b)
 
-AreFine-unless : (content key : List ℕ) (value : Tree)
+AreFine-unless : (content key : List ℕ) (value : ValueTree)
     → IsFine (key, value) → AreFine (unless_empty content key value)
 AreFine-unless [] key value fine = tt
 AreFine-unless (b ∷ content) key value fine = (fine, tt)
 
-length-unless : (content key : List ℕ) (value : Tree) → length (unless_empty content key value) ≤ 1
+length-unless : (content key : List ℕ) (value : ValueTree) → length (unless_empty content key value)
+    ≤ 1
 length-unless [] key value = omega arith
 length-unless (b ∷ content) key value = omega arith
 
-narrow_members : (pairs : List (List ℕ × Tree)) → AreFine pairs
+narrow_members : (pairs : List (List ℕ × ValueTree)) → AreFine pairs
     → MembersAreNarrow (members_of pairs)
 narrow_members [] fine = tt
 narrow_members (pair ∷ pairs) fine = (fine.0.key_short, fine.0.narrow, narrow_members pairs fine.1)
 
-typed_members : (pairs : List (List ℕ × Tree)) → AreFine pairs → MembersAreTyped (members_of pairs)
+typed_members : (pairs : List (List ℕ × ValueTree)) → AreFine pairs
+    → MembersAreTyped (members_of pairs)
 typed_members [] fine = tt
 typed_members (pair ∷ pairs) fine = (fine.0.key_text, fine.0.typed, typed_members pairs fine.1)
 
-low_members : (pairs : List (List ℕ × Tree)) → AreFine pairs → members_depth (members_of pairs) ≤ 8
+low_members : (pairs : List (List ℕ × ValueTree)) → AreFine pairs → members_depth (members_of pairs)
+    ≤ 8
 low_members [] fine = omega arith
 low_members (pair ∷ pairs) fine = omega (arith, fine.0.low, low_members pairs fine.1)
 
-few_members : (pairs : List (List ℕ × Tree)) → AreFine pairs
+few_members : (pairs : List (List ℕ × ValueTree)) → AreFine pairs
     → members_count (members_of pairs) ≤ 10 * length pairs
 few_members [] fine = omega arith
 few_members (pair ∷ pairs) fine = omega (arith, fine.0.few, few_members pairs fine.1)
 
-light_members : (pairs : List (List ℕ × Tree)) → AreFine pairs
+light_members : (pairs : List (List ℕ × ValueTree)) → AreFine pairs
     → members_bytes (members_of pairs) ≤ 2000 * length pairs
 light_members [] fine = omega arith
 light_members (pair ∷ pairs) fine = omega (arith, fine.0.light, light_members pairs fine.1)
 
-len_members : (pairs : List (List ℕ × Tree)) → members_len (members_of pairs) ≡ length pairs
+len_members : (pairs : List (List ℕ × ValueTree)) → members_len (members_of pairs) ≡ length pairs
 len_members [] = refl
 len_members (pair ∷ pairs) = ap suc (len_members pairs)
 
-map_fine : (pairs : List (List ℕ × Tree)) → length pairs ≤ 4 → AreFine pairs
+map_fine : (pairs : List (List ℕ × ValueTree)) → length pairs ≤ 4 → AreFine pairs
     → CanBeReadBack (map (members_of pairs))
 map_fine pairs short fine = (
   (
@@ -206,10 +209,10 @@ pub record AreTexts (place : PlaceParts) : Type 0 where
 pub readable : (place : PlaceParts) → AreTexts place → CanBeReadBack (place_value place)
 unfolding place_value
 readable place texts =
-    let a : List (List ℕ × Tree) = city_member place.city in
-    let b : List (List ℕ × Tree) = country_member place.country in
-    let c : List (List ℕ × Tree) = postal_member place.postal in
-    let d : List (List ℕ × Tree) = region_member place.region in
+    let a : List (List ℕ × ValueTree) = city_member place.city in
+    let b : List (List ℕ × ValueTree) = country_member place.country in
+    let c : List (List ℕ × ValueTree) = postal_member place.postal in
+    let d : List (List ℕ × ValueTree) = region_member place.region in
     map_fine (a ++ (b ++ (c ++ d)))
     (omega (
       arith,

@@ -4,7 +4,7 @@ use Rattle.std.proofs.Common.{◌≡◌, ◌<◌, ℕ, List, length, Ok, Err, sy
 use Rattle.std.proofs.Common.{[], refl, append-nil}
 use Rattle.std.specs.Prelude.{slice_index}
 use Rattle.std.proofs.lemmas.Bool.{cases_lt, le-ltb}
-use Rattle.mmdb_data.specs.Tree.{Tree}
+use Rattle.mmdb_data.specs.ValueTree.{ValueTree}
 use Rattle.mmdb_data.specs.Packing.{packed, packed_offsets}
 use Rattle.mmdb_data.specs.Reading.{reads}
 use Rattle.mmdb_data.specs.declared.fault.DataCause.TheVariants.{OutOfSection}
@@ -24,7 +24,7 @@ section_holds values readable = record {
 }
 
 -- what is read begins in the section
-pub reads_within : (section : List ℕ) (start : ℕ) (value : Tree)
+pub reads_within : (section : List ℕ) (start : ℕ) (value : ValueTree)
     → reads section start ≡ Ok value → start < length section
 unfolding reads
 reads_within section start value is =

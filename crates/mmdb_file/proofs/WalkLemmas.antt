@@ -18,16 +18,16 @@ use Rattle.least_nodes.specs.NodeList.{Member, at, says, side, records_at, go}
 use Rattle.least_nodes.specs.Layout.{leaves, leaf_order, inner, laid, place_order, is_place}
 use Rattle.least_nodes.proofs.Elements.{In, In-left, In-right, In-filter, In-each_once-new}
 use Rattle.least_nodes.proofs.LaidLemmas.{position-within, get_or-position, LaidOut-holds}
-use Rattle.mmdb_data.specs.Tree.{Tree as Value, bool}
+use Rattle.mmdb_data.specs.ValueTree.{ValueTree as Value, bool}
 use Rattle.mmdb_data.specs.Reading.{reads}
 use Rattle.mmdb_tree.specs.declared.bits.Bits.{Bits}
-use Rattle.mmdb_tree.specs.Nodes.{record_at, tree_bytes}
-use Rattle.mmdb_tree.specs.Laws.{NodeFits, TreeReadsBack, record_of}
+use Rattle.mmdb_tree.specs.Nodes.{node_record, tree_bytes}
+use Rattle.mmdb_tree.specs.Laws.{NodeFits, ValueReadsBack, record_of}
 use Rattle.mmdb_file.specs.FileImage.{answer_value, record_for, node_for, file_of}
 use Rattle.mmdb_file.specs.Laws.{WrittenFileIsWalked}
 use Rattle.mmdb_file.specs.PlaceValue.{place_value}
 use Rattle.mmdb_file.specs.Section.{Section, Holds}
-use Rattle.mmdb_file.specs.Walk.{Opened, seek, place_of_record, place_at, value_at, value_read}
+use Rattle.mmdb_file.specs.Walk.{Opened, seek, offset_of_record, offset_at, value_at, value_read}
 use Rattle.mmdb_file.specs.Walk.{walk_opened, walk}
 use Rattle.mmdb_file.specs.Writing.{values_of}
 use Rattle.mmdb_file.proofs.AdoptLemmas.{seek_done}
@@ -78,17 +78,17 @@ module _ {A : Type 0} (n : ℕ) (number : Member A → ℕ) (read : ℕ → Bool
 -- ---- what a record that is no node stands for
 
 -- the node count stands for no value
-none_placed : (file : Opened) → place_of_record file (Some file.nodes) ≡ Ok None
-none_placed file =
+no_offset : (file : Opened) → offset_of_record file (Some file.nodes) ≡ Ok None
+no_offset file =
     elim (eqb_tells file.nodes file.nodes) [
       | inl same ↦ rw same.0 refl
       | inr told ↦ absurd (told.1 refl)
     ]
 
 -- a number above it and the 16 bytes stands for the value that begins there
-some_placed : (file : Opened) (start : ℕ) → start < length file.section
-    → place_of_record file (Some (file.nodes + 16 + start)) ≡ Ok (Some start)
-some_placed file start inside =
+some_offset : (file : Opened) (start : ℕ) → start < length file.section
+    → offset_of_record file (Some (file.nodes + 16 + start)) ≡ Ok (Some start)
+some_offset file start inside =
     let r : ℕ = file.nodes + 16 + start in
     elim (eqb_tells r file.nodes) [
       | inl same ↦ absurd (let e = same.1 in omega arith)
@@ -118,7 +118,7 @@ side_number true pair f members is = ap (λ (p : ℕ × ℕ). p.1) is
 
 -- a file of nodes that are the layout of a tree of place numbers, and of any section that holds
 -- the values of its places
-module _ (law : TreeReadsBack) (places : List PlaceParts) (t : Tree ℕ)
+module _ (law : ValueReadsBack) (places : List PlaceParts) (t : Tree ℕ)
     (all : AllLeaves (λ k. k ≤ length places) t) (section : Section)
     (holds : Holds section (values_of places (place_order t))) (bits : Bits)
     (epoch : ℕ) (name : List ℕ) (low : epoch < 2 ^ 64) (utf8 : IsUtf8 name)
@@ -163,23 +163,24 @@ module _ (law : TreeReadsBack) (places : List PlaceParts) (t : Tree ℕ)
 
   -- the records of the tree are read as they were laid out
   read_as : (i : ℕ) → i < length nodes → (b : Bool)
-      → record_at bits (tree_bytes bits nodes) i b ≡ number (side b (records_at (laid nat_eq t) i))
+      → node_record bits (tree_bytes bits nodes) i b
+      ≡ number (side b (records_at (laid nat_eq t) i))
   read_as i inside b =
       let members : Member ℕ × Member ℕ = records_at (laid nat_eq t) i in
       let here : get_or nodes i (0, 0) ≡ (number members.0, number members.1) =
       ap (λ (xs : List (ℕ × ℕ)). get_or xs i (0, 0)) are
       ∙ get_or-map (node_for nat_eq (place_of places) (length nodes) (place_order t)
       section.starts) (laid nat_eq t) i (at i, at i) (0, 0) (omega (arith, inside, nodes_len)) in
-      ap (λ tree. record_at bits tree i b) (sym (append-nil (tree_bytes bits nodes)))
+      ap (λ tree. node_record bits tree i b) (sym (append-nil (tree_bytes bits nodes)))
       ∙ law bits nodes [] fits i inside b
       ∙ side_number b (get_or nodes i (0, 0)) number members here
 
   -- the way along the bits ends at the record of the tree's answer
   sought : (b : Bool) (w : List Bool) (k : ℕ) → look t (b ∷ w) ≡ Some k
-      → seek (record_at bits (tree_bytes bits nodes)) (length nodes) 0 (b ∷ w)
+      → seek (node_record bits (tree_bytes bits nodes)) (length nodes) 0 (b ∷ w)
       ≡ Some (number (says k))
   sought b w k is =
-      seek_goes (length nodes) number (record_at bits (tree_bytes bits nodes)) (laid nat_eq t)
+      seek_goes (length nodes) number (node_record bits (tree_bytes bits nodes)) (laid nat_eq t)
       (λ i. refl) says_past read_as
       (λ i past. get_or_past (laid nat_eq t) i (at i, at i) (omega (arith, past, nodes_len)))
       k (b ∷ w) 0 (LaidOut-holds nat_eq nat_equality t b w ∙ is)
@@ -208,33 +209,33 @@ module _ (law : TreeReadsBack) (places : List PlaceParts) (t : Tree ℕ)
 
   -- the record of an answer leads to the value of its place
   told_at : (k : ℕ) → In k (leaves t) → (o : Option PlaceParts) → place_of places k ≡ o
-      → value_at file (place_of_record file (Some (number (says k))))
+      → value_at file (offset_of_record file (Some (number (says k))))
       ≡ Ok (option_map place_value o)
   told_at k leaf-of None is =
       let r : number (says k) ≡ length nodes =
       ap (λ (o : Option PlaceParts). if is_some o then length nodes + 16 + start_of k
       else length nodes) is in
-      ap (λ n. value_at file (place_of_record file (Some n))) r
-      ∙ ap (value_at file) (none_placed file)
+      ap (λ n. value_at file (offset_of_record file (Some n))) r
+      ∙ ap (value_at file) (no_offset file)
   told_at k leaf-of (Some p) is =
       let read : reads section.bytes (start_of k) ≡ Ok (place_value p) =
       value_held k leaf-of p is in
       let r : number (says k) ≡ length nodes + 16 + start_of k =
       ap (λ (o : Option PlaceParts). if is_some o then length nodes + 16 + start_of k
       else length nodes) is in
-      ap (λ n. value_at file (place_of_record file (Some n))) r
-      ∙ ap (value_at file) (some_placed file (start_of k)
+      ap (λ n. value_at file (offset_of_record file (Some n))) r
+      ∙ ap (value_at file) (some_offset file (start_of k)
       (reads_within section.bytes (start_of k) (place_value p) read))
       ∙ ap value_read read
 
   pub walked : (b : Bool) (w : List Bool) (k : ℕ) → look t (b ∷ w) ≡ Some k
       → walk (file_of bits nodes section.bytes epoch name) (b ∷ w)
       ≡ Ok (option_map place_value (place_of places k))
-  unfolding walk place_at
+  unfolding walk offset_at
   walked b w k is =
       ap (λ o. walk_opened o (b ∷ w))
       (opened_again bits nodes section.bytes epoch name some_nodes few low utf8 short)
-      ∙ ap (λ s. value_at file (place_of_record file s)) (sought b w k is)
+      ∙ ap (λ s. value_at file (offset_of_record file s)) (sought b w k is)
       ∙ told_at k (look_in t (b ∷ w) k is) (place_of places k) refl
 
 -- the law along the bits of an address, where the nodes are counted by those of the tree

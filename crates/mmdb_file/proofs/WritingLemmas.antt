@@ -4,7 +4,7 @@ use Rattle.std.proofs.Common.{[], ◌∷◌, ◌++◌, length, take, drop, get_o
 use Rattle.std.proofs.Common.{◌∙◌, arith, append_assoc, append-nil, length-append, length-take, inl}
 use Rattle.std.proofs.Common.{inr, subst, All, add-one}
 use Rattle.std.proofs.Common.{map as map_list}
-use Rattle.mmdb_data.specs.Tree.{Tree, map, most, CanBeSpelled}
+use Rattle.mmdb_data.specs.ValueTree.{ValueTree, map, most, CanBeSpelled}
 use Rattle.mmdb_data.specs.Packing.{Packed, in_full, all_in_full, offsets_in}
 use Rattle.std.specs.List.{position, position_or_len, list_any}
 use Rattle.std.proofs.lemmas.Bool.{cases_lt, lt-ltb}
@@ -69,7 +69,7 @@ put_more bits nodes tree new n inside room done is =
     let more : take (n + 1) nodes ≡ take n nodes ++ node ∷ [] = take_more nodes n (0, 0) inside in
     let below : (n + 1) * width bits ≤ length nodes * width bits =
     mul-le-mul_right (width bits) (omega arith) in
-    let step : (n + 1) * width bits ≡ n * width bits + 1 * width bits = add-mul n 1 (width bits) in
+    let adds : (n + 1) * width bits ≡ n * width bits + 1 * width bits = add-mul n 1 (width bits) in
     let long : length (front ++ bytes) ≡ (n + 1) * width bits = omega (
       arith,
       length-append front bytes,
@@ -88,7 +88,7 @@ put_more bits nodes tree new n inside room done is =
     ∙ ap (λ b. tree_bytes bits (take n nodes) ++ b) last)
 
 -- one more value in the data section
-module _ (value : ℕ → Tree) (numbers : List ℕ) (i : ℕ) (inside : i < length numbers) where
+module _ (value : ℕ → ValueTree) (numbers : List ℕ) (i : ℕ) (inside : i < length numbers) where
   rest_is : map_list value (drop i numbers)
       ≡ value (get_or numbers i 0) ∷ map_list value (drop (i + 1) numbers)
   rest_is =
@@ -154,21 +154,21 @@ node_by_children pairs number id left right is =
 
 -- members that were added one after another
 abbrev Pairs : Type 0
-Pairs = List (List ℕ × Tree)
+Pairs = List (List ℕ × ValueTree)
 
 -- a member that was added with an equal value
-pub added_value : (new old : Pairs) (key : List ℕ) (v w : Tree)
+pub added_value : (new old : Pairs) (key : List ℕ) (v w : ValueTree)
     → new ≡ old ++ (key, v) ∷ [] → v ≡ w → new ≡ old ++ (key, w) ∷ []
 added_value new old key v w is same = is ∙ ap (λ t. old ++ (key, t) ∷ []) same
 
 -- one more behind some
-added_one : (old new later xs : Pairs) (b : List ℕ × Tree)
+added_one : (old new later xs : Pairs) (b : List ℕ × ValueTree)
     → new ≡ old ++ xs → later ≡ new ++ b ∷ [] → later ≡ old ++ (xs ++ b ∷ [])
 added_one old new later xs b is more =
     more ∙ ap (λ n. n ++ b ∷ []) is ∙ append_assoc old xs (b ∷ [])
 
 -- the four members of the tree
-pub added_four : (old x1 x2 x3 x4 : Pairs) (a b c d : List ℕ × Tree)
+pub added_four : (old x1 x2 x3 x4 : Pairs) (a b c d : List ℕ × ValueTree)
     → x1 ≡ old ++ a ∷ [] → x2 ≡ x1 ++ b ∷ [] → x3 ≡ x2 ++ c ∷ [] → x4 ≡ x3 ++ d ∷ []
     → x4 ≡ old ++ a ∷ b ∷ c ∷ d ∷ []
 added_four old x1 x2 x3 x4 a b c d e1 e2 e3 e4 =
@@ -176,7 +176,7 @@ added_four old x1 x2 x3 x4 a b c d e1 e2 e3 e4 =
     (added_one old x2 x3 (a ∷ b ∷ []) c (added_one old x1 x2 (a ∷ []) b e1 e2) e3) e4
 
 -- the five members of the kind
-pub added_five : (old x1 x2 x3 x4 x5 : Pairs) (a b c d e : List ℕ × Tree)
+pub added_five : (old x1 x2 x3 x4 x5 : Pairs) (a b c d e : List ℕ × ValueTree)
     → x1 ≡ old ++ a ∷ [] → x2 ≡ x1 ++ b ∷ [] → x3 ≡ x2 ++ c ∷ [] → x4 ≡ x3 ++ d ∷ []
     → x5 ≡ x4 ++ e ∷ [] → x5 ≡ old ++ a ∷ b ∷ c ∷ d ∷ e ∷ []
 added_five old x1 x2 x3 x4 x5 a b c d e e1 e2 e3 e4 e5 =

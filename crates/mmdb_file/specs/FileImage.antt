@@ -9,7 +9,7 @@ use Rattle.geo_terms.specs.Precedence.{record_at}
 use Rattle.trie_core.specs.Tree.{Tree, tree}
 use Rattle.least_nodes.specs.NodeList.{Member, at, says}
 use Rattle.least_nodes.specs.Layout.{laid, leaf_order}
-use Rattle.mmdb_data.specs.Tree.{Tree as Value, map as map_value, no_members}
+use Rattle.mmdb_data.specs.ValueTree.{ValueTree as Value, map as map_value, no_members}
 use Rattle.mmdb_tree.specs.declared.bits.Bits.{Bits}
 use Rattle.mmdb_tree.specs.Nodes.{smallest, record_size, tree_bytes}
 use Rattle.mmdb_file.specs.Marker.{marker}

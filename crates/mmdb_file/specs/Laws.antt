@@ -7,7 +7,7 @@ use Rattle.geo_terms.specs.PlaceForm.{PlaceParts}
 use Rattle.geo_terms.specs.Numbers.{place_at, same_place}
 use Rattle.trie_core.specs.Tree.{Tree, look, AllLeaves, map_tree}
 use Rattle.least_nodes.specs.Layout.{laid, place_order}
-use Rattle.mmdb_data.specs.Tree.{Tree as Value, CanBeReadBack}
+use Rattle.mmdb_data.specs.ValueTree.{ValueTree as Value, CanBeReadBack}
 use Rattle.mmdb_tree.specs.declared.bits.Bits.{Bits}
 use Rattle.mmdb_tree.specs.Laws.{NodeFits}
 use Rattle.mmdb_tree.specs.Nodes.{record_size}

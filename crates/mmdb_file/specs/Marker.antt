@@ -12,9 +12,9 @@ begins [] bytes = true
 begins (m ∷ ms) [] = false
 begins (m ∷ ms) (b ∷ bytes) = m == b && begins ms bytes
 
--- one byte further in front: a later place, or this one
+-- one byte further in front: a later offset, or this one
 abbrev pub later_or : Option ℕ → Bool → Option ℕ
-later_or (Some place) here = Some (suc place)
+later_or (Some offset) here = Some (suc offset)
 later_or None true = Some 0
 later_or None false = None
 

@@ -15,7 +15,7 @@ use Rattle.trie_core.specs.Tree.{Tree, map_tree}
 use Rattle.trie_core.specs.Store.{leaf_at, tree_of}
 use Rattle.least_nodes.specs.NodeList.{Member, at, go}
 use Rattle.least_nodes.specs.Layout.{inner, place_order}
-use Rattle.mmdb_data.specs.Tree.{Tree as Value}
+use Rattle.mmdb_data.specs.ValueTree.{ValueTree as Value}
 use Rattle.mmdb_file.specs.FileImage.{answer_value}
 use Rattle.mmdb_file.specs.Section.{Section, section_of}
 

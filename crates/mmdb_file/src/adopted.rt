@@ -3,24 +3,23 @@ ghost use Rattle.std.specs.Prelude.{◌≡◌, ◌+◌, ◌≤◌, length, codes
 ghost use Rattle.std.specs.Option.{option_map};
 ghost use Rattle.geo_addr.specs.Bits.{bits_of};
 ghost use Rattle.mmdb_data.specs.Reading.{reads};
-ghost use Rattle.mmdb_data.specs.View.{tree as value_tree, members_view};
-ghost use Rattle.mmdb_tree.specs.Nodes.{record_at};
+ghost use Rattle.mmdb_data.specs.View.{value_tree, members_view};
+ghost use Rattle.mmdb_tree.specs.Nodes.{node_record};
 ghost use Rattle.mmdb_file.specs.Adopting.{Gives, Tells, told_view};
-ghost use Rattle.mmdb_file.specs.Walk.{told_of, told_of_value, opened, opened_with, place_at, seek};
+ghost use Rattle.mmdb_file.specs.Walk.{told_of, told_of_value, opened, opened_with, offset_at};
+ghost use Rattle.mmdb_file.specs.Walk.{seek};
 ghost use Rattle.mmdb_file.specs.Walk.{number_field as number_of_field, field as field_of};
 ghost use Rattle.mmdb_file.specs.Walk.{count_of as count_from, bits_of_size as bits_from};
 ghost use Rattle.mmdb_file.specs.Walk.{cut as cut_from};
 
 use crate::fault::{OpenFault, WalkFault};
 use crate::marker::{MARKER_LEN, last_marker};
+use crate::numbers::GAP;
 use geo_addr::{Addr, Text};
 use mmdb_data::{DataFault, Value, decode};
 use mmdb_tree::{Bits, get_record};
 use std::alloc::Global;
 use std::marker::Model;
-
-/// The bytes between the search tree and the data section.
-const GAP: usize = 16;
 
 /// A MaxMind DB file whose metadata was read: its search tree and its data section.
 #[derive(Debug, Drop)]
@@ -65,20 +64,20 @@ impl<'a> Mmdb<'a> {
     pub fn adopt(alloc: Global, bytes: &'a [u8]) -> Result<Mmdb<'a>, OpenFault>
         ensures { Gives result (opened bytes.now) }
     {
-        let Some(place) = last_marker(bytes) else {
+        let Some(offset) = last_marker(bytes) else {
             return Err(OpenFault::NoMarker);
         };
-        match metadata_in(alloc, &bytes[place + MARKER_LEN..]) {
-            Ok(Some(metadata)) => open_with(&bytes[..place], metadata),
+        match metadata_in(alloc, &bytes[offset + MARKER_LEN..]) {
+            Ok(Some(metadata)) => open_with(&bytes[..offset], metadata),
             Ok(None) => Err(OpenFault::Metadata),
             Err(fault) => Err(fault),
         }
     }
 
     /// Where the value of the address stands in the data section, if it has one.
-    #[tactic(auto, unfolding(crate::specs::Walk::place_at))]
+    #[tactic(auto, unfolding(crate::specs::Walk::offset_at))]
     pub fn find(&self, at: Addr) -> Result<Option<u64>, WalkFault>
-        ensures { result ≡ place_at self.now (bits_of 128 at.0) }
+        ensures { result ≡ offset_at self.now (bits_of 128 at.0) }
     {
         let Some(record) = self.seek(at) else {
             return Err(WalkFault::NotEnded);
@@ -86,7 +85,7 @@ impl<'a> Mmdb<'a> {
         if record == self.nodes {
             return Ok(None);
         }
-        let (record, start) = (u64::from(record), u64::from(self.nodes) + GAP as u64);
+        let (record, start) = (u64::from(record), u64::from(self.nodes) + GAP);
         if record < start || record - start >= self.section.len() as u64 {
             return Err(WalkFault::OutOfSection);
         }
@@ -102,7 +101,7 @@ impl<'a> Mmdb<'a> {
 
     fn seek(&self, at: Addr) -> Option<u32>
         ensures { result
-            ≡ seek (record_at self.now.bits self.now.tree) self.now.nodes 0 (bits_of 128 at.0) }
+            ≡ seek (node_record self.now.bits self.now.tree) self.now.nodes 0 (bits_of 128 at.0) }
     {
         let mut record = 0;
         let mut left: u32 = 128;
@@ -133,14 +132,15 @@ fn cut(front: &[u8], metadata: Metadata) -> Result<Mmdb<'_>, OpenFault>
     ensures { result ≡ cut_from front.now (told_view metadata) }
 {
     let tree_len = metadata.nodes as usize * metadata.bits.width();
-    if front.len() < tree_len + GAP {
+    let section_at = tree_len + GAP as usize;
+    if front.len() < section_at {
         return Err(OpenFault::TreeCut);
     }
     Ok(Mmdb {
         bits: metadata.bits,
         nodes: metadata.nodes,
         tree: &front[..tree_len],
-        section: &front[tree_len + GAP..],
+        section: &front[section_at..],
     })
 }
 

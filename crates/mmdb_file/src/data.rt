@@ -1,8 +1,8 @@
 //! The data section of a file.
 ghost use Rattle.std.specs.Prelude.{◌≡◌, ◌++◌, [], ◌∷◌, length, IfOk, OnOk};
-ghost use Rattle.mmdb_data.specs.Tree.{CanBeReadBack};
+ghost use Rattle.mmdb_data.specs.ValueTree.{CanBeReadBack};
 ghost use Rattle.mmdb_data.specs.Packing.{in_full};
-ghost use Rattle.mmdb_data.specs.View.{tree as value_tree};
+ghost use Rattle.mmdb_data.specs.View.{value_tree};
 ghost use Rattle.geo_terms.specs.Numbers.{place_at};
 ghost use Rattle.mmdb_file.specs.FileImage.{answer_value};
 ghost use Rattle.mmdb_file.specs.Section.{Holds, section_of};

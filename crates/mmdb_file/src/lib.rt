@@ -21,6 +21,3 @@ pub use laws::{
 pub use metadata::Meta;
 pub use place::place_value;
 pub use writing::{Emitted, numbers_to_places, write_file};
-
-#[cfg(test)]
-mod tests;

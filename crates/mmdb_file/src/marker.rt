@@ -12,14 +12,14 @@ pub(crate) const MARKER_LEN: usize = 14;
 
 /// Where the last marker begins, sought from the end.
 pub(crate) fn last_marker(bytes: &[u8]) -> Option<usize>
-    ensures place { result ≡ last_marker_of bytes.now }
-    ensures within { IfSome result (λ place. place + 14 ≤ length bytes.now) }
+    ensures offset { result ≡ last_marker_of bytes.now }
+    ensures within { IfSome result (λ offset. offset + 14 ≤ length bytes.now) }
 {
-    let mut place = bytes.len();
-    while place > 0 {
-        place -= 1;
-        if begins_marker(&bytes[place..]) {
-            return Some(place);
+    let mut offset = bytes.len();
+    while offset > 0 {
+        offset -= 1;
+        if begins_marker(&bytes[offset..]) {
+            return Some(offset);
         }
     }
     None

@@ -1,9 +1,9 @@
 //! The metadata of a file that is written.
 ghost use Rattle.std.specs.Prelude.{◌≡◌, ◌++◌, ◌<◌, ◌^◌, IfOk, OnOk, map as map_list};
 ghost use Rattle.std.specs.Str.{IsUtf8};
-ghost use Rattle.mmdb_data.specs.Tree.{map as map_tree, u16 as u16_tree, u32 as u32_tree};
-ghost use Rattle.mmdb_data.specs.Tree.{u64 as u64_tree};
-ghost use Rattle.mmdb_data.specs.View.{tree as value_tree, pair_view};
+ghost use Rattle.mmdb_data.specs.ValueTree.{map as map_tree, u16 as u16_tree, u32 as u32_tree};
+ghost use Rattle.mmdb_data.specs.ValueTree.{u64 as u64_tree};
+ghost use Rattle.mmdb_data.specs.View.{value_tree, pair_view};
 ghost use Rattle.mmdb_tree.specs.Nodes.{record_size};
 ghost use Rattle.mmdb_file.specs.Metadata.{kind_members, tree_members, told_members};
 

@@ -1,8 +1,9 @@
 //! The value that stands for a place in the data section.
 ghost use Rattle.std.specs.Prelude.{◌≡◌, [], ◌∷◌, ◌++◌, IfOk, OnOk, map as map_list, codes};
-ghost use Rattle.mmdb_data.specs.Tree.{CanBeReadBack, text as text_tree, list as list_tree, item};
-ghost use Rattle.mmdb_data.specs.Tree.{no_items};
-ghost use Rattle.mmdb_data.specs.View.{tree as value_tree, pair_view};
+ghost use Rattle.mmdb_data.specs.ValueTree.{CanBeReadBack, text as text_tree, list as list_tree};
+ghost use Rattle.mmdb_data.specs.ValueTree.{item};
+ghost use Rattle.mmdb_data.specs.ValueTree.{no_items};
+ghost use Rattle.mmdb_data.specs.View.{value_tree, pair_view};
 ghost use Rattle.mmdb_file.specs.PlaceValue.{one, subdivision as subdivision_of, city_member};
 ghost use Rattle.mmdb_file.specs.PlaceValue.{country_member, postal_member, region_member};
 ghost use Rattle.mmdb_file.specs.PlaceValue.{subdivision_list, place_value as value_of_place};

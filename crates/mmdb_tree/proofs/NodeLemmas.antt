@@ -5,8 +5,8 @@ use Rattle.std.proofs.Math.Seq.{drop-append-add}
 use Rattle.std.proofs.Math.Nat.{suc-mul, zero-mul}
 use Rattle.mmdb_tree.specs.declared.bits.Bits.{Bits}
 use Rattle.mmdb_tree.specs.declared.bits.Bits.TheVariants.{B24, B28, B32}
-use Rattle.mmdb_tree.specs.Nodes.{width, node_bytes, record_in, record_at, tree_bytes}
-use Rattle.mmdb_tree.specs.Laws.{NodeFits, NodeReadsBack, TreeReadsBack, record_of}
+use Rattle.mmdb_tree.specs.Nodes.{width, node_bytes, record_in, node_record, tree_bytes}
+use Rattle.mmdb_tree.specs.Laws.{NodeFits, NodeReadsBack, ValueReadsBack, record_of}
 
 pub length-node_bytes : (bits : Bits) (left right : ℕ)
     → length (node_bytes bits left right) ≡ width bits
@@ -20,8 +20,8 @@ one_node : NodeReadsBack
 one_node law bits node after fits false = (law bits node.0 node.1 after fits.0 fits.1).0
 one_node law bits node after fits true = (law bits node.0 node.1 after fits.0 fits.1).1
 
-pub any_node : NodeReadsBack → TreeReadsBack
-unfolding record_at
+pub any_node : NodeReadsBack → ValueReadsBack
+unfolding node_record
 any_node law bits [] after fit n below right = absurd (omega arith)
 any_node law bits (node ∷ nodes) after fit zero below right =
     rw (
@@ -30,10 +30,10 @@ any_node law bits (node ∷ nodes) after fit zero below right =
     ) (one_node law bits node (tree_bytes bits nodes ++ after) (fit 0 (omega arith)) right)
 any_node law bits (node ∷ nodes) after fit (suc n) below right =
     let long = length-node_bytes bits node.0 node.1 in
-    let place : suc n * width bits ≡ length (node_bytes bits node.0 node.1) + n * width bits =
+    let total : suc n * width bits ≡ length (node_bytes bits node.0 node.1) + n * width bits =
     rw (suc-mul, long) (omega arith) in
     let moved : drop (suc n * width bits) ((node_bytes bits node.0 node.1 ++ tree_bytes bits nodes)
     ++ after) ≡ drop (n * width bits) (tree_bytes bits nodes ++ after) =
-    rw (place, append_assoc, drop-append-add) refl in
+    rw (total, append_assoc, drop-append-add) refl in
     rw moved
     (any_node law bits nodes after (λ k h. fit (suc k) (omega arith)) n (omega arith) right)

@@ -2,7 +2,7 @@
 use Rattle.std.specs.Prelude.{◌≡◌, ◌<◌, ℕ, Bool, true, false, cond, List, ◌++◌, length}
 use Rattle.std.specs.Prelude.{slice_index_or}
 use Rattle.mmdb_tree.specs.declared.bits.Bits.{Bits}
-use Rattle.mmdb_tree.specs.Nodes.{limit, node_bytes, record_in, record_at, tree_bytes}
+use Rattle.mmdb_tree.specs.Nodes.{limit, node_bytes, record_in, node_record, tree_bytes}
 
 -- both records fit
 abbrev pub NodeFits : Bits → ℕ × ℕ → Type 0
@@ -20,9 +20,9 @@ NodeReadsBack =
     × (record_in bits (node_bytes bits left right ++ after) true ≡ right)
 
 -- each node of a tree that was written is read back, whatever follows the tree
-abbrev pub TreeReadsBack : Type 0
-TreeReadsBack =
+abbrev pub ValueReadsBack : Type 0
+ValueReadsBack =
     (bits : Bits) (nodes : List (ℕ × ℕ)) (after : List ℕ)
     → ((k : ℕ) → k < length nodes → NodeFits bits (slice_index_or nodes k (0, 0)))
-    → (n : ℕ) → n < length nodes → (right : Bool) → record_at bits
+    → (n : ℕ) → n < length nodes → (right : Bool) → node_record bits
     (tree_bytes bits nodes ++ after) n right ≡ record_of right (slice_index_or nodes n (0, 0))

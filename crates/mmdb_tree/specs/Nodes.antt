@@ -43,8 +43,8 @@ record_in B32 bytes false = big_from 0 4 bytes
 record_in B32 bytes true = big_from 4 4 bytes
 
 -- the left or right record of node n of a tree
-unfoldable pub record_at : Bits → List ℕ → ℕ → Bool → ℕ
-record_at bits tree n side = record_in bits (drop (n * width bits) tree) side
+unfoldable pub node_record : Bits → List ℕ → ℕ → Bool → ℕ
+node_record bits tree n side = record_in bits (drop (n * width bits) tree) side
 
 -- the bytes of nodes that are given by their records, in order
 abbrev pub tree_bytes : Bits → List (ℕ × ℕ) → List ℕ

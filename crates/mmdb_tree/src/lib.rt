@@ -8,6 +8,3 @@ mod node;
 pub use bits::{Bits, record_bits};
 pub use laws::{node_reads_back, tree_reads_back};
 pub use node::{get_record, put_node};
-
-#[cfg(test)]
-mod tests;

@@ -1,5 +1,5 @@
 ghost use Rattle.std.specs.Prelude.{◌≡◌, ◌+◌, ◌*◌, ◌<◌, ◌≤◌, ◌++◌, length, take, drop};
-ghost use Rattle.mmdb_tree.specs.Nodes.{limit, node_bytes, record_at, width};
+ghost use Rattle.mmdb_tree.specs.Nodes.{limit, node_bytes, node_record, width};
 
 use crate::bits::Bits;
 
@@ -23,10 +23,10 @@ pub fn put_node(tree: &mut [u8], bits: Bits, n: u32, left: u32, right: u32)
 }
 
 /// The left record of node `n`, or with `right` the right one.
-#[tactic(auto, unfolding(crate::specs::Nodes::record_at))]
+#[tactic(auto, unfolding(crate::specs::Nodes::node_record))]
 pub fn get_record(tree: &[u8], bits: Bits, n: u32, right: bool) -> u32
     requires within { n * width bits + width bits ≤ length tree.now }
-    ensures { result ≡ record_at bits tree.now n right }
+    ensures { result ≡ node_record bits tree.now n right }
 {
     let start = n as usize * bits.width();
     let node = &tree[start..start + bits.width()];

@@ -3,8 +3,6 @@
 
 mod read;
 mod record;
-#[cfg(test)]
-mod tests;
 mod verdict;
 
-pub use read::read_stats;
+pub use read::{LONGEST_STATS, read_stats};

@@ -8,8 +8,8 @@ use geo_addr::{Line, Lines, List, Memory, Text};
 use geo_terms::{Delegation, Note, Origin, SourceFault, Stats, Texts};
 use std::alloc::Global;
 
-/// The most bytes of a file.
-const LONGEST: usize = 268_435_456;
+/// The most bytes of a statistics file.
+pub const LONGEST_STATS: usize = 268_435_456;
 
 /// The most delegations of a file.
 const MOST: usize = 2_097_152;
@@ -27,7 +27,7 @@ pub fn read_stats(alloc: Global, slot: &str, bytes: &[u8]) -> Result<Stats, Sour
     ensures too_long { (result ≡ Err SourceFault.TooLong) ↔ (longest < length bytes.now) }
     ensures too_many { result ≡ Err SourceFault.TooMany → most < length (rows slot.now bytes.now) }
 {
-    if bytes.len() > LONGEST {
+    if bytes.len() > LONGEST_STATS {
         return Err(SourceFault::TooLong);
     }
     let slot = Text::of(alloc, slot)?;

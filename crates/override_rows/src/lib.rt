@@ -2,8 +2,6 @@
 #![tactic(auto)]
 
 mod read;
-#[cfg(test)]
-mod tests;
 mod verdict;
 
-pub use read::read_overrides;
+pub use read::{LONGEST_OVERRIDES, read_overrides};

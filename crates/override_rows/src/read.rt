@@ -12,8 +12,8 @@ use geo_addr::{Line, Lines, List, Memory};
 use geo_terms::{Note, Origin, Override, Overrides, Rule, SourceFault, Texts};
 use std::alloc::Global;
 
-/// The most bytes of a file.
-const LONGEST: usize = 67_108_864;
+/// The most bytes of a file of overrides.
+pub const LONGEST_OVERRIDES: usize = 67_108_864;
 
 /// The most lines that pass the line rules.
 const MOST: usize = 2_097_152;
@@ -29,7 +29,7 @@ pub fn read_overrides(alloc: Global, bytes: &[u8]) -> Result<Overrides, SourceFa
     ensures too_long { (result ≡ Err SourceFault.TooLong) ↔ (longest < length bytes.now) }
     ensures too_many { result ≡ Err SourceFault.TooMany → most < length (accepted bytes.now) }
 {
-    if bytes.len() > LONGEST {
+    if bytes.len() > LONGEST_OVERRIDES {
         return Err(SourceFault::TooLong);
     }
     let found = read_lines(alloc, bytes)?;

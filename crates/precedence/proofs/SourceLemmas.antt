@@ -17,59 +17,59 @@ use Rattle.geo_terms.specs.Sources.{InForce}
 use Rattle.geo_terms.specs.declared.statement.Reference.{Reference}
 use Rattle.cut_segments.proofs.CutLemmas.{all_cuts, all_of_ranges}
 use Rattle.cut_segments.proofs.InsideLemmas.{kept_from}
-use Rattle.cut_segments.specs.CutPlaces.{whole, AreCutsInside}
-use Rattle.precedence.specs.CutPlaces.{AreSourceSegments, IsConstantBetween}
+use Rattle.cut_segments.specs.CutPoints.{whole, AreCutsInside}
+use Rattle.precedence.specs.CutPoints.{AreSourceSegments, IsConstantBetween}
 use Rattle.source_changes.specs.Touched.{is_touched}
 use Rattle.cut_segments.specs.Segments.{AreSegments}
 
 -- where all cut points of the sources are known, the same is said between them
-pub constant : (s : InForce) (places : List ℕ) → AreCuts (statement_ranges s) whole places
-    → IsConstantBetween s places
-constant s places exact a b le high none =
+pub constant : (s : InForce) (points : List ℕ) → AreCuts (statement_ranges s) whole points
+    → IsConstantBetween s points
+constant s points exact a b le high none =
     constant_between_cuts s a b le
     (λ c above upto cut. none c above upto ((exact c).1 (cut, (omega arith, omega arith))))
 
-module _ (s : InForce) (touched bounds : List Ends) (places : List ℕ) (inside : AreCutsInside
-    (statement_ranges s) bounds places) (ascending : IsStrictlyIncreasing places)
+module _ (s : InForce) (touched bounds : List Ends) (points : List ℕ) (inside : AreCutsInside
+    (statement_ranges s) bounds points) (ascending : IsStrictlyIncreasing points)
     (covered : (a : ℕ) → IsWithin whole a → IsTrue (is_touched touched a)
     → Any (λ r. IsWithin r a) bounds) where
   rs : List Ends
   rs = statement_ranges s
 
-  -- of the places that were gathered those that are touched are all that are
-  same_touched : filter (is_touched touched) places ≡ filter (is_touched touched) (all_cuts rs)
+  -- of the points that were gathered those that are touched are all that are
+  same_touched : filter (is_touched touched) points ≡ filter (is_touched touched) (all_cuts rs)
   unfolding rs
   same_touched =
-      same_members 0 (filter (is_touched touched) places)
+      same_members 0 (filter (is_touched touched) points)
       (filter (is_touched touched) (all_cuts rs))
-      (up_from _ (IsStrictlyIncreasing-filter (is_touched touched) places ascending))
+      (up_from _ (IsStrictlyIncreasing-filter (is_touched touched) points ascending))
       (up_from _
       (IsStrictlyIncreasing-filter (is_touched touched) (all_cuts rs) (all_of_ranges rs).ascending))
       there back
     where
-      there : (c : ℕ) → Among c (filter (is_touched touched) places)
+      there : (c : ℕ) → Among c (filter (is_touched touched) points)
           → Among c (filter (is_touched touched) (all_cuts rs))
       there c is =
-          let kept = kept_from (is_touched touched) c places is in
-          let cut = (inside c).0 (contains_from_among c places kept.0) in
+          let kept = kept_from (is_touched touched) c points is in
+          let cut = (inside c).0 (contains_from_among c points kept.0) in
           among_filter (is_touched touched) c (all_cuts rs)
           (among_from_contains c (all_cuts rs) (((all_of_ranges rs).exact c).1 cut.0)) kept.1
 
       back : (c : ℕ) → Among c (filter (is_touched touched) (all_cuts rs))
-          → Among c (filter (is_touched touched) places)
+          → Among c (filter (is_touched touched) points)
       back c is =
           let kept = kept_from (is_touched touched) c (all_cuts rs) is in
           let cut = ((all_of_ranges rs).exact c).0 (contains_from_among c (all_cuts rs) kept.0) in
-          among_filter (is_touched touched) c places
-          (among_from_contains c places ((inside c).1 (cut, covered c cut.1 kept.1))) kept.1
+          among_filter (is_touched touched) c points
+          (among_from_contains c points ((inside c).1 (cut, covered c cut.1 kept.1))) kept.1
 
-  same_count : count_by (is_touched touched) places ≡ count_by (is_touched touched) (all_cuts rs)
+  same_count : count_by (is_touched touched) points ≡ count_by (is_touched touched) (all_cuts rs)
   same_count =
-      sym (length-filter (is_touched touched) places) ∙ ap length same_touched
+      sym (length-filter (is_touched touched) points) ∙ ap length same_touched
       ∙ length-filter (is_touched touched) (all_cuts rs)
 
-  -- segments at the places that were gathered are segments of the sources
-  pub segments_of_sources : (out : List Ends) → AreSegments touched places out
+  -- segments at the points that were gathered are segments of the sources
+  pub segments_of_sources : (out : List Ends) → AreSegments touched points out
       → AreSourceSegments s touched out
   unfolding rs
   segments_of_sources out segments = record {
@@ -82,14 +82,14 @@ module _ (s : InForce) (touched bounds : List Ends) (places : List ℕ) (inside 
         let within : IsWithin whole c = (omega arith, omega arith) in
         let here : Any (λ r. IsWithin r c) out =
         (k, get_or out k d, below, self_at out k d below, (omega arith, upto)) in
-        let is : Contains places c =
+        let is : Contains points c =
         (inside c).1 ((cut, within), covered c within (segments.inside c here)) in
         let past : (get_or out k d).last < c = segments.uncut c is k d below above in
         omega arith;
-    places = all_cuts rs;
+    points = all_cuts rs;
     cuts = all_of_ranges rs;
     few =
-        let few : length out ≤ length touched + count_by (is_touched touched) places =
+        let few : length out ≤ length touched + count_by (is_touched touched) points =
         segments.few in let e = same_count in
         omega arith;
   }

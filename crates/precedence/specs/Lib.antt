@@ -1,2 +1,2 @@
-pub mod CutPlaces
+pub mod CutPoints
 pub mod Why

@@ -7,5 +7,6 @@ mod why;
 
 pub use authority::DropFault;
 pub use cut_segments::segments_of;
+pub use kept_sources::ReadyFeed;
 pub use sources::Sources;
 pub use why::Why;

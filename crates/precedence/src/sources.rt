@@ -9,7 +9,7 @@ use geo_addr::{Addr, Block, Memory, Range};
 use geo_terms::{
     Delegation, Dump, Entry, Feed, Note, Override, Overrides, Place, Reference, Said, Stats, home,
 };
-use kept_sources::{Overriding, Speaking, Statistics};
+use kept_sources::{Overriding, ReadyFeed, Speaking, Statistics};
 use std::alloc::Global;
 use std::marker::Model;
 use std::sync::Arc;
@@ -57,8 +57,8 @@ impl Sources {
     ghost use Rattle.geo_terms.specs.Report.{alias_notes, reader_notes, report};
     ghost use Rattle.geo_terms.specs.Sources.{feed_of, no_sources, references};
     ghost use Rattle.geo_terms.specs.SlotOrder.{AreInOrder, placed, removed};
-    ghost use Rattle.cut_segments.specs.CutPlaces.{AreCutsInside, whole};
-    ghost use Rattle.precedence.specs.CutPlaces.{AreSourceSegments, IsConstantBetween};
+    ghost use Rattle.cut_segments.specs.CutPoints.{AreCutsInside, whole};
+    ghost use Rattle.precedence.specs.CutPoints.{AreSourceSegments, IsConstantBetween};
     ghost use Rattle.source_changes.specs.Touched.{is_touched};
     ghost use Rattle.precedence.specs.Why.{reasons_of};
     ghost use Rattle.authority.specs.declared.fault.DropFault.{DropFault};
@@ -75,7 +75,7 @@ impl Sources {
         }
     }
 
-    /// Puts a dump in the place of the one with the same slot, and hands the old one back.
+    /// Sets a dump, which replaces the one with the same slot, and hands the old one back.
     ///
     /// After `Memory` the given dump is dropped.
     pub fn set_rpsl(&mut self, dump: Dump) -> Result<Option<Arc<Dump>>, Memory>
@@ -101,10 +101,25 @@ impl Sources {
         self.speaking.drop_dump(slot)
     }
 
-    /// Puts a feed in the place of the one with the same URL, and hands the old one back.
+    /// Sets a feed, which replaces the one with the same URL, and hands the old one back.
     ///
     /// After `Memory` the given feed is dropped.
     pub fn set_feed(&mut self, feed: Feed) -> Result<Option<Arc<Feed>>, Memory>
+        ensures sources { OnOk result
+            (self.new ≡ record self.old { feeds = placed (λ f. f.url) feed self.old.feeds }) }
+        ensures old { IfOk result (λ old. option_map arc_value old
+            ≡ find (λ f. same_text f.url feed.url) self.old.feeds) }
+        ensures err { OnErr result (self.new ≡ self.old) }
+    {
+        let feed = ReadyFeed::of(self.alloc, feed)?;
+        self.set_ready_feed(feed)
+    }
+
+    /// Puts a feed that is ready over the one with the same URL, and hands the old one
+    /// back.
+    ///
+    /// After `Memory` the given feed is dropped.
+    pub fn set_ready_feed(&mut self, feed: ReadyFeed) -> Result<Option<Arc<Feed>>, Memory>
         ensures sources { OnOk result
             (self.new ≡ record self.old { feeds = placed (λ f. f.url) feed self.old.feeds }) }
         ensures old { IfOk result (λ old. option_map arc_value old
@@ -127,7 +142,7 @@ impl Sources {
         self.speaking.drop_feed(url)
     }
 
-    /// Puts a statistics file in the place of the one with the same slot,
+    /// Sets a statistics file, which replaces the one with the same slot,
     /// and hands the old one back.
     ///
     /// After `Memory` the given file is dropped.
@@ -154,7 +169,7 @@ impl Sources {
         self.statistics.remove(slot)
     }
 
-    /// Puts overrides in the place of those in force, which are handed back.
+    /// Sets overrides; those in force are handed back.
     ///
     /// After `Memory` the given overrides are dropped.
     pub fn set_overrides(&mut self, rows: Overrides) -> Result<Option<Arc<Overrides>>, Memory>
@@ -253,16 +268,32 @@ impl Sources {
         self.speaking.authority().entry_at(at)
     }
 
+    #[tactic(auto, unfolding(geo_terms::specs::Precedence::speaking_entry))]
+    fn entry_near(&self, at: Addr, near: &mut usize) -> Option<&Entry>
+        ensures { option_copied result ≡ speaking_entry self.now at.0 }
+    {
+        self.speaking.authority().entry_near(at, near)
+    }
+
     /// What the sources say of an address. The two blocks of IPv6 addresses that carry IPv4
     /// addresses are no different here from other addresses.
-    #[tactic(auto, unfolding(geo_terms::specs::Precedence::spoken_at))]
     pub fn spoken_at(&self, at: Addr) -> Option<&Place>
+        ensures { option_copied result ≡ spoken_at self.now at.0 }
+    {
+        let mut near = 0;
+        self.spoken_near(at, &mut near)
+    }
+
+    // What the sources say of an address. The speaker's feed is looked for first at the index where
+    // the last one was found.
+    #[tactic(auto, unfolding(geo_terms::specs::Precedence::spoken_at))]
+    fn spoken_near(&self, at: Addr, near: &mut usize) -> Option<&Place>
         ensures { option_copied result ≡ spoken_at self.now at.0 }
     {
         if let Some(row) = self.override_at(at) {
             return said_place(&row.said);
         }
-        if let Some(entry) = self.entry_at(at) {
+        if let Some(entry) = self.entry_near(at, near) {
             return said_place(&entry.said);
         }
         let delegation = self.delegation_at(at)?;
@@ -299,14 +330,23 @@ impl Sources {
         self.spoken_at(Addr(segment.first))
     }
 
+    /// The record of a segment, as `choice` gives it. The speaker's feed is looked for first at the
+    /// index where the last one was found, which spares a halving where segments ascend.
+    pub fn choice_near(&self, segment: Range, near: &mut usize) -> Option<&Place>
+        ensures { option_copied result ≡ spoken_at self.now segment.first }
+    {
+        self.spoken_near(Addr(segment.first), near)
+    }
+
     /// The records of several segments, in their order.
     pub fn choices(&self, segments: &[Range]) -> Result<Vec<Option<&Place>>, Memory>
         ensures { IfOk result (λ choices. map option_copied choices.items
             ≡ map (λ r. spoken_at self.now r.first) segments.now) }
     {
         let mut choices = Vec::with_capacity(self.alloc, segments.len())?;
+        let mut near = 0;
         for segment in segments {
-            choices.push(self.choice(*segment))?;
+            choices.push(self.choice_near(*segment, &mut near))?;
         }
         Ok(choices)
     }
@@ -335,20 +375,20 @@ impl Sources {
         Ok(ranges)
     }
 
-    /// The places at which the statements in force cut a range: ascending, each once.
+    /// The points at which the statements in force cut a range: ascending, each once.
     ///
     /// What is said of an address is constant between two neighbours of
     /// those of the whole address space.
     pub fn cuts_in(&self, within: Range) -> Result<Vec<u128>, Memory>
         ensures exact { IfOk result
-            (λ places. AreCuts (statement_ranges self.now) within places.items) }
-        ensures ascending { IfOk result (λ places. IsStrictlyIncreasing places.items) }
+            (λ points. AreCuts (statement_ranges self.now) within points.items) }
+        ensures ascending { IfOk result (λ points. IsStrictlyIncreasing points.items) }
         ensures constant { within ≡ whole
-            → IfOk result (λ places. IsConstantBetween self.now places.items) }
+            → IfOk result (λ points. IsConstantBetween self.now points.items) }
     {
         let Range { first, last } = within;
-        let places = self.places_in(&[Range { first, last }])?;
-        Ok(places)
+        let points = self.points_in(&[Range { first, last }])?;
+        Ok(points)
     }
 
     /// The touched grounds as ascending ranges that are disjoint, cut at the cut points of the
@@ -363,8 +403,8 @@ impl Sources {
             → spoken_at self.now a ≡ spoken_at self.now r.first) segments.items) }
     {
         let bounds = self.bounds_of(touched)?;
-        let places = self.places_in(bounds.as_slice())?;
-        let segments = segments_between(self.alloc, touched, places.as_slice())?;
+        let points = self.points_in(bounds.as_slice())?;
+        let segments = segments_between(self.alloc, touched, points.as_slice())?;
         Ok(segments)
     }
 
@@ -416,27 +456,33 @@ impl Sources {
 
     // How many cut points the sources have, those of each kind by themselves.
     fn count(&self) -> usize {
-        let rows = self.overriding.places().len();
-        let delegations = self.statistics.places().len();
+        let rows = self.overriding.cuts().len();
+        let delegations = self.statistics.cuts().len();
         (self.speaking.count().saturating_add(delegations)).saturating_add(rows)
     }
 
+    // How much room to make for the cut points inside ascending ranges. One range is mostly the
+    // whole address space.
+    fn room_in(&self, bounds: &[Range]) -> usize {
+        if bounds.len() == 1 { self.count() } else { 0 }
+    }
+
     // The cut points of all sources that lie inside one of ascending ranges: ascending, each once.
-    fn places_in(&self, bounds: &[Range]) -> Result<Vec<u128>, Memory>
+    fn points_in(&self, bounds: &[Range]) -> Result<Vec<u128>, Memory>
         requires ranges { All IsRange bounds.now }
         requires apart { AllAdjacentBelow (λ r t. r.last < t.first) bounds.now (length bounds.now) }
         ensures exact { IfOk result
-            (λ places. AreCutsInside (statement_ranges self.now) bounds.now places.items) }
-        ensures ascending { IfOk result (λ places. IsStrictlyIncreasing places.items) }
+            (λ points. AreCutsInside (statement_ranges self.now) bounds.now points.items) }
+        ensures ascending { IfOk result (λ points. IsStrictlyIncreasing points.items) }
     {
-        let mut places = Vec::new(self.alloc);
-        self.speaking.push_inside(&mut places, bounds)?;
-        push_inside(&mut places, self.statistics.places(), bounds)?;
-        push_inside(&mut places, self.overriding.places(), bounds)?;
+        let mut points = Vec::with_capacity(self.alloc, self.room_in(bounds))?;
+        self.speaking.push_inside(&mut points, bounds)?;
+        push_inside(&mut points, self.statistics.cuts(), bounds)?;
+        push_inside(&mut points, self.overriding.cuts(), bounds)?;
         // A merge: each list that was appended ascends.
-        places.sort()?;
-        places.dedup();
-        Ok(places)
+        points.sort()?;
+        points.dedup();
+        Ok(points)
     }
 }
 

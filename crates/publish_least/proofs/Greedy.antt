@@ -120,19 +120,19 @@ length-lines_below order (node l r) b d ordered =
 -- ---- where they lie
 
 -- a block is the q-th of 2 ^ n addresses
-pub record IsPlace (n q : ℕ) (b : Prefix) : Type 0 where
+pub record IsNth (n q : ℕ) (b : Prefix) : Type 0 where
   pub long : b.len + n ≡ 128
   pub at : b.first ≡ q * 2 ^ n
 
-lower_place : (n q : ℕ) (b : Prefix) → IsPlace (suc n) q b → IsPlace n (2 * q) (lower_half b)
-lower_place n q b place =
-    let at = place.at in let long = place.long in let low = doubled n q in
+lower_nth : (n q : ℕ) (b : Prefix) → IsNth (suc n) q b → IsNth n (2 * q) (lower_half b)
+lower_nth n q b nth =
+    let at = nth.at in let long = nth.long in let low = doubled n q in
     record { long = omega arith; at = omega arith }
 
-upper_place : (n q : ℕ) (b : Prefix) → IsPlace (suc n) q b → IsPlace n (2 * q + 1) (upper_half b)
-upper_place n q b place =
-    let at = place.at in
-    let long = place.long in
+upper_nth : (n q : ℕ) (b : Prefix) → IsNth (suc n) q b → IsNth n (2 * q + 1) (upper_half b)
+upper_nth n q b nth =
+    let at = nth.at in
+    let long = nth.long in
     let high = doubled_more n q in
     let exponent : 127 - b.len ≡ n = omega arith in
     let half : 2 ^ (127 - b.len) ≡ 2 ^ n = ap (λ e. 2 ^ e) exponent in
@@ -148,24 +148,24 @@ root-each P order t b d all = by (has (best t) d)
     by false = (all (first_of order (best t)), tt)
 
 pub lines_fit : (order : List ℕ) (t : Tree ℕ) (n q : ℕ) (b : Prefix) (d : ℕ) → height t ≤ n
-    → IsPlace n q b → Each (λ x. Fits n q x.block) (lines_below order t b d)
-lines_fit order (leaf x) n q b d low place =
-    root-each (λ x. Fits n q x.block) order (leaf x) b d (λ e. Fits-whole n q b place.long place.at)
-lines_fit order (node l r) zero q b d low place = absurd (omega arith)
-lines_fit order (node l r) (suc n) q b d low place =
+    → IsNth n q b → Each (λ x. Fits n q x.block) (lines_below order t b d)
+lines_fit order (leaf x) n q b d low nth =
+    root-each (λ x. Fits n q x.block) order (leaf x) b d (λ e. Fits-whole n q b nth.long nth.at)
+lines_fit order (node l r) zero q b d low nth = absurd (omega arith)
+lines_fit order (node l r) (suc n) q b d low nth =
     let e : ℕ = standing order (node l r) d in
     Each-append (λ x. Fits (suc n) q x.block) (root_line order (node l r) b d)
     (lines_below order l (lower_half b) e ++ lines_below order r (upper_half b) e)
     (root-each (λ x. Fits (suc n) q x.block) order (node l r) b d
-    (λ e. Fits-whole (suc n) q b place.long place.at))
+    (λ e. Fits-whole (suc n) q b nth.long nth.at))
     (Each-append (λ x. Fits (suc n) q x.block) (lines_below order l (lower_half b) e)
     (lines_below order r (upper_half b) e)
     (Each-weaker (λ x. Fits n (2 * q) x.block) (λ x. Fits (suc n) q x.block)
     (λ x fits. Fits-from_lower n q x.block fits) (lines_below order l (lower_half b) e)
-    (lines_fit order l n (2 * q) (lower_half b) e (omega arith) (lower_place n q b place)))
+    (lines_fit order l n (2 * q) (lower_half b) e (omega arith) (lower_nth n q b nth)))
     (Each-weaker (λ x. Fits n (2 * q + 1) x.block) (λ x. Fits (suc n) q x.block)
     (λ x fits. Fits-from_upper n q x.block fits) (lines_below order r (upper_half b) e)
-    (lines_fit order r n (2 * q + 1) (upper_half b) e (omega arith) (upper_place n q b place))))
+    (lines_fit order r n (2 * q + 1) (upper_half b) e (omega arith) (upper_nth n q b nth))))
 
 -- ---- what they answer
 
@@ -208,33 +208,33 @@ before n q a lines fit to =
     (λ x fits. let high = doubled_more n q in let first = fits.first in
     spans-false_before x.block a (omega arith)) lines fit
 
-place_spans : (n q : ℕ) (b : Prefix) (a : ℕ) → IsPlace n q b → q * 2 ^ n ≤ a → a < q * 2 ^ n + 2 ^ n
+nth_spans : (n q : ℕ) (b : Prefix) (a : ℕ) → IsNth n q b → q * 2 ^ n ≤ a → a < q * 2 ^ n + 2 ^ n
     → spans b a ≡ true
-place_spans n q b a place from to =
-    let long = place.long in
-    let at = place.at in
+nth_spans n q b a nth from to =
+    let long = nth.long in
+    let at = nth.at in
     let exponent : 128 - b.len ≡ n = omega arith in
     let size : 2 ^ (128 - b.len) ≡ 2 ^ n = ap (λ e. 2 ^ e) exponent in
     spans-true b a (omega arith) (omega arith)
 
 -- in a half, each line is longer than one of the whole block
-half_longer : (n q : ℕ) (b : Prefix) (y : Line) (p : ℕ) → IsPlace (suc n) q b → Fits n p y.block
+half_longer : (n q : ℕ) (b : Prefix) (y : Line) (p : ℕ) → IsNth (suc n) q b → Fits n p y.block
     → b.len < y.block.len
-half_longer n q b y p place fits =
-    let long = place.long in let short = fits.short in
+half_longer n q b y p nth fits =
+    let long = nth.long in let short = fits.short in
     let fit = fits.length in omega arith
 
 pub lines_answer : (order : List ℕ) (t : Tree ℕ) (n q : ℕ) (b : Prefix) (d a : ℕ)
-    → IsOrdered order t → height t ≤ n → IsPlace n q b → q * 2 ^ n ≤ a → a < q * 2 ^ n + 2 ^ n
+    → IsOrdered order t → height t ≤ n → IsNth n q b → q * 2 ^ n ≤ a → a < q * 2 ^ n + 2 ^ n
     → look t (bits_of n a) ≡ Some (leaf_or d (longest (λ c. spans c a) (lines_below order t b d)))
-lines_answer order (leaf x) n q b d a ordered low place from to = by (nat_eq d x) refl
+lines_answer order (leaf x) n q b d a ordered low nth from to = by (nat_eq d x) refl
   where
     alone : leaf_or d (longest (λ c. spans c a)
         (record { block = b; leaf = first_of order (x ∷ []) } ∷ [])) ≡ first_of order (x ∷ [])
     alone = ap (leaf_or d) (longest-passed (λ c. spans c a) (record {
       block = b;
       leaf = first_of order (x ∷ []);
-    }) [] (place_spans n q b a place from to))
+    }) [] (nth_spans n q b a nth from to))
 
     by : (p : Bool) → nat_eq d x ≡ p → Some x ≡ Some (leaf_or d (longest (λ c. spans c a)
         (if (p || false) then [] else record { block = b; leaf = first_of order (x ∷ []) } ∷ [])))
@@ -242,8 +242,8 @@ lines_answer order (leaf x) n q b d a ordered low place from to = by (nat_eq d x
     by false is =
         ap Some (sym (only_first x (first_of order (x ∷ [])) (first-best order (leaf x) ordered))
         ∙ sym alone)
-lines_answer order (node l r) zero q b d a ordered low place from to = absurd (omega arith)
-lines_answer order (node l r) (suc n) q b d a ordered low place from to =
+lines_answer order (node l r) zero q b d a ordered low nth from to = absurd (omega arith)
+lines_answer order (node l r) (suc n) q b d a ordered low nth from to =
     elim (cases_lt a (q * 2 ^ suc n + 2 ^ n)) [
       | inl less ↦
           let at = doubled n q in
@@ -251,11 +251,11 @@ lines_answer order (node l r) (suc n) q b d a ordered low place from to =
           longest-front (λ c. spans c a) lefts rights (before n q a rights rights_fit less) in
           ap (look (node l r)) (bits_of-in_lower n q a from less)
           ∙ lines_answer order l n (2 * q) (lower_half b) e a (ordered_left order l r ordered)
-          (omega arith) (lower_place n q b place) (omega arith) (omega arith)
+          (omega arith) (lower_nth n q b nth) (omega arith) (omega arith)
           ∙ ap (λ x. Some (leaf_or e x)) (sym here)
           ∙ ap Some (sym (root_first order (node l r) b d a (lefts ++ rights)
-          (place_spans (suc n) q b a place from to)
-          (λ y is. half_longer n q b y (2 * q) place (longest-each (λ c. spans c a)
+          (nth_spans (suc n) q b a nth from to)
+          (λ y is. half_longer n q b y (2 * q) nth (longest-each (λ c. spans c a)
           (λ z. Fits n (2 * q) z.block) lefts lefts_fit y (sym here ∙ is)))))
       | inr more ↦
           let at = doubled_more n q in
@@ -264,11 +264,11 @@ lines_answer order (node l r) (suc n) q b d a ordered low place from to =
           longest-back (λ c. spans c a) lefts rights (behind n q a lefts lefts_fit more) in
           ap (look (node l r)) (bits_of-in_upper n q a more to)
           ∙ lines_answer order r n (2 * q + 1) (upper_half b) e a (ordered_right order l r ordered)
-          (omega arith) (upper_place n q b place) (omega arith) (omega arith)
+          (omega arith) (upper_nth n q b nth) (omega arith) (omega arith)
           ∙ ap (λ x. Some (leaf_or e x)) (sym here)
           ∙ ap Some (sym (root_first order (node l r) b d a (lefts ++ rights)
-          (place_spans (suc n) q b a place from to)
-          (λ y is. half_longer n q b y (2 * q + 1) place (longest-each (λ c. spans c a)
+          (nth_spans (suc n) q b a nth from to)
+          (λ y is. half_longer n q b y (2 * q + 1) nth (longest-each (λ c. spans c a)
           (λ z. Fits n (2 * q + 1) z.block) rights rights_fit y (sym here ∙ is)))))
     ]
   where
@@ -285,13 +285,13 @@ lines_answer order (node l r) (suc n) q b d a ordered low place from to =
         (lines_below order l (lower_half b) (standing order (node l r) d))
     lefts_fit =
         lines_fit order l n (2 * q) (lower_half b) (standing order (node l r) d) (omega arith)
-        (lower_place n q b place)
+        (lower_nth n q b nth)
 
     rights_fit : Each (λ x. Fits n (2 * q + 1) x.block)
         (lines_below order r (upper_half b) (standing order (node l r) d))
     rights_fit =
         lines_fit order r n (2 * q + 1) (upper_half b) (standing order (node l r) d) (omega arith)
-        (upper_place n q b place)
+        (upper_nth n q b nth)
 
 -- ---- their order
 
@@ -319,21 +319,21 @@ Ascends-append (x ∷ xs) ys first second between = (
 
 -- a line of the whole block stands before those of its halves
 root_before : (n q : ℕ) (b : Prefix) (x : ℕ) (y : Line)
-    → IsPlace (suc n) q b → Fits n (2 * q) y.block ⊎ Fits n (2 * q + 1) y.block
+    → IsNth (suc n) q b → Fits n (2 * q) y.block ⊎ Fits n (2 * q + 1) y.block
     → IsBefore (record { block = b; leaf = x }) y
-root_before n q b x y place side =
+root_before n q b x y nth side =
     elim (cases_lt b.first y.block.first) [
       | inl less ↦ inl less
       | inr no-more ↦ inr (
         elim side [
-          | inl fits ↦ let low = doubled n q in let at = place.at in let first = fits.first in
+          | inl fits ↦ let low = doubled n q in let at = nth.at in let first = fits.first in
               omega arith
-          | inr fits ↦ let high = doubled_more n q in let at = place.at in let first = fits.first in
+          | inr fits ↦ let high = doubled_more n q in let at = nth.at in let first = fits.first in
               omega arith
         ],
         elim side [
-          | inl fits ↦ half_longer n q b y (2 * q) place fits
-          | inr fits ↦ half_longer n q b y (2 * q + 1) place fits
+          | inl fits ↦ half_longer n q b y (2 * q) nth fits
+          | inr fits ↦ half_longer n q b y (2 * q + 1) nth fits
         ],
       )
     ]
@@ -358,33 +358,33 @@ root-ascends order t b d = by (has (best t) d)
     by false = (tt, tt)
 
 lines_ascend : (order : List ℕ) (t : Tree ℕ) (n q : ℕ) (b : Prefix) (d : ℕ) → height t ≤ n
-    → IsPlace n q b → Ascends (lines_below order t b d)
-lines_ascend order (leaf x) n q b d low place = root-ascends order (leaf x) b d
-lines_ascend order (node l r) zero q b d low place = absurd (omega arith)
-lines_ascend order (node l r) (suc n) q b d low place =
+    → IsNth n q b → Ascends (lines_below order t b d)
+lines_ascend order (leaf x) n q b d low nth = root-ascends order (leaf x) b d
+lines_ascend order (node l r) zero q b d low nth = absurd (omega arith)
+lines_ascend order (node l r) (suc n) q b d low nth =
     let e : ℕ = standing order (node l r) d in
     let lefts : List Line = lines_below order l (lower_half b) e in
     let rights : List Line = lines_below order r (upper_half b) e in
     let lefts_fit : Each (λ x. Fits n (2 * q) x.block) lefts =
-    lines_fit order l n (2 * q) (lower_half b) e (omega arith) (lower_place n q b place) in
+    lines_fit order l n (2 * q) (lower_half b) e (omega arith) (lower_nth n q b nth) in
     let rights_fit : Each (λ x. Fits n (2 * q + 1) x.block) rights =
-    lines_fit order r n (2 * q + 1) (upper_half b) e (omega arith) (upper_place n q b place) in
+    lines_fit order r n (2 * q + 1) (upper_half b) e (omega arith) (upper_nth n q b nth) in
     Ascends-append (root_line order (node l r) b d) (lefts ++ rights)
     (root-ascends order (node l r) b d)
     (Ascends-append lefts rights
-    (lines_ascend order l n (2 * q) (lower_half b) e (omega arith) (lower_place n q b place))
-    (lines_ascend order r n (2 * q + 1) (upper_half b) e (omega arith) (upper_place n q b place))
+    (lines_ascend order l n (2 * q) (lower_half b) e (omega arith) (lower_nth n q b nth))
+    (lines_ascend order r n (2 * q + 1) (upper_half b) e (omega arith) (upper_nth n q b nth))
     (Each-weaker (λ x. Fits n (2 * q) x.block) (λ x. Each (IsBefore x) rights)
     (λ x left. Each-weaker (λ y. Fits n (2 * q + 1) y.block) (IsBefore x)
     (λ y right. lower_before n q x y left right) rights rights_fit) lefts lefts_fit))
     (root-each (λ x. Each (IsBefore x) (lefts ++ rights)) order (node l r) b d
     (λ x. Each-append (IsBefore (record { block = b; leaf = x })) lefts rights
     (Each-weaker (λ y. Fits n (2 * q) y.block) (IsBefore (record { block = b; leaf = x }))
-    (λ y fits. root_before n q b x y place (inl fits)) lefts lefts_fit)
+    (λ y fits. root_before n q b x y nth (inl fits)) lefts lefts_fit)
     (Each-weaker (λ y. Fits n (2 * q + 1) y.block) (IsBefore (record { block = b; leaf = x }))
-    (λ y fits. root_before n q b x y place (inr fits)) rights rights_fit)))
+    (λ y fits. root_before n q b x y nth (inr fits)) rights rights_fit)))
 
 pub InPreorder-lines : (order : List ℕ) (t : Tree ℕ) (n q : ℕ) (b : Prefix) (d : ℕ) → height t ≤ n
-    → IsPlace n q b → InPreorder (lines_below order t b d)
-InPreorder-lines order t n q b d low place =
-    InPreorder-from_ascends (lines_below order t b d) (lines_ascend order t n q b d low place)
+    → IsNth n q b → InPreorder (lines_below order t b d)
+InPreorder-lines order t n q b d low nth =
+    InPreorder-from_ascends (lines_below order t b d) (lines_ascend order t n q b d low nth)

@@ -60,10 +60,10 @@ and_same false p q h same = refl
 pub has-shared : (xs ys : List ℕ) (d : ℕ) → has (shared xs ys) d ≡ (has xs d && has ys d)
 has-shared [] ys d = refl
 has-shared (x ∷ xs) ys d =
-    let step : has (shared (x ∷ xs) ys) d ≡ ((nat_eq d x && has ys x) || has (shared xs ys) d) =
+    let adds : has (shared (x ∷ xs) ys) d ≡ ((nat_eq d x && has ys x) || has (shared xs ys) d) =
     filter_step ys x d (shared xs ys) (has ys x) (nat_eq d x) refl refl refl in
     let rest : ((nat_eq d x && has ys x) || has (shared xs ys) d)
     ≡ ((nat_eq d x && has ys x) || (has xs d && has ys d)) =
     ap (λ b. (nat_eq d x && has ys x) || b) (has-shared xs ys d) in
-    step ∙ rest ∙ and_same (nat_eq d x) (has ys x) (has ys d) (has xs d)
+    adds ∙ rest ∙ and_same (nat_eq d x) (has ys x) (has ys d) (has xs d)
     (λ same. ap (has ys) (sym ((nat_equality d x).0 same)))

@@ -19,23 +19,23 @@ use Rattle.least_nodes.proofs.WalkLemmas.{same_node_equality}
 use Rattle.publish_least.specs.Price.{has, best}
 use Rattle.publish_least.specs.Choice.{order_after}
 use Rattle.publish_least.specs.Memo.{Table, same_node, IsSet, IsKnown, IsMemo, Stays, IsNoted}
-use Rattle.publish_least.specs.Memo.{HasPlace, IsSetOf, single}
+use Rattle.publish_least.specs.Memo.{HasIndex, IsSetOf, single}
 use Rattle.publish_least.proofs.HasLemmas.{has-first, has-cases, has-append}
 use Rattle.publish_least.proofs.PriceLemmas.{or_left, or_right}
-use Rattle.publish_least.proofs.SetLemmas.{place_in, has-from_slice_get, IsSet-leaf, IsSet-grown}
+use Rattle.publish_least.proofs.SetLemmas.{index_in, has-from_slice_get, IsSet-leaf, IsSet-grown}
 
--- the place at which a leaf was found
-pub HasPlace-found : (order : List ℕ) (rec : Rec) (x : ℕ) (found : Option ℕ) (place : ℕ)
+-- the index at which a leaf was found
+pub HasIndex-found : (order : List ℕ) (rec : Rec) (x : ℕ) (found : Option ℕ) (index : ℕ)
     → rec ≡ Leaf x → has order x ≡ true → found ≡ position (nat_eq x) order
-    → is_some found ≡ has order x → place ≡ unwrap_or found 0 → HasPlace order rec place
-HasPlace-found order rec x None place is known at some taken =
+    → is_some found ≡ has order x → index ≡ unwrap_or found 0 → HasIndex order rec index
+HasIndex-found order rec x None index is known at some taken =
     absurd (true≢false (sym known ∙ sym some))
-HasPlace-found order rec x (Some i) place is known at some taken =
+HasIndex-found order rec x (Some i) index is known at some taken =
     let where-it-is = position-Some (nat_eq x) order i 0 (sym at) in
     let same : x ≡ get_or order i 0 = (nat_equality x (get_or order i 0)).0 where-it-is.1 in
     let here : slice_get order i ≡ Some x =
     slice_get-get_or order i 0 where-it-is.0 ∙ ap Some (sym same) in
-    subst (λ r. HasPlace order r place) (sym is)
+    subst (λ r. HasIndex order r index) (sym is)
     (subst (λ p. slice_get order p ≡ Some x) (sym taken) here)
 
 -- what is known of a leaf
@@ -49,13 +49,13 @@ known_node table rec id is known = subst (IsKnown table) is known
 
 -- what is read for a record is its set
 pub IsSet-read : (pairs : List Pair) (table : Table) → IsMemo pairs table
-    → (rec : Rec) (place : ℕ) (set : List ℕ) → IsKnown table rec → HasPlace table.order rec place
-    → IsSetOf table rec (place ∷ []) set
+    → (rec : Rec) (index : ℕ) (set : List ℕ) → IsKnown table rec → HasIndex table.order rec index
+    → IsSetOf table rec (index ∷ []) set
     → IsSet table.order (meaning pairs rec) set
-IsSet-read pairs table memo (Leaf x) place set known at is =
+IsSet-read pairs table memo (Leaf x) index set known at is =
     subst (λ t. IsSet table.order t set) (sym (meaning-leaf pairs x)) (subst
-    (λ s. IsSet table.order (leaf x) s) (sym is) (IsSet-leaf table.order x place memo.once at))
-IsSet-read pairs table memo (Node id) place set known at is =
+    (λ s. IsSet table.order (leaf x) s) (sym is) (IsSet-leaf table.order x index memo.once at))
+IsSet-read pairs table memo (Node id) index set known at is =
     subst (λ s. IsSet table.order (meaning pairs (Node id)) s) (sym (is known.0 known.1))
     (memo.sets id known.0 known.1)
 
@@ -215,7 +215,7 @@ IsMemo-new pairs table order none = record {
         let b = slice_get_within (0 ∷ []) j y second in
         omega arith
 
--- the leaves of a known record all have places
+-- the leaves of a known record all have indexes
 pub known_leaves : (pairs : List Pair) (table : Table) → IsMemo pairs table
     → (rec : Rec) → IsKnown table rec → (x : ℕ) → has (leaves (meaning pairs rec)) x ≡ true
     → has table.order x ≡ true
@@ -238,7 +238,7 @@ pub order_after-node : (seen : List ℕ) (l r : Tree ℕ)
     → order_after seen (node l r) ≡ order_after (order_after seen l) r
 order_after-node seen l r = each_once-append nat_eq nat_equality seen (leaves l) (leaves r)
 
--- leaf 0 keeps the first place
+-- leaf 0 keeps the first index
 pub order_begins : (seen xs : List ℕ) → (more : List ℕ) × (each_once nat_eq seen xs ≡ seen ++ more)
 order_begins seen [] = ([], sym (append-nil seen))
 order_begins seen (x ∷ xs) =

@@ -13,7 +13,7 @@ use Rattle.geo_addr.proofs.BitsLemmas.{length-bits_of}
 use Rattle.trie_core.specs.Tree.{Tree, leaf, node, height, look}
 use Rattle.least_nodes.specs.Layout.{below}
 use Rattle.publish_least.specs.Choice.{prefix_bits, part_of}
-use Rattle.publish_least.proofs.Whole.{IsPlace-of_block, place_number}
+use Rattle.publish_least.proofs.Whole.{IsNth-of_block, block_number}
 
 -- the bits of a number are those of its high part and those of its low part
 pub bits_of-cut : (k n m a : ℕ) → m ≡ k + n → bits_of m a ≡ bits_of k (a / 2 ^ n) ++ bits_of n a
@@ -114,17 +114,17 @@ pub look-part : (t : Tree ℕ) (b : Prefix) → IsBlock b → (a : ℕ) → IsWi
     → look t (bits_of 128 a) ≡ look (part_of t b) (bits_of (128 - b.len) a)
 look-part t b block a is =
     let n : ℕ = 128 - b.len in
-    let place = IsPlace-of_block b block in
-    let at = place.at in
+    let nth = IsNth-of_block b block in
+    let at = nth.at in
     let fits = block.length_fits in
     let some = pow_pos (128 - b.len) in
     let low = is.0 in
     let high = is.1 in
     let r : ℕ = a - b.first in
-    let whole : a ≡ place_number b * 2 ^ (128 - b.len) + r = omega arith in
+    let whole : a ≡ block_number b * 2 ^ (128 - b.len) + r = omega arith in
     let number : a / 2 ^ (128 - b.len) ≡ b.first / 2 ^ (128 - b.len) =
     ap (λ x. x / 2 ^ (128 - b.len)) whole
-    ∙ div-mul-add (place_number b) (2 ^ (128 - b.len)) r (omega arith) in
+    ∙ div-mul-add (block_number b) (2 ^ (128 - b.len)) r (omega arith) in
     ap (look t) (bits_of-cut b.len (128 - b.len) 128 a (omega arith)
     ∙ ap (λ x. bits_of b.len x ++ bits_of (128 - b.len) a) number)
     ∙ look-below t (prefix_bits b) (bits_of (128 - b.len) a)

@@ -1,4 +1,4 @@
--- Sets of places: what a search says, what two sets join to, and which leaf the first place has.
+-- Sets of indexes: what a search says, what two sets join to, and which leaf the first index has.
 use Rattle.std.proofs.Common.{◌≡◌, ◌⊎◌, inl, inr, ℕ, zero, suc, ◌+◌, ◌<◌, ◌≤◌, Bool, true, false}
 use Rattle.std.proofs.Common.{true≢false, ◌&&◌, ◌||◌, nat_eq, if◌then◌else◌, List, [], ◌∷◌, ◌++◌}
 use Rattle.std.proofs.Common.{length, get_or, slice_get, Contains, Option, None, Some, Result, Ok}
@@ -20,9 +20,9 @@ use Rattle.publish_least.specs.Memo.{IsSet}
 use Rattle.publish_least.proofs.HasLemmas.{has-first, has-cases, has-append, has-shared}
 use Rattle.publish_least.proofs.PriceLemmas.{priced, or_left, or_right}
 
--- what is in a list has a place there
-pub place_in : (xs : List ℕ) (x : ℕ) → has xs x ≡ true → (i : ℕ) × (slice_get xs i ≡ Some x)
-place_in xs x is =
+-- what is in a list has an index there
+pub index_in : (xs : List ℕ) (x : ℕ) → has xs x ≡ true → (i : ℕ) × (slice_get xs i ≡ Some x)
+index_in xs x is =
     slice_get-Contains xs x
     (Contains-from_In nat_eq nat_equality x xs (In-from_any nat_eq nat_equality x xs is))
 
@@ -46,10 +46,10 @@ has-found xs x (Err i) missing = by (has xs x) refl
   where
     by : (b : Bool) → has xs x ≡ b → false ≡ has xs x
     by true is =
-        let place = place_in xs x is in
-        let k : ℕ = place.0 in
-        let within : k < length xs = slice_get_within xs k x place.1 in
-        let at : get_or xs k 0 ≡ x = get_or_from_slice_get xs k x 0 place.1 in
+        let index = index_in xs x is in
+        let k : ℕ = index.0 in
+        let within : k < length xs = slice_get_within xs k x index.1 in
+        let at : get_or xs k 0 ≡ x = get_or_from_slice_get xs k x 0 index.1 in
         let low = missing.1 k in
         let high = missing.2 k in
         absurd (elim (cases_lt k i) [
@@ -108,10 +108,10 @@ IsJoined-from_either xs ys (z ∷ zs) set same none rises says = absurd (omega a
 -- no element of an ascending list is below its first one
 above-first : (x y : ℕ) (xs : List ℕ) → IsNonDecreasing (x ∷ xs) → has xs y ≡ true → x ≤ y
 above-first x y xs rises is =
-    let place = place_in xs y is in
-    let k : ℕ = place.0 in
-    let within : k < length xs = slice_get_within xs k y place.1 in
-    let here : get_or xs k 0 ≡ y = get_or_from_slice_get xs k y 0 place.1 in
+    let index = index_in xs y is in
+    let k : ℕ = index.0 in
+    let within : k < length xs = slice_get_within xs k y index.1 in
+    let here : get_or xs k 0 ≡ y = get_or_from_slice_get xs k y 0 index.1 in
     let order : x ≤ get_or xs k 0 = rises 0 (suc k) 0 (omega arith) (omega arith) in
     omega arith
 
@@ -149,7 +149,7 @@ some_same : (a b : ℕ) → Some a ≡ Some b → a ≡ b
 some_same a b e = cc
 
 module _ (order : List ℕ) (t : Tree ℕ) (set : List ℕ) (is-set : IsSet order t set) where
-  -- a place is in the set where its leaf is best
+  -- an index is in the set where its leaf is best
   pub set_says : (i x : ℕ) → slice_get order i ≡ Some x → has set i ≡ has (best t) x
   set_says i x at = by (has set i) (has (best t) x) refl refl
     where
@@ -166,8 +166,8 @@ module _ (order : List ℕ) (t : Tree ℕ) (set : List ℕ) (is-set : IsSet orde
   pub set_some : 0 < length set
   set_some =
       let p = (priced t).1 in
-      let place = place_in order p.some.0 (is-set.listed p.some.0 (p.inside p.some.0 p.some.1)) in
-      some_of set place.0 (is-set.whole place.0 p.some.0 place.1 p.some.1)
+      let index = index_in order p.some.0 (is-set.listed p.some.0 (p.inside p.some.0 p.some.1)) in
+      some_of set index.0 (is-set.whole index.0 p.some.0 index.1 p.some.1)
     where
       some_of : (xs : List ℕ) (i : ℕ) → has xs i ≡ true → 0 < length xs
       some_of [] i is = absurd (cc)
@@ -177,30 +177,30 @@ module _ (order : List ℕ) (t : Tree ℕ) (set : List ℕ) (is-set : IsSet orde
 least_first : (xs : List ℕ) (p i : ℕ) → IsNonDecreasing xs → slice_get xs 0 ≡ Some p
     → has xs i ≡ true → p ≤ i
 least_first xs p i rises first is =
-    let place = place_in xs i is in
-    let within = slice_get_within xs place.0 i place.1 in
-    let here : get_or xs place.0 0 ≡ i = get_or_from_slice_get xs place.0 i 0 place.1 in
+    let index = index_in xs i is in
+    let within = slice_get_within xs index.0 i index.1 in
+    let here : get_or xs index.0 0 ≡ i = get_or_from_slice_get xs index.0 i 0 index.1 in
     let start : get_or xs 0 0 ≡ p = get_or_from_slice_get xs 0 p 0 first in
-    let order = rises 0 place.0 0 (omega arith) within in
+    let order = rises 0 index.0 0 (omega arith) within in
     omega arith
 
 -- the first leaf of an order that is in a list is the one before which none is
-first_of-place : (order bests : List ℕ) (i x : ℕ) → slice_get order i ≡ Some x
+first_of-index : (order bests : List ℕ) (i x : ℕ) → slice_get order i ≡ Some x
     → has bests x ≡ true → ((j y : ℕ) → j < i → slice_get order j ≡ Some y → has bests y ≡ false)
     → first_of order bests ≡ x
-first_of-place [] bests i x at is none = absurd (cc)
-first_of-place (y ∷ ys) bests zero x at is none =
+first_of-index [] bests i x at is none = absurd (cc)
+first_of-index (y ∷ ys) bests zero x at is none =
     let same : y ≡ x = cc in
     ap (λ (b : Bool). if b then y else first_of ys bests) (ap (has bests) same ∙ is) ∙ same
-first_of-place (y ∷ ys) bests (suc i) x at is none =
+first_of-index (y ∷ ys) bests (suc i) x at is none =
     ap (λ (b : Bool). if b then y else first_of ys bests) (none 0 y (omega arith) refl)
-    ∙ first_of-place ys bests i x at is (λ j z less found. none (suc j) z (omega arith) found)
+    ∙ first_of-index ys bests i x at is (λ j z less found. none (suc j) z (omega arith) found)
 
--- the first place of a set has the first best leaf of the order
+-- the first index of a set has the first best leaf of the order
 pub first_of-set : (order : List ℕ) (t : Tree ℕ) (set : List ℕ) → IsSet order t set → (p x : ℕ)
     → slice_get set 0 ≡ Some p → slice_get order p ≡ Some x → first_of order (best t) ≡ x
 first_of-set order t set is-set p x first at =
-    first_of-place order (best t) p x at
+    first_of-index order (best t) p x at
     (sym (set_says order t set is-set p x at) ∙ has-from_slice_get set 0 p first)
     (λ j y less there. sym (set_says order t set is-set j y there) ∙ out j less (has set j) refl)
   where
@@ -208,18 +208,18 @@ first_of-set order t set is-set p x first at =
     out j less true is = absurd (let low = least_first set p j is-set.rises first is in omega arith)
     out j less false is = is
 
--- the one place of a leaf
-pub IsSet-leaf : (order : List ℕ) (x place : ℕ)
+-- the one index of a leaf
+pub IsSet-leaf : (order : List ℕ) (x index : ℕ)
     → ((i j y : ℕ) → slice_get order i ≡ Some y → slice_get order j ≡ Some y → i ≡ j)
-    → slice_get order place ≡ Some x → IsSet order (leaf x) (place ∷ [])
-IsSet-leaf order x place once at = record {
-  rises = IsNonDecreasingBy-short (λ y. y) (place ∷ []) (omega arith);
+    → slice_get order index ≡ Some x → IsSet order (leaf x) (index ∷ [])
+IsSet-leaf order x index once at = record {
+  rises = IsNonDecreasingBy-short (λ y. y) (index ∷ []) (omega arith);
   sound = λ i is.
-      (x, subst (λ j. slice_get order j ≡ Some x) (sym (only i place is)) at, has-first x []);
+      (x, subst (λ j. slice_get order j ≡ Some x) (sym (only i index is)) at, has-first x []);
   whole =
-      λ i y there is. ap (has (place ∷ [])) (once i place y there
-      (subst (λ z. slice_get order place ≡ Some z) (sym (only y x is)) at)) ∙ has-first place [];
-  listed = λ y is. ap (has order) (only y x is) ∙ has-from_slice_get order place x at;
+      λ i y there is. ap (has (index ∷ [])) (once i index y there
+      (subst (λ z. slice_get order index ≡ Some z) (sym (only y x is)) at)) ∙ has-first index [];
+  listed = λ y is. ap (has order) (only y x is) ∙ has-from_slice_get order index x at;
 }
   where
     only : (a b : ℕ) → has (b ∷ []) a ≡ true → a ≡ b
@@ -255,41 +255,41 @@ module _ (order : List ℕ) (l r : Tree ℕ) (sl sr : List ℕ) (left : IsSet or
       ∙ ap₂ (λ a b. a && b) (set_says order l sl left i x at) (set_says order r sr right i x at)
       ∙ sym (has-shared (best l) (best r) x)
 
-  -- the places that are shared by no leaves
+  -- the indexes that are shared by no leaves
   says_either : (zs ws : List ℕ)
       → shared sl sr ≡ zs → shared (best l) (best r) ≡ ws → (i x : ℕ) → slice_get order i ≡ Some x
       → has (or_either zs sl sr) i ≡ has (or_either ws (best l) (best r)) x
-  says_either [] [] places leaves-are i x at =
+  says_either [] [] indexes leaves-are i x at =
       has-append sl sr i
       ∙ ap₂ (λ a b. a || b) (set_says order l sl left i x at) (set_says order r sr right i x at)
       ∙ sym (has-append (best l) (best r) x)
-  says_either (z ∷ zs) (w ∷ ws) places leaves-are i x at =
-      ap (λ ys. has ys i) (sym places) ∙ says_shared i x at ∙ ap (λ ys. has ys x) leaves-are
-  says_either [] (w ∷ ws) places leaves-are i x at =
+  says_either (z ∷ zs) (w ∷ ws) indexes leaves-are i x at =
+      ap (λ ys. has ys i) (sym indexes) ∙ says_shared i x at ∙ ap (λ ys. has ys x) leaves-are
+  says_either [] (w ∷ ws) indexes leaves-are i x at =
       let both : has (shared (best l) (best r)) w ≡ true =
       ap (λ ys. has ys w) leaves-are ∙ has-first w ws in
       let parts =
       and_parts (has (best l) w) (has (best r) w) (sym (has-shared (best l) (best r) w) ∙ both) in
-      let place = place_in order w (left.listed w ((priced l).1.inside w parts.0)) in
+      let index = index_in order w (left.listed w ((priced l).1.inside w parts.0)) in
       absurd (true≢false
-      (sym both ∙ sym (says_shared place.0 w place.1) ∙ ap (λ ys. has ys place.0) places))
-  says_either (z ∷ zs) [] places leaves-are i x at =
-      let both : has (shared sl sr) z ≡ true = ap (λ ys. has ys z) places ∙ has-first z zs in
+      (sym both ∙ sym (says_shared index.0 w index.1) ∙ ap (λ ys. has ys index.0) indexes))
+  says_either (z ∷ zs) [] indexes leaves-are i x at =
+      let both : has (shared sl sr) z ≡ true = ap (λ ys. has ys z) indexes ∙ has-first z zs in
       let parts = and_parts (has sl z) (has sr z) (sym (has-shared sl sr z) ∙ both) in
       let found = left.sound z parts.0 in
       absurd
       (true≢false (sym both ∙ says_shared z found.0 found.1 ∙ ap (λ ys. has ys found.0) leaves-are))
 
-  -- a place that is in either has a leaf
-  place_of_either : (zs : List ℕ) → shared sl sr ≡ zs → (i : ℕ) → has (or_either zs sl sr) i ≡ true
+  -- an index that is in either has a leaf
+  index_of_either : (zs : List ℕ) → shared sl sr ≡ zs → (i : ℕ) → has (or_either zs sl sr) i ≡ true
       → (x : ℕ) × (slice_get order i ≡ Some x)
-  place_of_either [] places i is =
+  index_of_either [] indexes i is =
       elim (or_cases (has sl i) (has sr i) (sym (has-append sl sr i) ∙ is)) [
         | inl here ↦ let found = left.sound i here in (found.0, found.1)
         | inr there ↦ let found = right.sound i there in (found.0, found.1)
       ]
-  place_of_either (z ∷ zs) places i is =
-      let both : has (shared sl sr) i ≡ true = ap (λ ys. has ys i) places ∙ is in
+  index_of_either (z ∷ zs) indexes i is =
+      let both : has (shared sl sr) i ≡ true = ap (λ ys. has ys i) indexes ∙ is in
       let parts = and_parts (has sl i) (has sr i) (sym (has-shared sl sr i) ∙ both) in
       let found = left.sound i parts.0 in
       (found.0, found.1)
@@ -298,10 +298,10 @@ module _ (order : List ℕ) (l r : Tree ℕ) (sl sr : List ℕ) (left : IsSet or
   IsSet-joined set joined = record {
     rises = joined.rises;
     sound = λ i is.
-        let place = place_of_either (shared sl sr) refl i (sym (joined.says i) ∙ is) in (
-          place.0,
-          place.1,
-          sym (says_either (shared sl sr) (shared (best l) (best r)) refl refl i place.0 place.1)
+        let index = index_of_either (shared sl sr) refl i (sym (joined.says i) ∙ is) in (
+          index.0,
+          index.1,
+          sym (says_either (shared sl sr) (shared (best l) (best r)) refl refl i index.0 index.1)
               ∙ sym (joined.says i) ∙ is,
         );
     whole =

@@ -24,15 +24,15 @@ use Rattle.publish_least.proofs.PriceLemmas.{or_left, or_right}
 use Rattle.publish_least.proofs.Spans.{spans, Fits}
 use Rattle.publish_least.proofs.LongestLemmas.{Each, Each-weaker, longest-agree}
 use Rattle.publish_least.proofs.LowerBound.{cost_least}
-use Rattle.publish_least.proofs.Greedy.{IsOrdered, IsPlace, All-from_each, length-lines_below}
+use Rattle.publish_least.proofs.Greedy.{IsOrdered, IsNth, All-from_each, length-lines_below}
 use Rattle.publish_least.proofs.Greedy.{lines_fit, lines_answer, InPreorder-lines}
 
 -- the number of a block among those of its length
-abbrev pub place_number : Prefix → ℕ
-place_number b = b.first / 2 ^ (128 - b.len)
+abbrev pub block_number : Prefix → ℕ
+block_number b = b.first / 2 ^ (128 - b.len)
 
-pub IsPlace-of_block : (b : Prefix) → IsBlock b → IsPlace (128 - b.len) (place_number b) b
-IsPlace-of_block b block =
+pub IsNth-of_block : (b : Prefix) → IsBlock b → IsNth (128 - b.len) (block_number b) b
+IsNth-of_block b block =
     let fits = block.length_fits in
     let aligned = block.aligned in
     let some = pow_pos (128 - b.len) in
@@ -47,10 +47,10 @@ power_below i j fits = elim (cases_lt j i) [
 
 -- what lies inside a block, as numbers and as addresses
 pub Fits-from_inside : (within b : Prefix) → IsBlock within → IsInside within b
-    → Fits (128 - within.len) (place_number within) b
+    → Fits (128 - within.len) (block_number within) b
 Fits-from_inside within b block inside =
-    let place = IsPlace-of_block within block in
-    let at = place.at in
+    let nth = IsNth-of_block within block in
+    let at = nth.at in
     let some = pow_pos (128 - b.len) in
     let more = pow_pos (128 - within.len) in
     let first = inside.first in
@@ -64,10 +64,10 @@ Fits-from_inside within b block inside =
     }
 
 inside_from_Fits : (within b : Prefix) → IsBlock within
-    → Fits (128 - within.len) (place_number within) b → b.first < 2 ^ 128 → IsInside within b
+    → Fits (128 - within.len) (block_number within) b → b.first < 2 ^ 128 → IsInside within b
 inside_from_Fits within b block fits below =
-    let place = IsPlace-of_block within block in
-    let at = place.at in
+    let nth = IsNth-of_block within block in
+    let at = nth.at in
     let some = pow_pos (128 - b.len) in
     let more = pow_pos (128 - within.len) in
     let first = fits.first in
@@ -148,31 +148,31 @@ module _ (t : Tree ℕ) (within : Prefix) (block : IsBlock within) (plain : IsPl
   order : List ℕ
   order = order_after (0 ∷ []) t
 
-  lines_fit_block : Each (λ x. Fits (128 - within.len) (place_number within) x.block)
+  lines_fit_block : Each (λ x. Fits (128 - within.len) (block_number within) x.block)
       (lines_of t within)
   lines_fit_block =
-      lines_fit (order_after (0 ∷ []) t) t (128 - within.len) (place_number within) within 0 low
-      (IsPlace-of_block within block)
+      lines_fit (order_after (0 ∷ []) t) t (128 - within.len) (block_number within) within 0 low
+      (IsNth-of_block within block)
 
   -- the addresses of the block, as numbers
   from_first : (a : ℕ) → IsWithin (range_of_block within) a
-      → place_number within * 2 ^ (128 - within.len) ≤ a
+      → block_number within * 2 ^ (128 - within.len) ≤ a
   from_first a is =
-      let place = IsPlace-of_block within block in let at = place.at in
+      let nth = IsNth-of_block within block in let at = nth.at in
       let first = is.0 in omega arith
 
   to_last : (a : ℕ) → IsWithin (range_of_block within) a
-      → a < place_number within * 2 ^ (128 - within.len) + 2 ^ (128 - within.len)
+      → a < block_number within * 2 ^ (128 - within.len) + 2 ^ (128 - within.len)
   to_last a is =
-      let place = IsPlace-of_block within block in let at = place.at in let last = is.1 in
+      let nth = IsNth-of_block within block in let at = nth.at in let last = is.1 in
       let some = pow_pos (128 - within.len) in omega arith
 
-  is_within : (a : ℕ) → place_number within * 2 ^ (128 - within.len) ≤ a
-      → a < place_number within * 2 ^ (128 - within.len) + 2 ^ (128 - within.len)
+  is_within : (a : ℕ) → block_number within * 2 ^ (128 - within.len) ≤ a
+      → a < block_number within * 2 ^ (128 - within.len) + 2 ^ (128 - within.len)
       → IsWithin (range_of_block within) a
   is_within a from to =
-      let place = IsPlace-of_block within block in
-      let at = place.at in let some = pow_pos (128 - within.len) in
+      let nth = IsNth-of_block within block in
+      let at = nth.at in let some = pow_pos (128 - within.len) in
       (omega arith, omega arith)
 
   -- lines inside the block answer by the ends of their blocks
@@ -187,11 +187,11 @@ module _ (t : Tree ℕ) (within : Prefix) (block : IsBlock within) (plain : IsPl
   pub least_inside : AreInside within (lines_of t within)
   least_inside =
       All-from_each (λ x. IsInside within x.block) (lines_of t within)
-      (Each-weaker (λ x. Fits (128 - within.len) (place_number within) x.block)
+      (Each-weaker (λ x. Fits (128 - within.len) (block_number within) x.block)
       (λ x. IsInside within x.block)
       (λ x fits.
-      let place = IsPlace-of_block within block in
-      let at = place.at in
+      let nth = IsNth-of_block within block in
+      let at = nth.at in
       let last = fits.last in
       let some = pow_pos (128 - x.block.len) in
       let end : within.first + (2 ^ (128 - within.len) - 1) < 2 ^ 128 =
@@ -201,13 +201,13 @@ module _ (t : Tree ℕ) (within : Prefix) (block : IsBlock within) (plain : IsPl
   pub least_preorder : InPreorder (lines_of t within)
   least_preorder =
       InPreorder-lines (order_after (0 ∷ []) t) t (128 - within.len)
-      (place_number within) within 0 low (IsPlace-of_block within block)
+      (block_number within) within 0 low (IsNth-of_block within block)
 
   pub least_answers : AnswerAs (λ a. look t (bits_of (128 - within.len) a)) within
       (lines_of t within)
   least_answers a is =
-      lines_answer (order_after (0 ∷ []) t) t (128 - within.len) (place_number within) within 0 a
-      (IsOrdered-order_after (0 ∷ []) t) low (IsPlace-of_block within block) (from_first a is)
+      lines_answer (order_after (0 ∷ []) t) t (128 - within.len) (block_number within) within 0 a
+      (IsOrdered-order_after (0 ∷ []) t) low (IsNth-of_block within block) (from_first a is)
       (to_last a is)
       ∙ ap Some (sym (same_answer (lines_of t within) a least_inside))
 
@@ -220,9 +220,9 @@ module _ (t : Tree ℕ) (within : Prefix) (block : IsBlock within) (plain : IsPl
   least_fewest others inside answers =
       let price = least_price in
       let fewest : cost t 0 ≤ length others =
-      cost_least t (128 - within.len) (place_number within) 0 others low
+      cost_least t (128 - within.len) (block_number within) 0 others low
       (Each-weaker (λ x. IsInside within x.block) (λ x. Fits (128 - within.len)
-      (place_number within) x.block) (λ x is. Fits-from_inside within x.block block is) others
+      (block_number within) x.block) (λ x is. Fits-from_inside within x.block block is) others
       (Each-from_All (λ x. IsInside within x.block) others inside))
       (λ a from to. answers a (is_within a from to) ∙ ap Some (same_answer others a inside)) in
       omega arith

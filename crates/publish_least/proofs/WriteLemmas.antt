@@ -1,4 +1,4 @@
--- The leaf that stands at a root, and its line, by the places of the best leaves.
+-- The leaf that stands at a root, and its line, by the indexes of the best leaves.
 use Rattle.std.proofs.Common.{◌≡◌, ℕ, zero, ◌<◌, Bool, true, false, if◌then◌else◌, List, [], ◌∷◌}
 use Rattle.std.proofs.Common.{◌++◌, length, get_or, slice_get, Some, refl, sym, ap, subst, ◌∙◌}
 use Rattle.std.proofs.Common.{arith, append_assoc}
@@ -16,7 +16,7 @@ use Rattle.publish_least.proofs.SetLemmas.{set_says, first_of-set, has-from_slic
 
 module _ (order : List ℕ) (t : Tree ℕ) (set : List ℕ) (is-set : IsSet order t set) (i : ℕ)
     (within : i < length order) where
-  -- the inherited leaf is best where its place is in the set
+  -- the inherited leaf is best where its index is in the set
   best_says : has set i ≡ has (best t) (get_or order i 0)
   best_says = set_says order t set is-set i (get_or order i 0) (slice_get-get_or order i 0 within)
 
@@ -30,31 +30,31 @@ module _ (order : List ℕ) (t : Tree ℕ) (set : List ℕ) (is-set : IsSet orde
       let line : Line = record { block = b; leaf = first_of order (best t) } in
       ap (λ (p : Bool). if p then [] else line ∷ []) (sym best_says ∙ is)
 
-  -- where it is not, the first place of the set is taken
-  pub place_within : (place : ℕ) → slice_get set 0 ≡ Some place → place < length order
-  place_within place first =
-      let found = is-set.sound place (has-from_slice_get set 0 place first) in
-      slice_get_within order place found.0 found.1
+  -- where it is not, the first index of the set is taken
+  pub index_within : (index : ℕ) → slice_get set 0 ≡ Some index → index < length order
+  index_within index first =
+      let found = is-set.sound index (has-from_slice_get set 0 index first) in
+      slice_get_within order index found.0 found.1
 
-  first_at : (place : ℕ) → slice_get set 0 ≡ Some place
-      → first_of order (best t) ≡ get_or order place 0
-  first_at place first =
-      first_of-set order t set is-set place (get_or order place 0) first
-      (slice_get-get_or order place 0 (place_within place first))
+  first_at : (index : ℕ) → slice_get set 0 ≡ Some index
+      → first_of order (best t) ≡ get_or order index 0
+  first_at index first =
+      first_of-set order t set is-set index (get_or order index 0) first
+      (slice_get-get_or order index 0 (index_within index first))
 
-  pub stands_new : (place : ℕ) → has set i ≡ false → slice_get set 0 ≡ Some place
-      → get_or order place 0 ≡ standing order t (get_or order i 0)
-  stands_new place is first =
-      sym (first_at place first) ∙ sym (ap
+  pub stands_new : (index : ℕ) → has set i ≡ false → slice_get set 0 ≡ Some index
+      → get_or order index 0 ≡ standing order t (get_or order i 0)
+  stands_new index is first =
+      sym (first_at index first) ∙ sym (ap
       (λ (b : Bool). if b then get_or order i 0 else first_of order (best t)) (sym best_says ∙ is))
 
-  pub one_line : (place x : ℕ)
-      → has set i ≡ false → slice_get set 0 ≡ Some place → slice_get order place ≡ Some x
+  pub one_line : (index x : ℕ)
+      → has set i ≡ false → slice_get set 0 ≡ Some index → slice_get order index ≡ Some x
       → (b : Prefix) → record { block = b; leaf = x } ∷ [] ≡ root_line order t b (get_or order i 0)
-  one_line place x is first at b =
+  one_line index x is first at b =
       let line : Line = record { block = b; leaf = first_of order (best t) } in
       let same : x ≡ first_of order (best t) =
-      sym (get_or_from_slice_get order place x 0 at) ∙ sym (first_at place first) in
+      sym (get_or_from_slice_get order index x 0 at) ∙ sym (first_at index first) in
       let here : root_line order t b (get_or order i 0) ≡ line ∷ [] =
       ap (λ (p : Bool). if p then [] else line ∷ []) (sym best_says ∙ is) in
       let make : ℕ → List Line = λ y. record { block = b; leaf = y } ∷ [] in

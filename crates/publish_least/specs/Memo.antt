@@ -13,7 +13,7 @@ use Rattle.least_nodes.specs.Layout.{leaves}
 use Rattle.publish_least.specs.declared.memo.Memo.{Memo}
 use Rattle.publish_least.specs.Price.{has, best}
 
--- the leaves in order, and for a node the places of its best leaves among them
+-- the leaves in order, and for a node the indexes of its best leaves among them
 pub record Table : Type 0 where
   pub order : List ℕ
   pub find : NodeId → Option (List ℕ)
@@ -28,7 +28,8 @@ table_of m = record {
   find = λ id. option_map (λ v. v.items) (get same_node m.sets id);
 }
 
--- these are the places of the tree's best leaves, ascending, and all leaves of the tree have places
+-- these are the indexes of the tree's best leaves, ascending, and all leaves of the tree have
+-- indexes
 pub record IsSet (order : List ℕ) (t : Tree ℕ) (set : List ℕ) : Type 0 where
   pub rises : IsNonDecreasing set
   pub sound : (i : ℕ) → has set i ≡ true
@@ -36,12 +37,12 @@ pub record IsSet (order : List ℕ) (t : Tree ℕ) (set : List ℕ) : Type 0 whe
   pub whole : (i x : ℕ) → slice_get order i ≡ Some x → has (best t) x ≡ true → has set i ≡ true
   pub listed : (x : ℕ) → has (leaves t) x ≡ true → has order x ≡ true
 
--- a record is a leaf that has a place, or a node whose set is held
+-- a record is a leaf that has an index, or a node whose set is held
 abbrev pub IsKnown : Table → Rec → Type 0
 IsKnown table (Leaf x) = has table.order x ≡ true
 IsKnown table (Node id) = (set : List ℕ) × (table.find id ≡ Some set)
 
--- what holds of the walk: no leaf has two places, the sets are right,
+-- what holds of the walk: no leaf has two indexes, the sets are right,
 -- and the children of a node with a set are known
 pub record IsMemo (pairs : List Pair) (table : Table) : Type 0 where
   pub once : (i j x : ℕ) → slice_get table.order i ≡ Some x
@@ -65,10 +66,10 @@ pub record IsNoted (old new : Table) (id : NodeId) (set : List ℕ) : Type 0 whe
   pub here : new.find id ≡ Some set
   pub others : (other : NodeId) → other ≢ id → new.find other ≡ old.find other
 
--- a leaf stands at this place
-abbrev pub HasPlace : List ℕ → Rec → ℕ → Type 0
-HasPlace order (Leaf x) place = slice_get order place ≡ Some x
-HasPlace order (Node id) place = Unit {0}
+-- a leaf stands at this index
+abbrev pub HasIndex : List ℕ → Rec → ℕ → Type 0
+HasIndex order (Leaf x) index = slice_get order index ≡ Some x
+HasIndex order (Node id) index = Unit {0}
 
 -- what is read as the set of a record: for a leaf what stands alone,
 -- for a node the set that is held

@@ -1,4 +1,4 @@
--- Sets of places, as ascending lists.
+-- Sets of indexes, as ascending lists.
 use Rattle.std.specs.Prelude.{◌≡◌, ℕ, List}
 use Rattle.std.specs.List.Sorted.{IsNonDecreasing}
 use Rattle.publish_least.specs.Price.{has, shared, or_either}

@@ -8,8 +8,6 @@ mod line;
 mod memo;
 mod part;
 mod set;
-#[cfg(test)]
-mod tests;
 mod walk;
 
 pub use least::least_lines;

@@ -1,4 +1,4 @@
-//! Sets of places, as ascending lists.
+//! Sets of indexes, as ascending lists.
 ghost use Rattle.std.specs.Prelude.{◌≡◌, ℕ, ◌<◌, true, false, ◌||◌, length, slice_get, Some, IfOk};
 ghost use Rattle.std.specs.Prelude.{MatchOption};
 ghost use Rattle.std.specs.List.Sorted.{IsNonDecreasing};
@@ -22,14 +22,14 @@ pub(crate) fn joined(alloc: Global, xs: &[usize], ys: &[usize]) -> Result<Vec<us
     }
 }
 
-/// The place to take where this one is inherited: None where it is in the set,
+/// The index to take where this one is inherited: None where it is in the set,
 /// else the first of the set.
 pub(crate) fn chosen(set: &[usize], inherited: usize) -> Option<usize>
     requires rises { IsNonDecreasing set.now }
     requires some { 0 < length set.now }
     ensures { MatchOption result
         (has set.now inherited ≡ true)
-        (λ place. (has set.now inherited ≡ false) × (slice_get set.now 0 ≡ Some place)) }
+        (λ at. (has set.now inherited ≡ false) × (slice_get set.now 0 ≡ Some at)) }
 {
     if is_in(set, inherited) {
         None
@@ -52,21 +52,21 @@ fn both(alloc: Global, xs: &[usize], ys: &[usize]) -> Result<Vec<usize>, Memory>
     }
 }
 
-// Those of a few places that are among many, which are halved to find each.
+// Those of a few indexes that are among many, which are halved to find each.
 fn common(alloc: Global, few: &[usize], many: &[usize]) -> Result<Vec<usize>, Memory>
     requires { IsNonDecreasing many.now }
     ensures { IfOk result (λ set. set.items ≡ shared few.now many.now) }
 {
     let mut both = Vec::new(alloc);
-    for place in few {
-        if is_in(many, *place) {
-            both.push(*place)?;
+    for at in few {
+        if is_in(many, *at) {
+            both.push(*at)?;
         }
     }
     Ok(both)
 }
 
-// The places of two sets that share none.
+// The indexes of two sets that share none.
 fn either(alloc: Global, xs: &[usize], ys: &[usize]) -> Result<Vec<usize>, Memory>
     ensures rises { IfOk result (λ set. IsNonDecreasing set.items) }
     ensures says { IfOk result (λ set. (i : ℕ) → has set.items i ≡ (has xs.now i || has ys.now i)) }
@@ -77,10 +77,10 @@ fn either(alloc: Global, xs: &[usize], ys: &[usize]) -> Result<Vec<usize>, Memor
     Ok(all)
 }
 
-// Whether a place is in a set.
-fn is_in(set: &[usize], place: usize) -> bool
+// Whether an index is in a set.
+fn is_in(set: &[usize], at: usize) -> bool
     requires { IsNonDecreasing set.now }
-    ensures { result ≡ has set.now place }
+    ensures { result ≡ has set.now at }
 {
-    set.binary_search(&place).is_ok()
+    set.binary_search(&at).is_ok()
 }

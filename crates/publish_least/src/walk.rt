@@ -8,7 +8,7 @@ ghost use Rattle.trie_core.specs.Store.{meaning, IsOf};
 ghost use Rattle.publish_least.specs.Price.{has};
 ghost use Rattle.publish_least.specs.Choice.{order_after, standing, root_line, lines_below};
 ghost use Rattle.publish_least.specs.Memo.{table_of, IsSet, IsKnown, IsMemo, Stays, IsNoted};
-ghost use Rattle.publish_least.specs.Memo.{IsSetOf, HasPlace, single};
+ghost use Rattle.publish_least.specs.Memo.{IsSetOf, HasIndex, single};
 
 use crate::half::halves;
 use crate::line::Line;
@@ -20,7 +20,7 @@ use std::alloc::Global;
 use trie_core::{NodeId, Rec, Store};
 
 impl Memo {
-    /// A walk that has not begun. Leaf 0 has the first place.
+    /// A walk that has not begun. Leaf 0 has the first index.
     pub(crate) fn new(alloc: Global) -> Result<Memo, Memory>
         ensures order { IfOk result (λ memo. (table_of memo).order ≡ 0 ∷ []) }
         ensures memo { (pairs : List Pair) → IfOk result (λ memo. IsMemo pairs (table_of memo)) }
@@ -59,7 +59,7 @@ impl Memo {
         }
     }
 
-    // Gives a leaf the next place, unless it has one.
+    // Gives a leaf the next index, unless it has one.
     fn note_leaf(&mut self, leaf: u32) -> Result<(), Memory>
         ensures order { OnOk result ((table_of self.new).order
             ≡ order_after (table_of self.old).order (single leaf)) }
@@ -86,7 +86,7 @@ impl Memo {
         Ok(())
     }
 
-    // The places of the best leaves of a node with these halves.
+    // The indexes of the best leaves of a node with these halves.
     fn best_of_halves(&self, alloc: Global, left: Rec, right: Rec) -> Result<Vec<usize>, Memory>
         requires memo { (pairs : List Pair) × IsMemo pairs (table_of self.now) }
         requires left { IsKnown (table_of self.now) left }
@@ -95,8 +95,8 @@ impl Memo {
             (λ set. IsSet (table_of self.now).order
             (node (meaning pairs left) (meaning pairs right)) set.items) }
     {
-        let left_alone = [self.place_of(left)];
-        let right_alone = [self.place_of(right)];
+        let left_alone = [self.index_of(left)];
+        let right_alone = [self.index_of(right)];
         joined(
             alloc,
             self.set_of(left, &left_alone),
@@ -104,10 +104,10 @@ impl Memo {
         )
     }
 
-    // The place of a leaf, which is its whole set. A node has none.
-    fn place_of(&self, rec: Rec) -> usize
+    // The index of a leaf, which is its whole set. A node has none.
+    fn index_of(&self, rec: Rec) -> usize
         requires { IsKnown (table_of self.now) rec }
-        ensures { HasPlace (table_of self.now).order rec result }
+        ensures { HasIndex (table_of self.now).order rec result }
     {
         match rec {
             Rec::Leaf(leaf) => self.order.get_index_of(&leaf).unwrap_or(0),
@@ -115,7 +115,7 @@ impl Memo {
         }
     }
 
-    // The set of a record: that of a node, or the one place of a leaf.
+    // The set of a record: that of a node, or the one index of a leaf.
     fn set_of<'a>(&'a self, rec: Rec, alone: &'a [usize]) -> &'a [usize]
         ensures { IsSetOf (table_of self.now) rec alone.now result.now }
     {
@@ -125,7 +125,7 @@ impl Memo {
         }
     }
 
-    // The place of the leaf that stands at the root of a record,
+    // The index of the leaf that stands at the root of a record,
     // for which a line is written where it is not inherited.
     fn stand(
         &self,
@@ -136,10 +136,10 @@ impl Memo {
     ) -> Result<usize, Memory>
         requires memo { (pairs : List Pair) × IsMemo pairs (table_of self.now) }
         requires known { IsKnown (table_of self.now) rec }
-        requires place { inherited < length (table_of self.now).order }
-        ensures place { IfOk result (λ place. place < length (table_of self.now).order) }
+        requires index { inherited < length (table_of self.now).order }
+        ensures index { IfOk result (λ index. index < length (table_of self.now).order) }
         ensures stands { (pairs : List Pair) → IsMemo pairs (table_of self.now) → IfOk result
-            (λ place. slice_index (table_of self.now).order place
+            (λ index. slice_index (table_of self.now).order index
             ≡ standing (table_of self.now).order (meaning pairs rec)
             (slice_index (table_of self.now).order inherited)) }
         ensures lines { (pairs : List Pair) → IsMemo pairs (table_of self.now) → OnOk result
@@ -147,17 +147,17 @@ impl Memo {
             ++ root_line (table_of self.now).order (meaning pairs rec) block
             (slice_index (table_of self.now).order inherited)) }
     {
-        let alone = [self.place_of(rec)];
-        let Some(place) = chosen(self.set_of(rec, &alone), inherited) else {
+        let alone = [self.index_of(rec)];
+        let Some(index) = chosen(self.set_of(rec, &alone), inherited) else {
             return Ok(inherited);
         };
-        let leaf = self.order[place];
+        let leaf = self.order[index];
         lines.push(Line { block, leaf })?;
-        Ok(place)
+        Ok(index)
     }
 }
 
-/// Writes the lines of the tree of a record under a block, where the leaf of a place is inherited.
+/// Writes the lines of the tree of a record under a block, where the leaf of an index is inherited.
 pub(crate) fn write(
     store: &Store,
     memo: &Memo,
@@ -170,7 +170,7 @@ pub(crate) fn write(
     requires low { height (meaning store.now rec) ≤ 128 - block.len }
     requires memo { IsMemo store.now (table_of memo.now) }
     requires known { IsKnown (table_of memo.now) rec }
-    requires place { inherited < length (table_of memo.now).order }
+    requires index { inherited < length (table_of memo.now).order }
     ensures { OnOk result (lines.new.items ≡ lines.old.items
         ++ lines_below (table_of memo.now).order (meaning store.now rec) block
         (slice_index (table_of memo.now).order inherited)) }

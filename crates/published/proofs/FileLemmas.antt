@@ -27,8 +27,8 @@ module _ (p : ℕ → Option PlaceParts) where
   next_line (y ∷ ys) zero x l is =
       ap (λ (z : Line). (line_text z.block (p z.leaf) ++ (10 ∷ [])) ++ feed_text p ys) (sym is)
   next_line (y ∷ ys) (suc i) x l is =
-      let step : suc i + 1 ≡ suc (i + 1) = omega arith in
-      rw step (next_line ys i x (omega arith) is)
+      let adds : suc i + 1 ≡ suc (i + 1) = omega arith in
+      rw adds (next_line ys i x (omega arith) is)
 
   pub one_more : (xs : List Line) (i : ℕ) (x : Line) (o : Option PlaceParts) (before after : List ℕ)
       → i < length xs → x ≡ get_or xs i x → o ≡ p x.leaf

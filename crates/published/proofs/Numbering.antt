@@ -41,8 +41,8 @@ finds eq equality x d (y ∷ ys) is = by (eq x y) refl is (finds eq equality x d
         absurd (let f : eq x y ≡ true = (equality x y).1 same in
         let g : true ≡ false = sym f ∙ e in cc)
     by false e (inr rest) later =
-        let step : 1 + position_or_len (eq x) ys ≡ suc (position_or_len (eq x) ys) = omega arith in
-        rw step (later rest)
+        let adds : 1 + position_or_len (eq x) ys ≡ suc (position_or_len (eq x) ys) = omega arith in
+        rw adds (later rest)
 
 -- the list of what was seen stays in front
 seen_first : {X : Type 0} (eq : X → X → Bool) → IsEquality eq

@@ -6,7 +6,7 @@ use Rattle.rpsl_reader.specs.Attributes.{Numbered, is_comment, is_end}
 use Rattle.rpsl_reader.specs.Laws.{IsBounded, IsShort, StaysBounded}
 use Rattle.rpsl_reader.specs.Objects.{longest, size}
 use Rattle.rpsl_reader.specs.Reading.{Group, State, after, first_number, group_after, grown}
-use Rattle.rpsl_reader.specs.Reading.{line_of, none, over, start, step, with_line, within}
+use Rattle.rpsl_reader.specs.Reading.{line_of, none, over, start, after_byte, with_line, within}
 use Rattle.rpsl_reader.proofs.Opens.{size-push}
 use Rattle.rpsl_reader.proofs.PieceLemmas.{grown_bounded}
 
@@ -34,8 +34,8 @@ after_stays g l h =
       ]
     ]
 
-step_stays : (s : State) (b : ℕ) → IsBounded s → IsBounded (step s b)
-step_stays s b h =
+byte_stays : (s : State) (b : ℕ) → IsBounded s → IsBounded (after_byte s b)
+byte_stays s b h =
     elim (eqb b 10) as (λ t. IsBounded (cond t (record {
       lines = s.lines + 1;
       pending = [];
@@ -51,7 +51,7 @@ step_stays s b h =
 stays : (s : State) (text : List ℕ) → IsBounded s → IsBounded (after s text)
 unfolding after
 stays s [] h = h
-stays s (b ∷ text) h = stays (step s b) text (step_stays s b h)
+stays s (b ∷ text) h = stays (after_byte s b) text (byte_stays s b h)
 
 pub stays_bounded : StaysBounded
 stays_bounded text = stays start text (record { pending = omega arith; group = omega arith })

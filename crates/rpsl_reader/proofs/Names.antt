@@ -1,10 +1,11 @@
 -- A name is ASCII, so it is a text; and a name that is found is the one that was sought.
 use Rattle.std.proofs.Common.{◌≡◌, ℕ, ◌<◌, Bool, true, false, ◌&&◌, List, [], ◌∷◌, length, IsTrue}
-use Rattle.std.proofs.Common.{refl, arith, nat_eq, nat_le}
+use Rattle.std.proofs.Common.{suc, ap, sym, ◌∙◌, map, refl, arith, nat_eq, nat_le}
 use Rattle.std.proofs.lemmas.Bool.Decides.{nat_tests}
 use Rattle.std.proofs.lemmas.Str.{IsUtf8-from_ascii}
 use Rattle.std.proofs.lemmas.Str.Ascii.{IsAscii-cons, IsAscii-nil}
-use Rattle.std.specs.Char.{is_ascii_alphabetic}
+use Rattle.std.proofs.lemmas.List.{length-map}
+use Rattle.std.specs.Char.{is_ascii_alphabetic, to_ascii_lowercase}
 use Rattle.std.specs.List.{list_all}
 use Rattle.std.specs.Str.{IsAscii, IsUtf8}
 use Rattle.geo_terms.specs.PlaceForm.{same_text}
@@ -13,6 +14,10 @@ use Rattle.rpsl_reader.specs.Attributes.{is_name, is_name_byte}
 pub and_left : (a b : Bool) → (a && b) ≡ true → a ≡ true
 and_left true b e = refl
 and_left false b e = absurd (let f : false ≡ true = e in cc)
+
+and_false : (a : Bool) → (a && false) ≡ false
+and_false true = refl
+and_false false = refl
 
 pub and_right : (a b : Bool) → (a && b) ≡ true → b ≡ true
 and_right true b e = e
@@ -48,3 +53,18 @@ same_is (x ∷ xs) (y ∷ ys) e =
     let h : nat_eq x y ≡ true = and_left (nat_eq x y) (same_text xs ys) e in
     let first : x ≡ y = grind (arith, nat_tests) in
     λ i. first i ∷ same_is xs ys (and_right (nat_eq x y) (same_text xs ys) e) i
+
+-- texts of unlike lengths differ
+unlike : (xs ys : List ℕ) → (length xs ≡ length ys → ⊥) → same_text xs ys ≡ false
+unlike [] [] h = absurd (h refl)
+unlike [] (y ∷ ys) h = refl
+unlike (x ∷ xs) [] h = refl
+unlike (x ∷ xs) (y ∷ ys) h =
+    let rest : same_text xs ys ≡ false = unlike xs ys (λ e. h (ap suc e)) in
+    ap (λ t. nat_eq x y && t) rest ∙ and_false (nat_eq x y)
+
+pub unlike_lower : (name text : List ℕ) → (length name ≡ length text → ⊥)
+    → same_text (map to_ascii_lowercase name) text ≡ false
+unlike_lower name text h =
+    unlike (map to_ascii_lowercase name) text
+    (λ e. h (sym (length-map name to_ascii_lowercase) ∙ e))

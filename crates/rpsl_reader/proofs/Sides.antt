@@ -3,14 +3,14 @@ use Rattle.std.proofs.Common.{◌≡◌, ℕ, suc, ◌+◌, ◌<◌, ◌==◌, B
 use Rattle.std.proofs.Common.{[], ◌∷◌, ◌++◌, length, take, drop, get_or, ◌-◌, ◌≤◌, ◌≢◌, map, IsTrue}
 use Rattle.std.proofs.Common.{Option, Some, None, refl, sym, ap, subst, ◌∙◌, arith, nat_le, inl}
 use Rattle.std.proofs.Common.{inr}
-use Rattle.std.proofs.lemmas.Bool.{cases_lt, lt-ltb, ne_eqb}
+use Rattle.std.proofs.lemmas.Bool.{cases_lt, lt-ltb, ne_eqb, or_parts}
 use Rattle.std.proofs.lemmas.Bool.Decides.{nat_tests}
 use Rattle.std.proofs.lemmas.List.{take-append-drop, take_all}
 use Rattle.std.proofs.lemmas.List.Sums.{prefix_len-le-length}
 use Rattle.std.proofs.lemmas.Option.{none-some}
 use Rattle.std.specs.Bool.{⊤}
 use Rattle.std.specs.Char.{is_ascii_alphabetic, to_ascii_lowercase}
-use Rattle.std.specs.List.{list_all, position, position_or_len}
+use Rattle.std.specs.List.{list_all, list_any, position, position_or_len}
 use Rattle.geo_addr.specs.Prefixes.{cut_first}
 use Rattle.rpsl_reader.proofs.Names.{and_left, and_right}
 use Rattle.rpsl_reader.specs.Attributes.{HasSides, Numbered, behind, continued, continues}
@@ -244,7 +244,7 @@ pub sides_value : (line name value : List ℕ) (ls : List Numbered) → HasSides
     → value_of line ls ≡ continued (said_of value) ls
 sides_value line name value ls h = ap (λ c. continued (said_of (behind c)) ls) h.sides
 
--- a step of a loop over lines
+-- a round of a loop over lines
 pub later_rest : (left rest : List Numbered) (l : Numbered) → 1 ≤ length left → l ≡ get_or left 0 l
     → rest ≡ take (length left - 1) (drop 1 left) → left ≡ l ∷ rest
 later_rest [] rest l some first is = absurd (omega arith)
@@ -264,3 +264,14 @@ continued_step value new left rest l some first is goes put =
     ∙ ap (λ t. cond t value (cond (continues l.1) more (continued value rest)))
     (continues_none l.1 goes)
     ∙ ap (λ t. cond t more (continued value rest)) goes)
+
+-- what has no `#` is all before it
+pub hash_free : (text : List ℕ) → list_any (λ b. b == 35) text ≡ false
+    → (cut_first 35 text).0 ≡ text
+hash_free [] e = refl
+hash_free (b ∷ bs) e =
+    let parts : ((b == 35) ≡ false) × (list_any (λ b. b == 35) bs ≡ false) =
+    or_parts (b == 35) (list_any (λ b. b == 35) bs) e in
+    let cut : Bool → List ℕ × Option (List ℕ) =
+    λ t. cond t ([], Some bs) (b ∷ (cut_first 35 bs).0, (cut_first 35 bs).1) in
+    ap (λ t. (cut t).0) parts.0 ∙ ap (λ t. b ∷ t) (hash_free bs parts.1)

@@ -77,8 +77,8 @@ unfoldable pub ended_by : Group → Numbered → List Item
 ended_by g l = if is_comment l.1 then [] else (if is_end l.1 then said_by g else [])
 
 -- the state after one more byte
-abbrev pub step : State → ℕ → State
-step s b =
+abbrev pub after_byte : State → ℕ → State
+after_byte s b =
     if b == 10 then record {
       lines = s.lines + 1;
       pending = [];
@@ -92,12 +92,12 @@ gives s b = if b == 10 then ended_by s.group (line_of (s.lines + 1) s.pending) e
 
 -- the state after a piece
 unfoldable pub after : State → List ℕ → State
-after s piece = fold step s piece
+after s piece = fold after_byte s piece
 
 -- the items of the groups that end in a piece
 unfoldable pub given : State → List ℕ → List Item
 given s [] = []
-given s (b ∷ bs) = gives s b ++ given (step s b) bs
+given s (b ∷ bs) = gives s b ++ given (after_byte s b) bs
 
 -- the items of the group that the end of the text ends: it ends the last line, and then the group
 unfoldable pub last : State → List Item

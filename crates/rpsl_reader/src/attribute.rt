@@ -7,6 +7,7 @@ ghost use Rattle.rpsl_reader.specs.Attributes.{continued, is_attribute, is_name,
 ghost use Rattle.rpsl_reader.specs.Attributes.{is_stray, joined, may_begin, said_of};
 ghost use Rattle.rpsl_reader.specs.Selections.{wants_name};
 
+use crate::front::{TOGETHER, plain_front};
 use crate::item::Attribute;
 use crate::line::{GroupLine, continues, cut_first, without_first};
 use crate::selection::Selection;
@@ -38,18 +39,24 @@ pub(crate) fn sides_of(line: &[u8]) -> Option<Sides<'_>>
     Some(Sides { name, value })
 }
 
-// Where the bytes of a name end. They are looked at one by one, since names are short.
+// Where the bytes of a name end: mostly at a colon behind bytes that are looked at together.
 fn name_end(line: &[u8]) -> usize
     ensures end { result ≡ position_or_len (λ b. not (is_name_byte b)) line.now }
     ensures within { result ≤ length line.now }
 {
+    if TOGETHER <= line.len() {
+        let end = plain_front(line);
+        if end < line.len() && line[end] == b':' {
+            return end;
+        }
+    }
     match other_byte(line) {
         Some(end) => end,
         None => line.len(),
     }
 }
 
-// The place of the first byte that may not stand in a name.
+// The offset of the first byte that may not stand in a name.
 fn other_byte(line: &[u8]) -> Option<usize>
     ensures { result ≡ position (λ b. not (is_name_byte b)) line.now }
 {
@@ -108,6 +115,9 @@ pub(crate) fn value_of(alloc: Global, first: &[u8], lines: &[GroupLine]) -> Resu
 fn said_of(text: &[u8]) -> &[u8]
     ensures { result.now ≡ said_of text.now }
 {
+    if !text.contains(&b'#') {
+        return trim_blanks(text);
+    }
     let (said, _) = cut_first(text, b'#');
     trim_blanks(said)
 }

@@ -2,6 +2,7 @@
 #![tactic(auto)]
 
 mod attribute;
+mod front;
 mod gathered;
 mod item;
 pub mod laws;
@@ -12,8 +13,6 @@ mod progress;
 mod read;
 mod reader;
 mod selection;
-#[cfg(test)]
-mod tests;
 
 pub use item::{Attribute, Item, Object};
 pub use progress::Progress;

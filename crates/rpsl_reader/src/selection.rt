@@ -126,9 +126,13 @@ fn find<'a>(texts: &'a [Text], name: &[u8]) -> Option<&'a Text>
 }
 
 // Whether a text is a name in lower case.
+#[tactic(auto, using(crate::proofs::Names::unlike_lower))]
 fn is_lower(name: &[u8], text: &[u8]) -> bool
     ensures { result ≡ same_text (map to_ascii_lowercase name.now) text.now }
 {
+    if name.len() != text.len() {
+        return false;
+    }
     let mut left = name;
     let mut right = text;
     while let [a, name @ ..] = left {

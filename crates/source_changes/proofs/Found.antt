@@ -274,6 +274,6 @@ pub empty_is : {X : Type 0} (xs : List X) → length xs ≡ 0 → xs ≡ []
 empty_is [] e = refl
 empty_is (x ∷ xs) e = absurd (omega arith)
 
--- all that is behind a place
+-- all that is behind an index
 pub rest_all : {X : Type 0} (i : ℕ) (xs : List X) → take (length xs - i) (drop i xs) ≡ drop i xs
 rest_all i xs = take_all (length xs - i) (drop i xs) (omega (arith, length-drop i xs))

@@ -1,4 +1,4 @@
--- Two lists without what is the same at the same place of both: they are as far apart as they were.
+-- Two lists without what is the same at the same index of both: they are as far apart as they were.
 use Rattle.std.proofs.Common.{◌≡◌, ◌∙◌, ℕ, ◌+◌, ◌<◌, Bool, true, List, [], ◌∷◌, ◌++◌, Bor, ap}
 use Rattle.std.proofs.Common.{arith, drop, get_or, length, map, subst, sym, take, take-append-drop}
 use Rattle.std.specs.Cmp.{IsEquivalence}
@@ -46,14 +46,14 @@ module _ {X : Type 0} (same : X → X → Bool) where
         subst (λ zs. AsFar zs (take (i + 1) new) old' new') (sym old_is)
         (subst (λ zs. AsFar (take i old ++ x ∷ []) zs old' new') (sym new_is) far)
 
-    -- two statements at one place that are the same
+    -- two statements at one index that are the same
     pub pair_passed : (old' new' : List X)
         → same x y ≡ true → AsFar (take i old) (take i new) old' new'
         → AsFar (take (i + 1) old) (take (i + 1) new) old' new'
     pair_passed old' new' tie far =
         further old' new' (far_same (take i old) (take i new) old' new' x y tie far)
 
-    -- two statements at one place, kept
+    -- two statements at one index, kept
     pub pair_kept : (old' new' old'' new'' : List X) → old'' ≡ old' ++ x ∷ []
         → new'' ≡ new' ++ y ∷ [] → AsFar (take i old) (take i new) old' new'
         → AsFar (take (i + 1) old) (take (i + 1) new) old'' new''
@@ -63,7 +63,7 @@ module _ {X : Type 0} (same : X → X → Bool) where
         (further (old' ++ x ∷ []) (new' ++ y ∷ [])
         (far_rest (take i old) (take i new) old' new' (x ∷ []) (y ∷ []) far)))
 
-  -- what stands behind the last place of both, kept
+  -- what stands behind the last index of both, kept
   pub rest_kept : (old new : List X) (n : ℕ) (old' new' old'' new'' : List X)
       → old'' ≡ old' ++ drop n old → new'' ≡ new' ++ drop n new
       → AsFar (take n old) (take n new) old' new' → AsFar old new old'' new''

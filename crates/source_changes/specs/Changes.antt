@@ -14,7 +14,7 @@ use Rattle.source_changes.specs.SameStatement.{same_delegation, same_entry, same
 use Rattle.source_changes.specs.SameStatement.{same_reference}
 use Rattle.source_changes.specs.Touched.{ground_of}
 
--- a call that puts a source in its place, or takes one away by its slot or URL
+-- a call that sets a source, or takes one away by its slot or URL
 pub data Change : Type 0 where
   SetDump : DumpParts → Change
   SetFeed : FeedParts → Change
@@ -62,7 +62,7 @@ delegation_changes old new = map (λ d. ground_of d.range) (changed same_delegat
 abbrev pub override_changes : (old new : List Override) → List Ends
 override_changes old new = map (λ o. ground_of o.range) (changed same_override old new)
 
--- the grounds that a call touches: those of the statements of the source in its place,
+-- the grounds that a call touches: those of the statements of the source that it sets or drops,
 -- before and after, that changed
 abbrev pub changes : Change → InForce → List Ends
 changes (SetDump d) s =

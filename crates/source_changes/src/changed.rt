@@ -16,7 +16,7 @@ use std::cmp::Ordering;
 
 /// The grounds of the statements of two lists that have no partner in the other one, in any order.
 ///
-/// What both lists begin with, what both end with, and what is the same at the same place between
+/// What both lists begin with, what both end with, and what is the same at the same index between
 /// these is passed over first, so where a few lines of a long file changed nothing long is sorted.
 pub fn changed_grounds<S: Compared>(
     alloc: Global,
@@ -116,7 +116,7 @@ fn compare_ranges(x: Range, y: Range) -> Ordering
     x.first.cmp(&y.first).then(x.last.cmp(&y.last))
 }
 
-// Both lists without the statements that are the same at the same place of both, borrowed.
+// Both lists without the statements that are the same at the same index of both, borrowed.
 fn unpaired<'a, S: Compared>(
     alloc: Global,
     old: &'a [S],

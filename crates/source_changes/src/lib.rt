@@ -5,8 +5,6 @@
 mod changed;
 mod compared;
 pub mod laws;
-#[cfg(test)]
-mod tests;
 
 pub use changed::{changed_grounds, keep_all, push_borrows};
 pub use compared::Compared;

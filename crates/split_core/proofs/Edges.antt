@@ -32,7 +32,7 @@ module _ {X : Type 0} (P : X → Type 0) where
         | inr same ↦ inr (subst P (sym same) holds)
       ]
 
--- a place that lies within a range, appended to what is there
+-- a point that lies within a range, appended to what is there
 pub push_lying : (old new : List ℕ) (within : Ends) (p : ℕ) → IsWithin within p
     → ((c : ℕ) → Contains new c ↔ (Contains old c ⊎ (c ≡ p)))
     → (c : ℕ) → Contains new c ↔ (Contains old c ⊎ ((c ≡ p) × IsWithin within c))
@@ -119,29 +119,29 @@ cuts_more ranges i r old new within inside r_is before step c =
           ],
     )
 
--- sorting, and dropping repeats, change no place
-pub places_stay : (places sorted kept : List ℕ) → IsPermutation places sorted
+-- sorting, and dropping repeats, change no point
+pub points_stay : (points sorted kept : List ℕ) → IsPermutation points sorted
     → IsFiltered (DiffersFromLast nat_eq) [] sorted kept
-    → (c : ℕ) → Contains kept c ↔ Contains places c
-places_stay places sorted kept moved filtered c =
+    → (c : ℕ) → Contains kept c ↔ Contains points c
+points_stay points sorted kept moved filtered c =
     let is = dedup_is nat_eq sorted kept filtered in
     let P : List ℕ → Type 0 = λ xs. Contains xs c in (
-      λ has. Contains-permutation sorted places c (IsPermutation-sym places sorted moved)
+      λ has. Contains-permutation sorted points c (IsPermutation-sym points sorted moved)
           (Contains-from_dedup nat_eq sorted c (subst P is has)),
       λ there. subst P (sym is)
-          (Contains-dedup_nat sorted c (Contains-permutation places sorted c moved there)),
+          (Contains-dedup_nat sorted c (Contains-permutation points sorted c moved there)),
     )
 
--- and they leave the places ascending
-pub places_ascend : (sorted kept : List ℕ) → IsSorted nat_cmp sorted
+-- and they leave the points ascending
+pub points_ascend : (sorted kept : List ℕ) → IsSorted nat_cmp sorted
     → IsFiltered (DiffersFromLast nat_eq) [] sorted kept → IsStrictlyIncreasing kept
-places_ascend sorted kept is_sorted filtered =
+points_ascend sorted kept is_sorted filtered =
     let is = dedup_is nat_eq sorted kept filtered in
     subst IsStrictlyIncreasing (sym is) (IsStrictlyIncreasing-dedup sorted is_sorted)
 
 -- cut points that are put in order are cut points
-pub cuts_stay : (ranges : List Ends) (within : Ends) (places kept : List ℕ)
-    → ((c : ℕ) → Contains kept c ↔ Contains places c)
-    → AreCuts ranges within places → AreCuts ranges within kept
-cuts_stay ranges within places kept stay cuts c =
+pub cuts_stay : (ranges : List Ends) (within : Ends) (points kept : List ℕ)
+    → ((c : ℕ) → Contains kept c ↔ Contains points c)
+    → AreCuts ranges within points → AreCuts ranges within kept
+cuts_stay ranges within points kept stay cuts c =
     (λ has. (cuts c).0 ((stay c).0 has), λ cut. (stay c).1 ((cuts c).1 cut))

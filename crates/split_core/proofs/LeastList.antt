@@ -1,4 +1,4 @@
--- The list of largest blocks from a place on has exactly the addresses,
+-- The list of largest blocks from a point on has exactly the addresses,
 -- and no list of blocks is shorter.
 use Rattle.std.proofs.Common.{◌≡◌, ℕ, zero, suc, ◌+◌, ◌-◌, ◌^◌, ◌<◌, ◌≤◌, true, false, cond, inl}
 use Rattle.std.proofs.Common.{inr, List, [], ◌∷◌, length, arith, refl, sym, ap, subst, ◌∙◌}
@@ -13,7 +13,7 @@ use Rattle.split_core.specs.Least.{past, Covers, Ascend, AreLeastFor}
 use Rattle.split_core.specs.Walk.{largest_block, blocks_from, blocks_of, blocks_left}
 use Rattle.split_core.proofs.Rooms.{IsLargest, largest_block_is}
 
--- an address of a block, by the place past its end
+-- an address of a block, by the point past its end
 has_to : (b : Prefix) (a : ℕ) → IsWithin (range_of_block b) a → a < past b
 has_to b a has = omega (arith, has.0, has.1, pow_pos (128 - b.len))
 
@@ -83,7 +83,7 @@ from_ascends (suc n) first end =
       | inr none ↦ subst (Ascend first) (sym (from_none (suc n) first end none)) tt
     ]
 
--- the blocks cover what lies from the place on, and nothing else
+-- the blocks cover what lies from the point on, and nothing else
 from_covers : (n first end a : ℕ) → end ≤ 2 ^ 128 → end - first ≤ n → first ≤ a → a < end
     → Covers (blocks_from n first end) a
 from_covers zero first end a low enough from to = absurd (omega arith)
@@ -121,36 +121,36 @@ from_within (suc n) first end a low has =
       | inr none ↦ absurd (covers_less (suc n) first end a has none)
     ]
 
--- a block lies from a place on and ends in time
+-- a block lies from a point on and ends in time
 record IsInside (first end : ℕ) (c : Prefix) : Type 0 where
   block : IsBlock c
   from : first ≤ c.first
   to : past c ≤ end
 
--- the blocks that begin at a place or later
+-- the blocks that begin at a point or later
 kept : ℕ → List Prefix → List Prefix
-kept place [] = []
-kept place (c ∷ cs) = cond (nat_le place c.first) (c ∷ kept place cs) (kept place cs)
+kept point [] = []
+kept point (c ∷ cs) = cond (nat_le point c.first) (c ∷ kept point cs) (kept point cs)
 
-keep_later : (place : ℕ) (c : Prefix) (cs : List Prefix) → place ≤ c.first
-    → kept place (c ∷ cs) ≡ c ∷ kept place cs
+keep_later : (point : ℕ) (c : Prefix) (cs : List Prefix) → point ≤ c.first
+    → kept point (c ∷ cs) ≡ c ∷ kept point cs
 unfolding kept
-keep_later place c cs later =
-    let test : nat_le place c.first ≡ true = grind (arith, nat_tests) in
-    ap (λ b. cond b (c ∷ kept place cs) (kept place cs)) test
+keep_later point c cs later =
+    let test : nat_le point c.first ≡ true = grind (arith, nat_tests) in
+    ap (λ b. cond b (c ∷ kept point cs) (kept point cs)) test
 
-keep_not : (place : ℕ) (c : Prefix) (cs : List Prefix) → c.first < place
-    → kept place (c ∷ cs) ≡ kept place cs
+keep_not : (point : ℕ) (c : Prefix) (cs : List Prefix) → c.first < point
+    → kept point (c ∷ cs) ≡ kept point cs
 unfolding kept
-keep_not place c cs earlier =
-    let test : nat_le place c.first ≡ false = grind (arith, nat_tests) in
-    ap (λ b. cond b (c ∷ kept place cs) (kept place cs)) test
+keep_not point c cs earlier =
+    let test : nat_le point c.first ≡ false = grind (arith, nat_tests) in
+    ap (λ b. cond b (c ∷ kept point cs) (kept point cs)) test
 
-keep_nil : (place : ℕ) → kept place [] ≡ []
+keep_nil : (point : ℕ) → kept point [] ≡ []
 unfolding kept
-keep_nil place = refl
+keep_nil point = refl
 
--- blocks with addresses between two places lie between them
+-- blocks with addresses between two points lie between them
 members_inside : (cs : List Prefix) (first end : ℕ) → AllByRecursion IsBlock cs
     → ((a : ℕ) → Covers cs a → (first ≤ a) × (a < end)) → AllByRecursion (IsInside first end) cs
 members_inside [] first end blocks within = tt
@@ -203,33 +203,33 @@ kept_covers (c ∷ cs) b first end a is inside later has =
           ])
     ]
 
-kept_shorter : (cs : List Prefix) (place : ℕ) → length (kept place cs) ≤ length cs
-kept_shorter [] place = omega (arith, ap length (keep_nil place))
-kept_shorter (c ∷ cs) place =
-    elim (cases_lt c.first place) [
-      | inl earlier ↦ omega (arith, ap length (keep_not place c cs earlier), kept_shorter cs place)
-      | inr later ↦ omega (arith, ap length (keep_later place c cs later), kept_shorter cs place)
+kept_shorter : (cs : List Prefix) (point : ℕ) → length (kept point cs) ≤ length cs
+kept_shorter [] point = omega (arith, ap length (keep_nil point))
+kept_shorter (c ∷ cs) point =
+    elim (cases_lt c.first point) [
+      | inl earlier ↦ omega (arith, ap length (keep_not point c cs earlier), kept_shorter cs point)
+      | inr later ↦ omega (arith, ap length (keep_later point c cs later), kept_shorter cs point)
     ]
 
 -- blocks that cover an earlier address get fewer
-kept_fewer : (cs : List Prefix) (place a : ℕ) → a < place → Covers cs a
-    → length (kept place cs) + 1 ≤ length cs
-kept_fewer [] place a earlier has = absurd has
-kept_fewer (c ∷ cs) place a earlier has =
+kept_fewer : (cs : List Prefix) (point a : ℕ) → a < point → Covers cs a
+    → length (kept point cs) + 1 ≤ length cs
+kept_fewer [] point a earlier has = absurd has
+kept_fewer (c ∷ cs) point a earlier has =
     elim has [
       | inl here ↦ omega
-          (arith, ap length (keep_not place c cs (omega (arith, here.0))), kept_shorter cs place)
+          (arith, ap length (keep_not point c cs (omega (arith, here.0))), kept_shorter cs point)
       | inr there ↦
-          elim (cases_lt c.first place) [
+          elim (cases_lt c.first point) [
             | inl before ↦ omega (
               arith,
-              ap length (keep_not place c cs before),
-              kept_fewer cs place a earlier there,
+              ap length (keep_not point c cs before),
+              kept_fewer cs point a earlier there,
             )
             | inr later ↦ omega (
               arith,
-              ap length (keep_later place c cs later),
-              kept_fewer cs place a earlier there,
+              ap length (keep_later point c cs later),
+              kept_fewer cs point a earlier there,
             )
           ]
     ]
@@ -305,9 +305,9 @@ pub some_left : (r : Ends) (b : Prefix) (end : ℕ) (left : Option Ends)
     → left ≡ Some (record { first = end + 1; last = r.last })
     → blocks_of r.first (r.last + 1) ≡ b ∷ blocks_left left
 some_left r b end left is first ends rest =
-    let place : past b ≡ end + 1 = omega (arith, pow_pos (128 - b.len)) in
+    let point : past b ≡ end + 1 = omega (arith, pow_pos (128 - b.len)) in
     let tail : blocks_of (past b) (r.last + 1) ≡ blocks_left left =
-    ap (λ n. blocks_of n (r.last + 1)) place ∙ sym (ap blocks_left rest) in
+    ap (λ n. blocks_of n (r.last + 1)) point ∙ sym (ap blocks_left rest) in
     more_left r b is first ∙ ap (λ bs. b ∷ bs) tail
 
 pub none_left : (r : Ends) (b : Prefix) (end : ℕ) (left : Option Ends)

@@ -1,4 +1,4 @@
--- Room for a block at a place, and the largest block that has room.
+-- Room for a block at a point, and the largest block that has room.
 use Rattle.std.proofs.Common.{◌≡◌, ℕ, zero, suc, ◌+◌, ◌-◌, ◌%◌, ◌^◌, ◌<◌, ◌≤◌, Bool, true, false}
 use Rattle.std.proofs.Common.{cond, leb, nat_eq, bit_and, ◌⊎◌, inl, inr, arith, refl, sym, ap}
 use Rattle.std.proofs.Common.{subst, ◌∙◌}
@@ -135,7 +135,7 @@ length_block len first end short some low room = record {
   aligned = (room_true (128 - len) first end room).0;
 }
 
--- a block that begins at a place, ends in time, and past which no block ends that begins in it
+-- a block that begins at a point, ends in time, and past which no block ends that begins in it
 pub record IsLargest (b : Prefix) (first end : ℕ) : Type 0 where
   pub starts : b.first ≡ first
   pub block : IsBlock b

@@ -2,7 +2,7 @@
 use Rattle.std.specs.Prelude.{ℕ, ◌+◌, ◌-◌, ◌^◌, ◌≤◌, ◌↔◌, ◌⊎◌, List, [], ◌∷◌, length, All}
 use Rattle.geo_addr.specs.Ranges.{Ends, Prefix, IsBlock, IsWithin, range_of_block}
 
--- the place past a block's end
+-- the point past a block's end
 abbrev pub past : Prefix → ℕ
 past b = b.first + 2 ^ (128 - b.len)
 
@@ -15,10 +15,10 @@ Covers (b ∷ bs) a = IsWithin (range_of_block b) a ⊎ Covers bs a
 abbrev pub HaveAddresses : List Prefix → Ends → Type 0
 HaveAddresses bs r = (a : ℕ) → Covers bs a ↔ IsWithin r a
 
--- the first block begins at a place or later, and each other one past the end of the one before
+-- the first block begins at a point or later, and each other one past the end of the one before
 abbrev pub Ascend : ℕ → List Prefix → Type 0
-Ascend place [] = Unit {0}
-Ascend place (b ∷ bs) = (place ≤ b.first) × Ascend (past b) bs
+Ascend point [] = Unit {0}
+Ascend point (b ∷ bs) = (point ≤ b.first) × Ascend (past b) bs
 
 -- aligned, ascending, disjoint blocks with exactly the range's addresses,
 -- and no list of blocks with these addresses is shorter

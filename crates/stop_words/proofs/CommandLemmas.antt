@@ -1,4 +1,4 @@
--- Words are a command exactly where each is what has to stand in its place.
+-- Words are a command exactly where each is what has to stand there.
 use Rattle.std.proofs.Common.{◌≡◌, ℕ, ◌&&◌, Bool, true, false, List, [], ◌∷◌, refl, sym, ◌∙◌}
 use Rattle.std.proofs.Common.{Option, None, Some, is_some, Result, Ok, Err, is_ok, if◌then◌else◌}
 use Rattle.geo_addr.specs.AddressTexts.{address_in}

@@ -22,12 +22,12 @@ use Rattle.stop_words.specs.declared.shape.Shape.{Shape}
 use Rattle.stop_words.specs.declared.shape.Shape.TheVariants as shapes
 
 -- one more word that a line can begin with
-step : {X : Type 0} (c : Bool) (operands : Operands) (more : Option Operands) (x y : Option X)
+verb : {X : Type 0} (c : Bool) (operands : Operands) (more : Option Operands) (x y : Option X)
     (rest : List (List ℕ))
     → is_some x ≡ operands_fit operands rest → is_some y ≡ takes more rest
     → is_some (if c then x else y) ≡ takes (if c then Some operands else more) rest
-step true operands more x y rest this that = this
-step false operands more x y rest this that = that
+verb true operands more x y rest this that = this
+verb false operands more x y rest this that = that
 
 -- one more kind of source
 kind : {X : Type 0} (c : Bool) (operand : Option Shape) (more : Option (Option Shape))
@@ -119,36 +119,36 @@ kept_by_fits : (word : List ℕ) (rest : List (List ℕ))
     → is_some (kept_by word rest) ≡ takes (kept_operands word) rest
 unfolding kept_by kept_operands
 kept_by_fits word rest =
-    step (same_text word (codes "mark")) (One shapes.Slot) _ _ _ rest
+    verb (same_text word (codes "mark")) (One shapes.Slot) _ _ _ rest
     (mapped Mark (slot_alone rest) ∙ slot_fits rest)
-    (step (same_text word (codes "back")) (One shapes.Slot) _ _ _ rest
+    (verb (same_text word (codes "back")) (One shapes.Slot) _ _ _ rest
     (mapped Back (slot_alone rest) ∙ slot_fits rest)
-    (step (same_text word (codes "compact")) Nothing None _ _ rest
+    (verb (same_text word (codes "compact")) Nothing None _ _ rest
     (some_if (has_none rest) _) refl))
 
 act_by_fits : (word : List ℕ) (rest : List (List ℕ))
     → is_some (act_by word rest) ≡ takes (source_operands word) rest
 unfolding act_by source_operands
 act_by_fits word rest =
-    step (same_text word (codes "rpsl")) (Two shapes.Slot shapes.File) _ _ _ rest
+    verb (same_text word (codes "rpsl")) (Two shapes.Slot shapes.File) _ _ _ rest
     (mapped _ (slot_and_file rest) ∙ source_fits rest)
-    (step (same_text word (codes "stats")) (Two shapes.Slot shapes.File) _ _ _ rest
+    (verb (same_text word (codes "stats")) (Two shapes.Slot shapes.File) _ _ _ rest
     (mapped _ (slot_and_file rest) ∙ source_fits rest)
-    (step (same_text word (codes "feed")) (Two shapes.Url shapes.File) _ _ _ rest (feed_fits rest)
-    (step (same_text word (codes "overrides")) (One shapes.File) _ _ _ rest
+    (verb (same_text word (codes "feed")) (Two shapes.Url shapes.File) _ _ _ rest (feed_fits rest)
+    (verb (same_text word (codes "overrides")) (One shapes.File) _ _ _ rest
     (mapped Overrides (file_alone rest) ∙ file_fits rest)
-    (step (same_text word (codes "drop")) Dropped _ _ _ rest
+    (verb (same_text word (codes "drop")) Dropped _ _ _ rest
     (mapped Drop (gone_of rest) ∙ gone_of_fits rest)
-    (step (same_text word (codes "emit")) (One shapes.File) _ _ _ rest
+    (verb (same_text word (codes "emit")) (One shapes.File) _ _ _ rest
     (mapped Emit (file_alone rest) ∙ file_fits rest)
-    (step (same_text word (codes "report")) Nothing _ _ _ rest (some_if (has_none rest) _)
+    (verb (same_text word (codes "report")) Nothing _ _ _ rest (some_if (has_none rest) _)
     (kept_by_fits word rest)))))))
 
 pub form_fits : (word : List ℕ) (rest : List (List ℕ))
     → takes (line_operands word) rest ≡ is_some (form_by word rest)
 unfolding form_by line_operands
 form_fits word rest = sym
-    (step (same_text word (codes "epoch")) (One shapes.Epoch) _ _ _ rest (epoch_fits rest)
-    (step (same_text word (codes "type")) (One shapes.TypeName) _ _ _ rest (type_fits rest)
-    (step (same_text word (codes "pieces")) (One shapes.Pieces) _ _ _ rest (pieces_fits rest)
+    (verb (same_text word (codes "epoch")) (One shapes.Epoch) _ _ _ rest (epoch_fits rest)
+    (verb (same_text word (codes "type")) (One shapes.TypeName) _ _ _ rest (type_fits rest)
+    (verb (same_text word (codes "pieces")) (One shapes.Pieces) _ _ _ rest (pieces_fits rest)
     (mapped _ (act_by word rest) ∙ act_by_fits word rest))))

@@ -1,4 +1,4 @@
 pub mod Faults
 pub mod Lines
-pub mod Places
+pub mod Order
 pub mod Shapes

@@ -1,4 +1,4 @@
-//! What is said of a stop: one line with its place and what to do about it,
+//! What is said of a stop: one line with where it is and what to do about it,
 //! for the person who ran the program.
 #![tactic(auto)]
 
@@ -9,7 +9,7 @@ mod grammar;
 mod line;
 mod names;
 mod numbers;
-mod place;
+mod order;
 mod shape;
 mod shown;
 mod steps;
@@ -20,9 +20,6 @@ pub use command::{CommandFault, command_fault};
 pub use fault::WordFault;
 pub use line::{LineFault, line_fault};
 pub use names::name_fault;
-pub use place::{PlaceFault, Refusal, refusal_of};
+pub use order::{OrderFault, Refusal, refusal_of};
 pub use shape::{Operands, Shape, word_fault};
 pub use stop::{Stopped, stop_text};
-
-#[cfg(test)]
-mod tests;

@@ -21,7 +21,7 @@ pub enum LineFault {
     Source,
     /// It has too few words, or too many.
     Words,
-    /// The word at this place, counted from 0, is not what has to stand there.
+    /// The word at this index, counted from 0, is not what has to stand there.
     Word {
         at: u8,
         shape: Shape,

@@ -7,13 +7,9 @@ ghost use Rattle.stop_words.specs.Faults.{has_part, is_absolute, IsSo};
 
 use crate::fault::WordFault;
 use geo_addr::cut_at;
-use job_lines::{has_name_bytes, has_slot_bytes, has_visible_bytes, is_text};
-
-/// The most bytes of a file's name.
-const LONGEST_NAME: usize = 255;
-
-/// The most bytes of a slot and of a database type.
-const LONGEST_WORD: usize = 64;
+use job_lines::{
+    LONGEST_NAME, LONGEST_WORD, has_name_bytes, has_slot_bytes, has_visible_bytes, is_text,
+};
 
 /// What is wrong with the name of a file, which is a word of a job or of the command line.
 #[tactic(auto, unfolding(job_lines::specs::Names::is_name))]

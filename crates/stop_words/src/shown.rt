@@ -26,7 +26,7 @@ fn quoted(alloc: Global, text: &str) -> Result<String, Memory> {
     Ok(line)
 }
 
-// The character, or another in the place of one that is not seen but done.
+// The character, or another instead of one that is not seen but done.
 fn visible(letter: char) -> char {
     match letter {
         '\0'..='\u{1F}' | '\u{7F}'..='\u{9F}' => '\u{FFFD}',

@@ -7,11 +7,8 @@ use crate::steps::{Use, act_at, line_of, most_bytes, statements};
 use crate::told::{command_words, line_words};
 use geo_addr::{Lines, Memory, Text, decimal};
 use geo_outside::{Folder, read_whole};
-use job_lines::{Act, Gone, Job, read_job};
+use job_lines::{Act, Gone, Job, LONGEST_JOB, read_job};
 use std::alloc::Global;
-
-/// The most bytes of a job.
-const LONGEST_JOB: u64 = 1_048_576;
 
 /// Why a command stopped.
 #[derive(Clone, Copy, Debug)]
@@ -72,13 +69,13 @@ fn told<F: Folder>(
     }
 }
 
-// A line that has no place in a job.
+// A line that names no line of a job.
 fn plain(alloc: Global, what: &str) -> Result<String, Memory> {
     Ok(format!(in alloc; "geofeed: {what}\n")?)
 }
 
-// A line with its place in the job, where there is one.
-fn placed(
+// A line that names its line of the job, where there is one.
+fn located(
     alloc: Global,
     words: &[String],
     line: Option<u64>,
@@ -106,7 +103,7 @@ fn job_bytes<F: Folder>(alloc: Global, words: &[String], folder: &mut F) -> Opti
     ensures { F.told folder.new ≡ F.told folder.old }
 {
     let name = job_name(words)?;
-    match read_whole(alloc, folder, name, LONGEST_JOB) {
+    match read_whole(alloc, folder, name, LONGEST_JOB as u64) {
         Ok(bytes) => Some(bytes),
         Err(_) => None,
     }
@@ -122,13 +119,13 @@ fn job_of<F: Folder>(alloc: Global, words: &[String], folder: &mut F) -> Option<
     }
 }
 
-// The word at this place of a stop line, counted from 0, or nothing.
+// The word at this index of a stop line, counted from 0, or nothing.
 fn part<'a>(stopped: &Stopped<'a>, at: usize) -> &'a str {
     let line = stopped.line.strip_suffix("\n").unwrap_or(stopped.line);
     line.split(' ').nth(at).unwrap_or("")
 }
 
-// The number at this place of a stop line.
+// The number at this index of a stop line.
 fn number(stopped: &Stopped<'_>, at: usize) -> Option<u64> {
     let number = decimal(part(stopped, at).as_bytes(), 1, 20)?;
     u64::try_from(number).ok()
@@ -162,7 +159,7 @@ fn file_stop<F: Folder>(
     };
     let why = because(alloc, stopped.system)?;
     let what = format!(in alloc; "{noun} {} {what}{}", quoted.as_str(), why.as_str())?;
-    placed(alloc, words, line, what.as_str())
+    located(alloc, words, line, what.as_str())
 }
 
 fn because(alloc: Global, system: &str) -> Result<String, Memory> {
@@ -206,7 +203,7 @@ fn job_stop<F: Folder>(
         "empty" => "the job has no line but blank ones and comments; it begins with: epoch N",
         "utf8" => {
             let line = first_not_utf8(bytes.as_slice());
-            return placed(
+            return located(
                 alloc,
                 words,
                 line,
@@ -216,7 +213,7 @@ fn job_stop<F: Folder>(
         _ => {
             let line = number(stopped, 2);
             let what = line_words(alloc, bytes.as_slice(), line.unwrap_or(0))?;
-            return placed(alloc, words, line, what.as_str());
+            return located(alloc, words, line, what.as_str());
         }
     };
     plain(alloc, what)
@@ -281,7 +278,7 @@ fn step_stop<F: Folder>(
         Some(act) => act_words(alloc, act, stopped)?,
         None => String::from_str(alloc, "the line cannot be done")?,
     };
-    placed(alloc, words, line, what.as_str())
+    located(alloc, words, line, what.as_str())
 }
 
 // What no line of a job is named for.

@@ -2,7 +2,7 @@
 use crate::command::{CommandFault, command_fault, command_form};
 use crate::grammar::line_form;
 use crate::line::LineFault;
-use crate::place::{PlaceFault, Refusal, line_at, refusal_of};
+use crate::order::{OrderFault, Refusal, line_at, refusal_of};
 use crate::shape::shape_name;
 use crate::shown::shown;
 use geo_addr::Memory;
@@ -61,7 +61,7 @@ pub(crate) fn line_words(alloc: Global, bytes: &[u8], number: u64) -> Result<Str
     };
     match refusal_of(alloc, seen, line)? {
         Some(Refusal::Form(fault)) => form_words(alloc, line, fault),
-        Some(Refusal::Place(fault)) => place_words(alloc, line, fault),
+        Some(Refusal::Order(fault)) => order_words(alloc, line, fault),
         None => refused(alloc),
     }
 }
@@ -100,7 +100,7 @@ emit, report, mark, back or compact, in lower case",
     }
 }
 
-// The word at this place of a line, counted from 0, or nothing.
+// The word at this index of a line, counted from 0, or nothing.
 fn nth_word(line: &[u8], at: usize) -> &[u8] {
     let mut left = line;
     for _ in 0..at {
@@ -115,19 +115,19 @@ fn nth_word(line: &[u8], at: usize) -> &[u8] {
     }
 }
 
-fn place_words(alloc: Global, line: &[u8], fault: PlaceFault) -> Result<String, Memory> {
+fn order_words(alloc: Global, line: &[u8], fault: OrderFault) -> Result<String, Memory> {
     let word = shown(alloc, nth_word(line, 0))?;
     let word = word.as_str();
     match fault {
-        PlaceFault::NoEpoch => Ok(format!(in alloc;
+        OrderFault::NoEpoch => Ok(format!(in alloc;
             "{word} stands before the epoch; the first line that says something is: epoch N"
         )?),
-        PlaceFault::Epoch => Ok(format!(in alloc;
+        OrderFault::Epoch => Ok(format!(in alloc;
             "a second {word}; it stands once, in the first line that says something"
         )?),
-        PlaceFault::Behind => Ok(format!(in alloc;
+        OrderFault::Behind => Ok(format!(in alloc;
             "{word} stands behind a line that does something; type and pieces stand before all of these"
         )?),
-        PlaceFault::Twice => Ok(format!(in alloc; "a second {word}; it stands once at most")?),
+        OrderFault::Twice => Ok(format!(in alloc; "a second {word}; it stands once at most")?),
     }
 }

@@ -1,8 +1,8 @@
 -- Lemmas on the nodes that are taken along into a new store.
-use Rattle.std.proofs.Common.{◌≡◌, ◌≢◌, ℕ, zero, suc, ◌+◌, ◌^◌, ◌<◌, ◌≤◌, ◌⊎◌, inl, inr, nat_eq}
+use Rattle.std.proofs.Common.{◌≡◌, ◌≢◌, ℕ, zero, suc, ◌+◌, ◌^◌, ◌<◌, ◌≤◌, inl, inr, nat_eq}
 use Rattle.std.proofs.Common.{nat_lt, eqb, Bool, true, false, true≢false, if◌then◌else◌, not, List}
 use Rattle.std.proofs.Common.{[], ◌∷◌, ◌++◌, map, length, get_or, slice_get, Some, None, Contains}
-use Rattle.std.proofs.Common.{All, cond, refl, sym, ◌∙◌, ap, ap₂, subst, arith, rules, le_refl}
+use Rattle.std.proofs.Common.{cond, refl, sym, ◌∙◌, ap, ap₂, subst, arith, rules, le_refl}
 use Rattle.std.proofs.Common.{length-append}
 use Rattle.std.specs.List.{IsDistinct, AllByRecursion, position, position_or_len, list_any}
 use Rattle.std.proofs.lemmas.Bool.{ltb-true, cases_lt}
@@ -14,22 +14,20 @@ use Rattle.std.proofs.lemmas.Map.Steps.{length-le_from_distinct_below}
 use Rattle.std.proofs.lemmas.Option.{slice_get_within, slice_get-get_or}
 use Rattle.indexmap.specs.IndexSet.{insert_key}
 use Rattle.trie_core.specs.contracts.node.NodeIdPartialEq.TheImpl as id_impl
-use Rattle.trie_core.specs.contracts.node.PairPartialEq.TheImpl as pair_impl
 use Rattle.trie_core.specs.declared.node.NodeId.{NodeId}
 use Rattle.trie_core.specs.declared.node.Rec.{Rec}
 use Rattle.trie_core.specs.declared.node.Rec.TheVariants.{Leaf, Node}
 use Rattle.trie_core.specs.declared.node.Root.{Root}
 use Rattle.trie_core.specs.declared.node.Pair.{Pair}
-use Rattle.trie_core.specs.Tree.{Tree, leaf, node, height, IsReduced, IsPartOf, join}
+use Rattle.trie_core.specs.Tree.{Tree, node, height, IsReduced, IsPartOf, join}
 use Rattle.trie_core.specs.Store.{meaning, tree_of, IsBelow, IsOf, IsRootOf, IsSound, IsKept}
 use Rattle.trie_core.specs.Store.{IsAdded, AddedUnder}
 use Rattle.trie_core.specs.Graft.{HoldsTree}
 use Rattle.trie_core.specs.Compact.{AreRootsOf, trees_of_roots, StandsIn, HoldsExactly, AreTaken}
 use Rattle.trie_core.specs.Compact.{AreRootsTaken, IsNumbered}
-use Rattle.trie_core.proofs.PairLemmas.{IsAdded-insert_key}
 use Rattle.trie_core.proofs.TreeLemmas.{join-node, nat_equality}
 use Rattle.trie_core.proofs.StoreLemmas.{meaning-leaf, meaning_node, pair_at, IsBelow-le}
-use Rattle.trie_core.proofs.StoreLemmas.{IsReduced-meaning, same_from_meaning, slice_get-append}
+use Rattle.trie_core.proofs.StoreLemmas.{IsReduced-meaning, same_from_meaning}
 use Rattle.trie_core.proofs.StoreLemmas.{slice_get-push, slice_get_last, slice_get-Contains}
 use Rattle.trie_core.proofs.StoreLemmas.{Contains-slice_get, IsSound-nil, IsMade, IsMade-from_added}
 use Rattle.trie_core.proofs.StoreLemmas.{AddedUnder-same, IsKept-same}
@@ -53,7 +51,7 @@ pub IsNumbered-new : (nodes nodes' : List NodeId) (pairs pairs' : List Pair) (id
     (pair : Pair) (is_new : Bool) (k : ℕ) → is_new ≡ true
     → is_new ≡ not (list_any (id_impl.eq-value.it id) nodes)
     → nodes' ≡ insert_key id_impl.eq-value.it nodes id → slice_get nodes' k ≡ Some id
-    → pairs' ≡ insert_key pair_impl.eq-value.it pairs pair
+    → IsAdded pairs pairs' pair
     → IsNumbered nodes nodes' pairs pairs' id pair k
 IsNumbered-new nodes nodes' pairs pairs' id pair is_new k is added keys at grown =
     let none : list_any (id_impl.eq-value.it id) nodes ≡ false =
@@ -68,7 +66,7 @@ IsNumbered-new nodes nodes' pairs pairs' id pair is_new k is added keys at grown
       new,
       number,
       nodes-are,
-      subst (λ ps. IsAdded pairs ps pair) (sym grown) (IsAdded-insert_key pairs pair),
+      grown,
     )
   where
     not-true : (b : Bool) → not b ≡ true → b ≡ false
@@ -110,7 +108,7 @@ IsNumbered-old nodes nodes' pairs id pair is_new k is added keys at =
     not-false false is = absurd (cc)
 
 -- where a position is found, the element passes
-found_at : {X : Type 0} (test : X → Bool) (xs : List X) (i : ℕ) (d : X) → position test xs ≡ Some i
+pub found_at : {X : Type 0} (test : X → Bool) (xs : List X) (i : ℕ) (d : X) → position test xs ≡ Some i
     → (i < length xs) × (test (get_or xs i d) ≡ true)
 found_at test xs i d is = by (nat_lt (position_or_len test xs) (length xs)) refl
   where

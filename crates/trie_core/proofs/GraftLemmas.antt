@@ -1,11 +1,10 @@
 -- Lemmas on the tree below a way, and on a tree that is put at its end.
-use Rattle.std.proofs.Common.{◌≡◌, ◌≢◌, ℕ, zero, suc, ◌+◌, ◌-◌, ◌*◌, ◌/◌, ◌%◌, ◌^◌, ◌<◌, ◌≤◌, max}
-use Rattle.std.proofs.Common.{◌==◌, bit_and, inl, inr, ◌⊎◌, Bool, true, false, List, [], ◌∷◌, ◌++◌}
-use Rattle.std.proofs.Common.{length, take, Option, Some, refl, sym, ◌∙◌, ap, ap₂, subst, arith}
-use Rattle.std.proofs.Common.{nat_eq, length-append}
-use Rattle.std.proofs.lemmas.Bool.{cases_lt}
-use Rattle.std.proofs.Math.Nat.{div-div-eq-div-mul, div-lt_iff_lt-mul, div-mul-le_self}
-use Rattle.std.proofs.Math.Nat.{lt-div-mul-add, mul_comm}
+use Rattle.std.proofs.Common.{◌≡◌, ◌≢◌, ℕ, zero, suc, ◌+◌, ◌-◌, ◌*◌, ◌/◌, ◌%◌, ◌^◌, ◌<◌, ◌≤◌}
+use Rattle.std.proofs.Common.{◌==◌, bit_and, Bool, true, false, List, [], ◌∷◌, ◌++◌}
+use Rattle.std.proofs.Common.{length, take, refl, sym, ◌∙◌, ap, ap₂, subst, arith}
+use Rattle.std.proofs.Common.{nat_eq}
+use Rattle.std.proofs.Math.Nat.{div-div-eq-div-mul, div-lt_iff_lt-mul}
+use Rattle.std.proofs.Math.Nat.{mul_comm}
 use Rattle.std.proofs.Math.Seq.{take-append_seam}
 use Rattle.std.proofs.lemmas.Nat.{pow-add}
 use Rattle.std.specs.Int.{bit_at}
@@ -148,10 +147,10 @@ unfolding bits_of
 bits_of-append zero n a = ap (λ k. bits_of k a) (omega arith)
 bits_of-append (suc m) n a =
     let more : suc m + n ≡ suc (m + n) = omega arith in
-    let place : a / 2 ^ n / 2 ^ m ≡ a / 2 ^ (m + n) =
+    let landed : a / 2 ^ n / 2 ^ m ≡ a / 2 ^ (m + n) =
     div-div-eq-div-mul a (2 ^ n) (2 ^ m)
     ∙ ap (λ x. a / x) (mul_comm (2 ^ n) (2 ^ m) ∙ sym (pow-add 2 m n)) in
-    let bit : bit_at a (m + n) ≡ bit_at (a / 2 ^ n) m = ap (λ x. x % 2) (sym place) in
+    let bit : bit_at a (m + n) ≡ bit_at (a / 2 ^ n) m = ap (λ x. x % 2) (sym landed) in
     ap (λ k. bits_of k a) more ∙ ap₂ (λ b w. (b == 1) ∷ w) bit (bits_of-append m n a)
 
 -- the way of a block is the bits of its number among the blocks of its length

@@ -1,6 +1,6 @@
 -- Lemmas on the trees that a store holds, and on when the node of two of its records is missing.
-use Rattle.std.proofs.Common.{◌≡◌, ℕ, ◌+◌, ◌^◌, ◌<◌, ◌≤◌, ◌⊎◌, inl, inr, nat_eq, List, length}
-use Rattle.std.proofs.Common.{Contains, refl, sym, ◌∙◌, ap, subst, arith, le_refl}
+use Rattle.std.proofs.Common.{◌≡◌, ℕ, ◌⊎◌, inl, inr, nat_eq, List, length}
+use Rattle.std.proofs.Common.{Contains, refl, sym, ◌∙◌, ap, subst, le_refl}
 use Rattle.trie_core.specs.declared.node.Rec.{Rec}
 use Rattle.trie_core.specs.declared.node.Rec.TheVariants.{Leaf, Node}
 use Rattle.trie_core.specs.declared.node.Pair.{Pair}

@@ -1,6 +1,7 @@
 pub mod BlockLemmas
 pub mod CompactLemmas
 pub mod CostLemmas
+pub mod FoundLemmas
 pub mod GraftLemmas
 pub mod HeldLemmas
 pub mod PaintLemmas

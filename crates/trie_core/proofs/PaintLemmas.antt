@@ -70,9 +70,9 @@ module _ (n first middle : ℕ) (parts front back : List Part)
       (look r w) ≡ over (leaf_in parts (first + number_of (true ∷ w))) (look t (true ∷ w))
   wanted-right w long =
       let power : 2 ^ length w ≡ 2 ^ n = ap (λ x. 2 ^ x) long in
-      let place : middle + 1 + number_of w ≡ first + number_of (true ∷ w) = omega arith in
+      let landed : middle + 1 + number_of w ≡ first + number_of (true ∷ w) = omega arith in
       let high : middle < middle + 1 + number_of w = omega arith in
-      ap₂ over (back-same (middle + 1 + number_of w) high ∙ ap (leaf_in parts) place)
+      ap₂ over (back-same (middle + 1 + number_of w) high ∙ ap (leaf_in parts) landed)
       (sym (right-look w))
 
   -- a block is painted where its halves are

@@ -1,4 +1,4 @@
--- Lemmas on painting under a root: over addresses in place of lists of bits.
+-- Lemmas on painting under a root: over addresses instead of lists of bits.
 use Rattle.std.proofs.Common.{◌≡◌, ℕ, ◌+◌, ◌^◌, ◌<◌, ◌≤◌, ◌⊎◌, inl, inr, nat_le, ◌&&◌, Bool, true}
 use Rattle.std.proofs.Common.{false, if◌then◌else◌, List, [], ◌∷◌, Option, Some, None, refl, sym}
 use Rattle.std.proofs.Common.{◌∙◌, ap, subst, arith, nat_eq, length, le_refl}
@@ -23,9 +23,9 @@ use Rattle.trie_core.proofs.PartLemmas.{leaf_in_first}
 pub leaves_of_painted : (n : ℕ) (old new : Tree ℕ) (parts : List Part) → IsPainted old new n 0 parts
     → (a : ℕ) → a < 2 ^ n → look new (bits_of n a) ≡ over (leaf_in parts a) (look old (bits_of n a))
 leaves_of_painted n old new parts painted a below =
-    let place : 0 + number_of (bits_of n a) ≡ a = omega (arith, number_of-bits_of n a below) in
+    let landed : 0 + number_of (bits_of n a) ≡ a = omega (arith, number_of-bits_of n a below) in
     painted.lookups (bits_of n a) (length-bits_of n a)
-    ∙ ap (λ x. over (leaf_in parts x) (look old (bits_of n a))) place
+    ∙ ap (λ x. over (leaf_in parts x) (look old (bits_of n a))) landed
 
 -- and a tree that answers so is painted
 pub painted_from_leaves : (n : ℕ) (old new : Tree ℕ) (parts : List Part) → height new ≤ n

@@ -454,10 +454,10 @@ unfolding bits_of
 look_left t l r bits a is some zero-bit =
     let n : ℕ = bits - 1 in
     let bit : bit_at a n ≡ 0 = sym (shr_and_one a n) ∙ zero-bit in
-    let step : look (node l r) (bits_of (suc n) a) ≡ look l (bits_of n a) =
+    let went : look (node l r) (bits_of (suc n) a) ≡ look l (bits_of n a) =
     ap (λ b. look (node l r) ((b == 1) ∷ bits_of n a)) bit in
     let here : suc n ≡ bits = omega arith in
-    sym step ∙ ap (λ b. look (node l r) (bits_of b a)) here
+    sym went ∙ ap (λ b. look (node l r) (bits_of b a)) here
     ∙ ap (λ u. look u (bits_of bits a)) (sym is)
 
 -- and any other goes right
@@ -467,8 +467,8 @@ unfolding bits_of
 look_right t l r bits a is some other-bit =
     let n : ℕ = bits - 1 in
     let bit : bit_at a n ≡ 1 = omega (arith, bit_at-lt a n, shr_and_one a n, other-bit) in
-    let step : look (node l r) (bits_of (suc n) a) ≡ look r (bits_of n a) =
+    let went : look (node l r) (bits_of (suc n) a) ≡ look r (bits_of n a) =
     ap (λ b. look (node l r) ((b == 1) ∷ bits_of n a)) bit in
     let here : suc n ≡ bits = omega arith in
-    sym step ∙ ap (λ b. look (node l r) (bits_of b a)) here
+    sym went ∙ ap (λ b. look (node l r) (bits_of b a)) here
     ∙ ap (λ u. look u (bits_of bits a)) (sym is)

@@ -137,11 +137,11 @@ module _ {A : Type 0} where
               let rest : ℕ = a - 2 ^ n in
               let less : rest < 2 ^ n = omega (arith, two-pow-succ n) in
               let is : a ≡ 2 ^ n + rest = omega arith in
-              let place : first + 2 ^ n + rest ≡ first + a = omega arith in
+              let landed : first + 2 ^ n + rest ≡ first + a = omega arith in
               ap (λ b. look (tree eq f (suc n) first) (bits_of (suc n) b)) is
               ∙ ap (look (tree eq f (suc n) first)) (bits_of-upper n rest less)
               ∙ look-join (tree eq f n first) (tree eq f n (first + 2 ^ n)) true (bits_of n rest)
-              ∙ look-tree f n (first + 2 ^ n) rest less ∙ ap (λ b. Some (f b)) place
+              ∙ look-tree f n (first + 2 ^ n) rest less ∙ ap (λ b. Some (f b)) landed
         ]
 
   -- equal answers at each address, equal lookups

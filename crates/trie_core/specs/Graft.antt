@@ -1,6 +1,6 @@
--- The tree below a block of addresses, and a tree that is put in its place.
+-- The tree below a block of addresses, and a tree that is put where it was.
 use Rattle.std.specs.Prelude.{◌≡◌, ◌≢◌, ℕ, ◌+◌, ◌^◌, Bool, true, false, List, [], ◌∷◌, ◌++◌, length}
-use Rattle.std.specs.Prelude.{take, Option}
+use Rattle.std.specs.Prelude.{take}
 use Rattle.geo_addr.specs.Bits.{bits_of}
 use Rattle.geo_addr.specs.Ranges.{Prefix}
 use Rattle.trie_core.specs.declared.node.Rec.{Rec}

@@ -9,6 +9,7 @@ ghost use Rattle.trie_core.specs.Compact.{AreRootsTaken, IsNumbered};
 
 use crate::near::Near;
 use crate::node::{NodeId, Pair, Rec, Root};
+use crate::pairs::Pairs;
 use crate::store::Store;
 use geo_addr::Memory;
 use indexmap::IndexSet;
@@ -19,7 +20,7 @@ use std::alloc::Global;
 #[derive(Drop)]
 struct Taken {
     nodes: IndexSet<NodeId, Near>,
-    pairs: IndexSet<Pair, Near>,
+    pairs: Pairs,
 }
 
 impl Store {
@@ -50,11 +51,11 @@ impl Store {
 
     fn take_root(&self, root: Root, taken: &mut Taken, made: &mut Vec<Root>) -> Result<(), Memory>
         requires of { IsRootOf self.now root }
-        requires taken { AreTaken self.now taken.old.nodes.keys taken.old.pairs.keys }
-        ensures taken { OnOk result (AreTaken self.now taken.new.nodes.keys taken.new.pairs.keys) }
+        requires taken { AreTaken self.now taken.old.nodes.keys taken.old.pairs }
+        ensures taken { OnOk result (AreTaken self.now taken.new.nodes.keys taken.new.pairs) }
         ensures roots { OnOk result ((roots : List Root)
-            → AreRootsTaken self.now taken.old.nodes.keys taken.old.pairs.keys roots made.old.items
-            → AreRootsTaken self.now taken.new.nodes.keys taken.new.pairs.keys
+            → AreRootsTaken self.now taken.old.nodes.keys taken.old.pairs roots made.old.items
+            → AreRootsTaken self.now taken.new.nodes.keys taken.new.pairs
             (roots ++ root ∷ []) made.new.items) }
     {
         let rec = self.rec_of(root);
@@ -67,12 +68,12 @@ impl Store {
     // than 128, so the recursion stays shallow.
     fn take(&self, rec: Rec, taken: &mut Taken) -> Result<Rec, Memory>
         requires of { IsOf self.now rec }
-        requires taken { AreTaken self.now taken.old.nodes.keys taken.old.pairs.keys }
-        ensures taken { OnOk result (AreTaken self.now taken.new.nodes.keys taken.new.pairs.keys) }
-        ensures of { IfOk result (IsOf taken.new.pairs.keys) }
-        ensures meaning { IfOk result (λ r. meaning taken.new.pairs.keys r ≡ meaning self.now rec) }
-        ensures kept { OnOk result (IsKept taken.old.pairs.keys taken.new.pairs.keys) }
-        ensures under { IfOk result (AddedUnder taken.old.pairs.keys taken.new.pairs.keys) }
+        requires taken { AreTaken self.now taken.old.nodes.keys taken.old.pairs }
+        ensures taken { OnOk result (AreTaken self.now taken.new.nodes.keys taken.new.pairs) }
+        ensures of { IfOk result (IsOf taken.new.pairs) }
+        ensures meaning { IfOk result (λ r. meaning taken.new.pairs r ≡ meaning self.now rec) }
+        ensures kept { OnOk result (IsKept taken.old.pairs taken.new.pairs) }
+        ensures under { IfOk result (AddedUnder taken.old.pairs taken.new.pairs) }
     {
         let Rec::Node(id) = rec else {
             return Ok(rec);
@@ -92,11 +93,11 @@ impl Taken {
     // Nothing yet; it takes no memory.
     fn new(alloc: Global) -> Taken
         ensures nodes { result.nodes.keys ≡ [] }
-        ensures pairs { result.pairs.keys ≡ [] }
+        ensures pairs { result.pairs ≡ [] }
     {
         Taken {
             nodes: IndexSet::with_hasher(alloc, Near::new()),
-            pairs: IndexSet::with_hasher(alloc, Near::new()),
+            pairs: Pairs::new(alloc),
         }
     }
 
@@ -115,11 +116,13 @@ impl Taken {
     fn add(&mut self, id: NodeId, pair: Pair) -> Result<u32, Memory>
         requires { length self.old.nodes.keys < 2 ^ 32 }
         ensures { IfOk result (IsNumbered self.old.nodes.keys self.new.nodes.keys
-            self.old.pairs.keys self.new.pairs.keys id pair) }
+            self.old.pairs self.new.pairs id pair) }
     {
         let (index, is_new) = self.nodes.insert_full(id)?;
         if is_new {
-            self.pairs.insert(pair)?;
+            let Ok(_) = self.pairs.add(pair) else {
+                return Err(Memory);
+            };
         }
         Ok(index as u32)
     }

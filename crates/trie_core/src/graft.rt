@@ -1,4 +1,4 @@
-//! The tree below a block of addresses, and a tree that is put in a block's place.
+//! The tree below a block of addresses, and a tree that is put where a block was.
 ghost use Rattle.std.specs.Prelude.{◌≡◌, ℕ, ◌+◌, ◌-◌, ◌^◌, ◌<◌, ◌≤◌, ◌↔◌, length, nat_eq, take};
 ghost use Rattle.std.specs.Prelude.{IfOk, IsErrOf};
 ghost use Rattle.geo_addr.specs.Bits.{bits_of};
@@ -80,7 +80,7 @@ impl Store {
         Ok(Root(grafted))
     }
 
-    // The record of a block of 2 ^ bits addresses with the subtree in the place of the block of
+    // The record of a block of 2 ^ bits addresses with the subtree instead of the block of
     // 2 ^ below addresses that begins at `at`.
     fn graft_at<L: Ledger>(
         &mut self,

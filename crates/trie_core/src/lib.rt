@@ -8,6 +8,7 @@ pub mod laws;
 mod near;
 mod node;
 mod paint;
+mod pairs;
 mod store;
 
 pub use fault::StoreFault;
@@ -15,6 +16,3 @@ pub use near::{Near, NearHasher};
 pub use node::{NodeId, Pair, Rec, Root};
 pub use paint::Part;
 pub use store::Store;
-
-#[cfg(test)]
-mod tests;

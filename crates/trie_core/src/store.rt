@@ -1,24 +1,20 @@
 //! The store of nodes, each pair of children once.
 ghost use Rattle.std.specs.Prelude.{◌≡◌, ◌≢◌, ℕ, MatchOption, ◌+◌, ◌-◌, ◌^◌, ◌<◌, ◌≤◌, ◌↔◌, []};
-ghost use Rattle.std.specs.Prelude.{length, nat_eq, None, Some, slice_get, Contains, IfOk, OnErr};
-ghost use Rattle.std.specs.Prelude.{IsErrOf, IsTrue};
+ghost use Rattle.std.specs.Prelude.{length, nat_eq, None, Some, IfOk, OnErr};
+ghost use Rattle.std.specs.Prelude.{IsErrOf};
 ghost use Rattle.trie_core.specs.Tree.{leaf, node, height, join};
 ghost use Rattle.trie_core.specs.Store.{meaning, tree_of, leaf_at, record_of, pair_of, node_number};
 ghost use Rattle.trie_core.specs.Store.{IsOf, IsRootOf, GrowsBy, IsKept, NeedsNew, AddedUnder};
-ghost use Rattle.trie_core.specs.Store.{IsAdded, IsSound};
+ghost use Rattle.trie_core.specs.Store.{IsSound};
 
 use crate::fault::StoreFault;
-use crate::near::Near;
 use crate::node::{NodeId, Pair, Rec, Root};
+use crate::pairs::Pairs;
 use geo_addr::Addr;
 use geo_outside::Steps;
-use indexmap::IndexSet;
 use std::alloc::Global;
 use std::marker::Model;
 use std::sync::ledger::Ledger;
-
-/// The most nodes that a store holds: one less than there are node numbers.
-const MOST_NODES: usize = 0xffff_ffff;
 
 /// A store of nodes, in which no two nodes have the same children, so that one record stands for
 /// each tree (`laws::equal_leaves_equal_records`).
@@ -27,7 +23,7 @@ const MOST_NODES: usize = 0xffff_ffff;
 /// only records and roots of this store: those that it gave, before or after whatever refusals.
 #[derive(Drop)]
 pub struct Store {
-    pub(crate) pairs: IndexSet<Pair, Near>,
+    pub(crate) pairs: Pairs,
 }
 
 impl Model for Store {
@@ -37,9 +33,9 @@ impl Model for Store {
 
     ghost Value = { List Pair };
 
-    ghost view = { λ s. s.pairs.keys };
+    ghost view = { λ s. s.pairs };
 
-    ghost invariant = { λ s. IsSound s.pairs.keys };
+    ghost invariant = { λ s. IsSound s.pairs };
 }
 
 impl Store {
@@ -48,7 +44,7 @@ impl Store {
         ensures { result ≡ [] }
     {
         Store {
-            pairs: IndexSet::with_hasher(alloc, Near::new()),
+            pairs: Pairs::new(alloc),
         }
     }
 
@@ -91,8 +87,8 @@ impl Store {
         if let Some(leaf) = same_leaf(left, right) {
             return Ok(Rec::Leaf(leaf));
         }
-        let index = place(&mut self.pairs, Pair { left, right })?;
-        Ok(Rec::Node(NodeId(index)))
+        let number = self.pairs.add(Pair { left, right })?;
+        Ok(Rec::Node(NodeId(number)))
     }
 
     /// The leaf at which the walk of the address from the root ends.
@@ -134,7 +130,7 @@ impl Store {
         ensures pair { pair_of self.now id ≡ Some (record { left = result.0; right = result.1 }) }
         ensures sound { IsSound self.now }
     {
-        let pair = self.pairs[id.0 as usize];
+        let pair = self.pairs.at(id.0);
         (pair.left, pair.right)
     }
 
@@ -168,25 +164,5 @@ fn same_leaf(left: Rec, right: Rec) -> Option<u32>
     match (left, right) {
         (Rec::Leaf(a), Rec::Leaf(b)) if a == b => Some(a),
         _ => None,
-    }
-}
-
-// The number of the pair in the set, into which it goes where it is not yet there.
-fn place(pairs: &mut IndexSet<Pair, Near>, pair: Pair) -> Result<u32, StoreFault>
-    requires { length pairs.old.keys < 2 ^ 32 }
-    ensures at { IfOk result (λ k. slice_get pairs.new.keys k ≡ Some pair) }
-    ensures ok { IfOk result (λ k. IsAdded pairs.old.keys pairs.new.keys pair) }
-    ensures err { OnErr result (pairs.new.keys ≡ pairs.old.keys) }
-    ensures refused { OnErr result (Contains pairs.old.keys pair → ⊥) }
-    ensures full { IsErrOf result StoreFault.Full
-        ↔ ((length pairs.old.keys + 1 ≡ 2 ^ 32) × (Contains pairs.old.keys pair → ⊥)) }
-    ensures few { length pairs.new.keys < 2 ^ 32 }
-{
-    if pairs.len() == MOST_NODES && !pairs.contains(&pair) {
-        return Err(StoreFault::Full);
-    }
-    match pairs.insert_full(pair) {
-        Ok((index, _)) => Ok(index as u32),
-        Err(_) => Err(StoreFault::Memory),
     }
 }

@@ -1,5 +1,6 @@
 pub mod AliasLemmas
 pub mod BuildLemmas
+pub mod ChangeLemmas
 pub mod CompactLemmas
 pub mod KeptLemmas
 pub mod MarkLemmas

@@ -10,7 +10,7 @@ use Rattle.geo_terms.specs.PlaceForm.{same_text}
 use Rattle.source_changes.specs.Changes.{named}
 use Rattle.update_session.specs.Marks.{with_one}
 
--- a place that is found is one of the list, and the first that does
+-- an index that is found is one of the list, and the first that does
 found_at : {X : Type 0} (p : X → Bool) (xs : List X) (i : ℕ) → position p xs ≡ Some i
     → (i ≡ position_or_len p xs) × (i < length xs)
 found_at p xs i found = by (nat_lt (position_or_len p xs) (length xs)) refl found
@@ -45,7 +45,7 @@ module _ {X : Type 0} (name : X → List ℕ) where
   one_more : (n : ℕ) → 1 + n ≡ suc n
   one_more n = omega arith
 
-  -- the list with one more, by the place where its name stands
+  -- the list with one more, by the index where its name stands
   with_one-there : (x : X) (xs : List X) → at (name x) xs < length xs
       → with_one name x xs ≡ slice_set xs (at (name x) xs) x
   with_one-there x [] below = absurd (omega (arith, below))
@@ -81,7 +81,7 @@ module _ {X : Type 0} (name : X → List ℕ) where
       → with_one name x xs ≡ xs ++ x ∷ []
   put_last x xs none = with_one-new x xs (found_none (λ y. same_text (name y) (name x)) xs none)
 
-  -- the one of a name, by its place
+  -- the one of a name, by its index
   named-there : (n : List ℕ) (xs : List X) → at n xs < length xs
       → named name n xs ≡ slice_get xs (at n xs)
   named-there n [] below = absurd (omega (arith, below))
@@ -145,7 +145,7 @@ all_named name P n (y ∷ ys) x all is =
       | false ↦ λ e. all_named name P n ys x all.1 e
     ] is
 
--- two lists of the same names, place by place
+-- two lists of the same names, one by one
 module _ {X Y : Type 0} (name : X → List ℕ) (name' : Y → List ℕ) (R : X → Y → Type 0)
     (same : (x : X) (y : Y) → R x y → name' y ≡ name x) where
   pub zip_with_one : (x : X) (y : Y) (xs : List X) (ys : List Y) → R x y → AllZip R xs ys

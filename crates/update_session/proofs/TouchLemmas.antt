@@ -13,7 +13,7 @@ use Rattle.mmdb_file.proofs.WritingLemmas.{length-each_once}
 use Rattle.least_nodes.proofs.Elements.{In, In-each_once-new}
 use Rattle.geo_terms.proofs.Members.{Among, contains_from_among, among_filter}
 use Rattle.geo_terms.proofs.RankLemmas.{Up, up_from, up_above}
-use Rattle.precedence.specs.CutPlaces.{AreSourceSegments}
+use Rattle.precedence.specs.CutPoints.{AreSourceSegments}
 use Rattle.source_changes.specs.Laws.{OrderDoesNotMatter}
 use Rattle.source_changes.specs.Touched.{is_touched}
 use Rattle.update_session.specs.Build.{AreSteady}
@@ -123,9 +123,9 @@ pub AreSteady-from_segments : (s : InForce) (touched out : List Ends)
     → AreSteady s touched out
 unfolding touch
 AreSteady-from_segments s touched out segments steady =
-    let few : count_by (is_touched touched) segments.places
+    let few : count_by (is_touched touched) segments.points
     ≤ length (filter (is_touched touched) (edges (statement_ranges s))) =
-    few_cuts (is_touched touched) (statement_ranges s) segments.places segments.cuts.ascending
+    few_cuts (is_touched touched) (statement_ranges s) segments.points segments.cuts.ascending
     (λ c is. ((segments.cuts.exact c).0 is).0) in
     record {
       ranges = segments.ranges;

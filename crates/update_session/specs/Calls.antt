@@ -67,7 +67,7 @@ mark_of name session = record {
   touched = session.touched;
 }
 
--- after a call that marks the session: the mark has come, in the place of the one with its name,
+-- after a call that marks the session: the mark has come, instead of the one with its name,
 -- and nothing else has changed
 abbrev pub HasMarked : (name : List ℕ) (old new : Held) → Type 0
 HasMarked name old new =

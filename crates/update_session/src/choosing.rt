@@ -53,8 +53,8 @@ pub(crate) fn choose<R: Threads + Sync, G: Gate>(
 
 /// The segments as runs of neighbours, a run for each piece that has any.
 ///
-/// The segments are shared out as items are to pieces, so each piece is at its gate as if it had the
-/// segments themselves.
+/// The segments are shared out as items are to pieces, so each piece is at its gate as if it had
+/// the segments themselves.
 pub(crate) fn runs_of(
     alloc: Global,
     segments: &[Range],
@@ -86,9 +86,10 @@ fn chosen_in(alloc: Global, sources: &Sources, run: &[Range]) -> Result<Chosen, 
 {
     let mut places = Places::new(alloc);
     let mut leaves = Vec::with_capacity(alloc, run.len())?;
+    let mut near = 0;
     for segment in run {
         // A table of a run is full only where no memory holds the run.
-        let Ok(leaf) = leaf_of(&mut places, sources.choice(*segment)) else {
+        let Ok(leaf) = leaf_of(&mut places, sources.choice_near(*segment, &mut near)) else {
             return Err(Memory);
         };
         leaves.push(leaf)?;

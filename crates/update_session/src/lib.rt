@@ -17,5 +17,5 @@ mod setting;
 mod write;
 
 pub use fault::{BackFault, EmitFault};
-pub use precedence::DropFault;
+pub use precedence::{DropFault, ReadyFeed};
 pub use session::Session;

@@ -51,7 +51,7 @@ pub(crate) fn copied(alloc: Global, grounds: &[Range]) -> Result<Vec<Range>, Mem
 }
 
 // Where the mark of a name stands.
-fn place_of(marks: &[Mark], name: &str) -> Option<usize>
+fn index_of_mark(marks: &[Mark], name: &str) -> Option<usize>
     ensures { result ≡ position (λ m. same_text m.name name.now) marks.now }
 {
     marks.iter().position(|mark| mark.name.as_str() == name)
@@ -61,7 +61,7 @@ fn place_of(marks: &[Mark], name: &str) -> Option<usize>
 pub(crate) fn find_mark<'a>(marks: &'a [Mark], name: &str) -> Option<&'a Mark>
     ensures { option_copied result ≡ named (λ m. m.name) name.now marks.entry.now }
 {
-    match place_of(marks, name) {
+    match index_of_mark(marks, name) {
         Some(at) => mark_at(marks, at),
         None => None,
     }
@@ -74,12 +74,12 @@ fn mark_at(marks: &[Mark], at: usize) -> Option<&Mark>
     Some(mark)
 }
 
-/// Puts a mark in the place of the one with its name, or behind all others.
+/// Puts a mark over the one with its name, or behind all others.
 pub(crate) fn put_mark(marks: &mut Vec<Mark>, mark: Mark) -> Result<(), Memory>
     ensures ok { OnOk result (marks.new.items ≡ with_one (λ m. m.name) mark marks.old.items) }
     ensures err { OnErr result (marks.new.items ≡ marks.old.items) }
 {
-    match place_of(marks.as_slice(), mark.name.as_str()) {
+    match index_of_mark(marks.as_slice(), mark.name.as_str()) {
         Some(at) => {
             marks[at] = mark;
         }
@@ -102,7 +102,7 @@ pub(crate) fn all_roots(alloc: Global, root: Root, marks: &[Mark]) -> Result<Vec
     Ok(roots)
 }
 
-/// Gives each mark the root that stands at its place.
+/// Gives each mark the root that stands at its index.
 pub(crate) fn give_roots(marks: &mut Vec<Mark>, roots: &[Root])
     requires { length marks.old.items ≡ length roots.now }
     ensures { marks.new.items ≡ with_roots marks.old.items roots.now }

@@ -10,7 +10,7 @@ use crate::replaced::{
 use crate::session::Session;
 use geo_addr::Memory;
 use geo_terms::{Dump, Feed, Overrides, Stats};
-use precedence::DropFault;
+use precedence::{DropFault, ReadyFeed};
 use source_changes::laws::{kept_by_one_more, sources_stay};
 use source_changes::{changed_grounds, keep_all};
 
@@ -22,7 +22,7 @@ impl Session {
     ghost use Rattle.source_changes.specs.Changes.{named};
     ghost use Rattle.update_session.specs.Calls.{HasChanged};
 
-    /// Puts a registry dump in the place of the one with the same slot, which is dropped.
+    /// Sets a registry dump; the one with the same slot is dropped.
     pub fn set_rpsl(&mut self, dump: Dump) -> Result<(), Memory>
         ensures ok { OnOk result (HasChanged (SetDump dump) self.old self.new) }
         ensures err { OnErr result (self.new ≡ self.old) }
@@ -60,19 +60,28 @@ impl Session {
         Ok(())
     }
 
-    /// Puts a feed in the place of the one with the same URL, which is dropped.
+    /// Sets a feed; the one with the same URL is dropped.
     pub fn set_feed(&mut self, feed: Feed) -> Result<(), Memory>
         ensures ok { OnOk result (HasChanged (SetFeed feed) self.old self.new) }
         ensures err { OnErr result (self.new ≡ self.old) }
     {
+        let feed = ReadyFeed::of(self.alloc, feed)?;
+        self.set_ready_feed(feed)
+    }
+
+    /// Sets a feed that is ready; the one with the same URL is dropped.
+    pub fn set_ready_feed(&mut self, ready: ReadyFeed) -> Result<(), Memory>
+        ensures ok { OnOk result (HasChanged (SetFeed ready) self.old self.new) }
+        ensures err { OnErr result (self.new ≡ self.old) }
+    {
         kept_by_one_more();
         sources_stay();
+        let feed = ready.feed();
         let new = feed.entries.as_slice();
-        keep_all(new);
         let old = entries_of(self.sources.feed_of(feed.url.as_str()));
         let grounds = changed_grounds(self.alloc, old, new)?;
         make_room(&mut self.touched, &grounds)?;
-        self.sources.set_feed(feed)?;
+        self.sources.set_ready_feed(ready)?;
         add(&mut self.touched, grounds);
         Ok(())
     }
@@ -99,7 +108,7 @@ impl Session {
         Ok(())
     }
 
-    /// Puts a statistics file in the place of the one with the same slot, which is dropped.
+    /// Sets a statistics file; the one with the same slot is dropped.
     pub fn set_stats(&mut self, stats: Stats) -> Result<(), Memory>
         ensures ok { OnOk result (HasChanged (SetStats stats) self.old self.new) }
         ensures err { OnErr result (self.new ≡ self.old) }
@@ -138,7 +147,7 @@ impl Session {
         Ok(())
     }
 
-    /// Puts overrides in the place of those in force, which are dropped.
+    /// Sets overrides; those in force are dropped.
     pub fn set_overrides(&mut self, rows: Overrides) -> Result<(), Memory>
         ensures ok { OnOk result (HasChanged (SetOverrides rows) self.old self.new) }
         ensures err { OnErr result (self.new ≡ self.old) }

@@ -51,7 +51,7 @@ abbrev pub emit_step : (line : ℕ) → (file : List ℕ) → Step
 emit_step line file = record { line = line; act = Emit file }
 
 -- the dump, the statistics and the first feed are set, and the file is written; the second feed is
--- set in the place of the first, and the file is written again
+-- set instead of the first, and the file is written again
 unfoldable pub gen_steps : (file : List ℕ) → List Step
 gen_steps file =
     dump_step ∷ stats_step ∷ first_step ∷ emit_step 5 file ∷ second_step ∷ emit_step 7 file ∷ []

@@ -3,7 +3,7 @@ use Rattle.std.specs.Prelude.{◌≡◌, ◌≤◌, ◌<◌, ℕ, List, [], leng
 use Rattle.std.specs.FinMap as map
 use Rattle.geo_addr.specs.Bits.{bits_of}
 use Rattle.geo_outside.specs.Files.{Told}
-use Rattle.mmdb_data.specs.Tree.{Tree}
+use Rattle.mmdb_data.specs.ValueTree.{ValueTree}
 use Rattle.mmdb_file.specs.Walk.{Barrier, walk}
 use Rattle.geofeed_cmd.specs.declared.status.Status.{Status}
 use Rattle.geofeed_cmd.specs.declared.status.Status.TheVariants as statuses
@@ -32,7 +32,7 @@ pub record EndsByCases (first : Told) (name : List ℕ) (address : ℕ) : Type 0
       → length file ≤ longest_file → walk file (bits_of 128 address) ≡ Err barrier
       → ending first (Some (lookup name address))
       ≡ unchanged first statuses.File [] (stop_line (Blocked (File (fault_of barrier))) 0 name)
-  pub answered : (file : List ℕ) (found : Option Tree) → map.get first.held name ≡ Some file
+  pub answered : (file : List ℕ) (found : Option ValueTree) → map.get first.held name ≡ Some file
       → length file ≤ longest_file → walk file (bits_of 128 address) ≡ Ok found
       → ending first (Some (lookup name address))
       ≡ unchanged first statuses.Done (answer_text found) []

@@ -19,6 +19,7 @@ use geo_outside::{Folder, Gate, Sink, Steps};
 use job_lines::Job;
 use std::alloc::Global;
 use std::marker::Sync;
+use std::mem::forget;
 use std::sync::ledger::Ledger;
 use std::thread::Threads;
 use update_session::Session;
@@ -101,5 +102,8 @@ fn do_job<R: Threads + Sync, F: Folder, O: Sink, G: Gate, L: Ledger>(
         Ok(session) => session,
         Err(Memory) => return Status::Memory,
     };
-    do_whole(&forks, &[], list, &mut session, folder, out, steps)
+    let status = do_whole(&forks, &[], list, &mut session, folder, out, steps);
+    // The process ends: its memory goes back whole, not source by source.
+    forget(session);
+    status
 }

@@ -95,7 +95,7 @@ fn after(alloc: Global, acts: &[Act], count: usize) -> Result<Session, Fail> {
     Ok(session)
 }
 
-// Whether a place lies on one of the grounds.
+// Whether an address lies on one of the grounds.
 fn lies_on(grounds: &[Range], at: u128) -> bool {
     grounds.iter().any(|r| r.first <= at && at <= r.last)
 }

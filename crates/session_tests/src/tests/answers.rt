@@ -10,7 +10,7 @@ use std::test::Fail;
 // The value that a file has for an address.
 fn found(alloc: Global, file: &Mmdb, at: u128) -> Result<Option<Value>, Fail> {
     match file.find(Addr(at))? {
-        Some(place) => Ok(Some(decode(alloc, file.section(), place)?)),
+        Some(offset) => Ok(Some(decode(alloc, file.section(), offset)?)),
         None => Ok(None),
     }
 }

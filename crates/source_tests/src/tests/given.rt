@@ -46,7 +46,7 @@ fn set_overrides(sources: &mut Sources, alloc: Global, text: &str) -> Result<boo
     Ok(old.is_some())
 }
 
-/// Sets a source, and says whether another one was in its place.
+/// Sets a source, and says whether another one was there.
 pub fn set(sources: &mut Sources, alloc: Global, given: Given) -> Result<bool, Fail> {
     let (kind, name, text) = given;
     match kind {

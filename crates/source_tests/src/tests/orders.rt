@@ -1,4 +1,4 @@
-//! The same sources set in other orders, some of them in the place of others.
+//! The same sources set in other orders, some of them instead of others.
 use crate::tests::given::Kind::{Feed, Overrides, Rpsl, Stats};
 use crate::tests::given::{Given, all};
 use crate::tests::told::{printed, records, segments};
@@ -33,7 +33,7 @@ const UPPER: Given = (Feed, OTHER, "192.0.2.128/25,DE,,,\n");
 
 const OVER: Given = (Overrides, "", "192.0.2.64/26,set,IT\n");
 
-// Sources in whose place others of these come.
+// Sources that others of these replace.
 const OLD_DUMP: Given = (
     Rpsl,
     "s",

@@ -1,7 +1,7 @@
 //! Many objects and feeds near the border of the families, as they are found and as the plain
 //! look-ups find them.
 use crate::tests::speakers::{dump, entry_line, feed, reference_line};
-use authority::Authority;
+use authority::{Authority, IndexedFeed};
 use geo_addr::Addr;
 use geo_terms::plain::{AllSources, entry_at, speaker_at};
 use geo_terms::{Dump, Feed};
@@ -48,7 +48,7 @@ fn made_dumps(alloc: Global, count: u64) -> Result<Vec<Dump>, Fail> {
 
 fn made_feed(alloc: Global, line: u64, number: &mut u64) -> Result<Feed, Fail> {
     let url = url_of(alloc, line)?;
-    let place = next(number) & 0xFF;
+    let low = next(number) & 0xFF;
     if next(number) & 1 == 1 {
         return feed(
             alloc,
@@ -57,7 +57,7 @@ fn made_feed(alloc: Global, line: u64, number: &mut u64) -> Result<Feed, Fail> {
             "255.255.255.128/25",
         );
     }
-    let block = format!(in alloc; "255.255.255.{place}/32")?;
+    let block = format!(in alloc; "255.255.255.{low}/32")?;
     feed(alloc, url.as_str(), line.saturating_add(1), block.as_str())
 }
 
@@ -77,7 +77,7 @@ fn made_sources(alloc: Global) -> Result<Authority, Fail> {
         sources.set_dump(dump)?;
     }
     for feed in made_feeds(alloc)? {
-        sources.set_feed(feed)?;
+        sources.set_feed(IndexedFeed::of(alloc, feed)?)?;
     }
     Ok(sources)
 }

@@ -199,7 +199,7 @@ static ROWS: [Row; 15] = [
         &["192.0.3.1", "192.0.2.1"],
         "FR,,,;DE,,,;",
     ),
-    // The same after another dump came in the place of the narrow object's,
+    // The same after another dump came instead of the narrow object's,
     // and a later one beside it.
     (
         &[STATS, WIDE_FEED, NARROW, WIDE, DATED, LATER],

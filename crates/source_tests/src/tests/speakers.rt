@@ -1,5 +1,5 @@
 //! Objects and feeds: who speaks at an address, by which entry, and the notes on both.
-use authority::{Authority, DropFault};
+use authority::{Authority, DropFault, IndexedFeed};
 use geo_addr::{List, Range, Text, parse_addr, parse_block};
 use geo_terms::{Dump, Entry, Feed, Reference, Said, note_text};
 use std::alloc::Global;
@@ -66,7 +66,7 @@ fn set_dump(sources: &mut Authority, alloc: Global, row: Row<'_>) -> Result<(), 
     Ok(())
 }
 
-// Sets a feed, and says whether another one was in its place.
+// Sets a feed, and says whether another one was there.
 fn set_feed(
     sources: &mut Authority,
     alloc: Global,
@@ -74,7 +74,8 @@ fn set_feed(
     line: u64,
     block: &str,
 ) -> Result<bool, Fail> {
-    let old = sources.set_feed(feed(alloc, url, line, block)?)?;
+    let feed = feed(alloc, url, line, block)?;
+    let old = sources.set_feed(IndexedFeed::of(alloc, feed)?)?;
     Ok(old.is_some())
 }
 

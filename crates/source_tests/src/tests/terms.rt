@@ -170,7 +170,7 @@ fn statements_that_speak_nowhere(rt: HostRuntime) -> Result<(), Fail> {
     Ok(())
 }
 
-/// Ranges, addresses, and the place of the first range of each address.
+/// Ranges, addresses, and the index of the first range of each address.
 static FIRSTS: [(&str, &str, &str); 5] = [
     (
         "1.0.0.0/24 1.0.2.0/24 2001:db8::/32",
@@ -217,18 +217,18 @@ fn index_of(alloc: Global, rows: &[Override]) -> Result<FirstIndex, Fail> {
     Ok(FirstIndex::of(alloc, borrowed.as_slice())?)
 }
 
-fn place_text(alloc: Global, place: Option<usize>) -> Result<String, Fail> {
-    match place {
-        Some(place) => Ok(format!(in alloc; "{place} ")?),
+fn index_text(alloc: Global, index: Option<usize>) -> Result<String, Fail> {
+    match index {
+        Some(index) => Ok(format!(in alloc; "{index} ")?),
         None => Ok(String::from_str(alloc, "- ")?),
     }
 }
 
-fn places_at(alloc: Global, index: &FirstIndex, addresses: &str) -> Result<String, Fail> {
+fn indexes_at(alloc: Global, index: &FirstIndex, addresses: &str) -> Result<String, Fail> {
     let mut text = String::new(alloc);
     for address in addresses.split(' ') {
-        let place = index.place_at(parse_addr(address.as_bytes())?);
-        text.push_str(place_text(alloc, place)?.as_str())?;
+        let first = index.index_at(parse_addr(address.as_bytes())?);
+        text.push_str(index_text(alloc, first)?.as_str())?;
     }
     Ok(text)
 }
@@ -236,7 +236,7 @@ fn places_at(alloc: Global, index: &FirstIndex, addresses: &str) -> Result<Strin
 fn firsts(alloc: Global, ranges: &str, addresses: &str) -> Result<String, Fail> {
     let rows = rows_of(alloc, ranges)?;
     let index = index_of(alloc, rows.as_slice())?;
-    places_at(alloc, &index, addresses)
+    indexes_at(alloc, &index, addresses)
 }
 
 #[test]

@@ -22,8 +22,8 @@ returns c =
     (u : List ℕ). swept s u c.as_slice.result.now c.as_slice-2.result.now) url
     ∙ ap (λ (ls : List ℕ). swept s f.url ls c.as_slice-2.result.now) lines
     ∙ ap (swept s f.url (map (λ (e : Entry). e.line) f.entries)) c.as_slice-2.ensures.value
-    ∙ swept_all s f c.requires (map (λ (e : Entry). e.line) f.entries) c.in_ok-places.places.items
+    ∙ swept_all s f c.requires (map (λ (e : Entry). e.line) f.entries) c.in_ok-points.points.items
     (subst (λ (es : List Entry). AreCuts
-    (hearing_ranges s es) all_addresses c.in_ok-places.places.items) entries
-    c.in_ok-places.ensures.exact) c.in_ok-places.ensures.ascending
+    (hearing_ranges s es) all_addresses c.in_ok-points.points.items) entries
+    c.in_ok-points.ensures.exact) c.in_ok-points.ensures.ascending
     ∙ map_map (first_heard s f.url) (λ (e : Entry). e.line) f.entries

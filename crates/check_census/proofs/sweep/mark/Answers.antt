@@ -18,12 +18,12 @@ returns-in_default-binary_search c =
 
 pub returns : goal.returns
 returns c =
-    let place = found_by c.args.lines.now c.requires.lines c.in-Some.line c.in-Ok.place
+    let index = found_by c.args.lines.now c.requires.lines c.in-Some.line c.in-Ok.index
     c.in-Ok.ensures.position in
     let long = c.requires.long in
-    let within = place.0 in
-    marked_by c.args.heard c.in-Some.line c.args.at c.in-Ok.place c.args.lines.now
+    let within = index.0 in
+    marked_by c.args.heard c.in-Some.line c.args.at c.in-Ok.index c.args.lines.now
     c.args.firsts.now.items c.index.result.now c.earlier.result c.requires.lines c.requires.long
     c.in-Some.is c.in-Ok.ensures.position
-    (read_at c.args.firsts.now.items c.in-Ok.place c.index.result.now (omega arith) c.index.ensures)
+    (read_at c.args.firsts.now.items c.in-Ok.index c.index.result.now (omega arith) c.index.ensures)
     c.earlier.ensures

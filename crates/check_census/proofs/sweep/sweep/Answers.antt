@@ -1,4 +1,4 @@
--- One place more.
+-- One point more.
 use Rattle.std.proofs.Common.{ap, ◌∙◌}
 use Rattle.geo_terms.specs.Precedence.{Reasons}
 use Rattle.check_census.specs.Sweep.{swept}
@@ -6,13 +6,13 @@ use Rattle.check_census.specs.Verdicts.{line_for}
 use Rattle.check_census.proofs.SweepLemmas.{sweep_step}
 use Rattle.check_census.proofs.sweep.sweep.Goals as goal
 
-pub loop-place-preserved : goal.loop-place-preserved
-loop-place-preserved c =
-    sweep_step c.args.sources.now c.args.url.now c.args.lines.now c.args.places.now
-    c.loop-place.place-index c.loop-place.firsts.items c.mark.new.firsts.items
+pub loop-point-preserved : goal.loop-point-preserved
+loop-point-preserved c =
+    sweep_step c.args.sources.now c.args.url.now c.args.lines.now c.args.points.now
+    c.loop-point.point-index c.loop-point.firsts.items c.mark.new.firsts.items
     c.heard_line-heard.result
-    (swept c.args.sources.now c.args.url.now c.args.lines.now c.args.places.now)
-    c.loop-place-test.true
+    (swept c.args.sources.now c.args.url.now c.args.lines.now c.args.points.now)
+    c.loop-point-test.true
     (c.heard_line-heard.ensures ∙ ap
     (λ (w : Reasons). line_for c.args.url.now w.speaker w.entry) c.why_at.ensures)
-    c.mark.ensures c.loop-place.invariant
+    c.mark.ensures c.loop-point.invariant

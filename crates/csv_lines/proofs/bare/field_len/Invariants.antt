@@ -4,6 +4,6 @@ use Rattle.std.specs.List.{prefix_len}
 use Rattle.csv_lines.specs.Fields.{goes_on}
 use Rattle.csv_lines.proofs.bare.field_len.Given as goal
 
-abbrev pub invariant-loop-place : goal.invariant-loop-place
-invariant-loop-place l =
-    prefix_len goes_on l.text ≡ l.place + prefix_len goes_on (drop l.place l.text)
+abbrev pub invariant-loop-index : goal.invariant-loop-index
+invariant-loop-index l =
+    prefix_len goes_on l.text ≡ l.index + prefix_len goes_on (drop l.index l.text)

@@ -5,4 +5,4 @@ use Rattle.csv_lines.proofs.rows.text_column.Goals as goal
 
 pub from_utf8_unchecked-requires : goal.from_utf8_unchecked-requires
 from_utf8_unchecked-requires g c =
-    subst IsUtf8 (sym c.column.ensures) (c.requires.utf8 c.args.place)
+    subst IsUtf8 (sym c.column.ensures) (c.requires.utf8 c.args.index)

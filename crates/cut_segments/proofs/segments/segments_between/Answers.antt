@@ -1,10 +1,11 @@
-use Rattle.std.proofs.Common.{◌≡◌, ◌∙◌, ◌++◌, ◌≤◌, List, ℕ, ap, length, sym, subst, rules}
+use Rattle.std.proofs.Common.{◌≤◌, List, ℕ, length, sym, subst, rules}
 use Rattle.std.specs.List.{All, AllAdjacentBelow}
 use Rattle.std.specs.List.Sorted.{IsPermutation, IsNonDecreasingBy}
 use Rattle.std.proofs.lemmas.List.Sorted.{IsNonDecreasingBy-from_all_adjacent}
 use Rattle.std.proofs.lemmas.List.Sorted.{IsNonDecreasingBy-from_sort_by_key, IsPermutation-refl}
 use Rattle.geo_addr.specs.Ranges.{Ends, IsRange, ground_first}
 use Rattle.cut_segments.specs.Segments.{AreSegments}
+use Rattle.cut_segments.proofs.JoinedLemmas.{segments_of_fewer}
 use Rattle.cut_segments.proofs.SegmentLemmas.{segments_of_sorted}
 use Rattle.cut_segments.proofs.segments.segments_between.Goals as goal
 
@@ -13,15 +14,15 @@ returns c =
     let sorted : IsNonDecreasingBy (λ (r : Ends). ground_first r) c.as_slice.result.now =
     rw c.as_slice.ensures.value (IsNonDecreasingBy-from_sort_by_key (λ (r : Ends). ground_first r) _
     c.in_ok-sort_by_key.ensures.sorted (λ a r q k. search rules)) in
-    let filled : c.extend_from_slice.new.self.items ≡ c.args.touched.now =
-    c.in_ok-extend_from_slice.ensures.items
-    ∙ ap (λ (rs : List Ends). rs ++ c.args.touched.now) c.in_ok-grounds.ensures.items in
-    let same : IsPermutation c.args.touched.now c.as_slice.result.now =
-    rw (← filled, c.as_slice.ensures.value) c.in_ok-sort_by_key.ensures.permutation in
+    let same : IsPermutation c.in_ok-grounds.grounds.items c.as_slice.result.now =
+    rw c.as_slice.ensures.value c.in_ok-sort_by_key.ensures.permutation in
     let found = c.in_ok-segments.ensures.found in
-    subst (λ (out : List Ends). AreSegments c.args.touched.now c.args.places.now out) (sym found)
-    (segments_of_sorted c.args.touched.now c.as_slice.result.now c.args.places.now same sorted
-    c.requires (subst (λ (out : List Ends). All IsRange out) found c.in_ok-segments.ensures.ranges))
+    segments_of_fewer c.args.touched.now c.in_ok-grounds.grounds.items c.args.points.now _
+    c.in_ok-grounds.ensures.same c.in_ok-grounds.ensures.few
+    (subst (λ (out : List Ends). AreSegments c.in_ok-grounds.grounds.items c.args.points.now out)
+    (sym found) (segments_of_sorted c.in_ok-grounds.grounds.items c.as_slice.result.now
+    c.args.points.now same sorted c.requires
+    (subst (λ (out : List Ends). All IsRange out) found c.in_ok-segments.ensures.ranges)))
 
 pub returns-then-are_in_order : goal.returns-then-are_in_order
 returns-then-are_in_order c =
@@ -31,6 +32,6 @@ returns-then-are_in_order c =
     let sorted : IsNonDecreasingBy first touched =
     IsNonDecreasingBy-from_all_adjacent first touched up in
     let found = c.in_ok-pieces.ensures.found in
-    subst (λ (out : List Ends). AreSegments touched c.args.places.now out) (sym found)
-    (segments_of_sorted touched touched c.args.places.now (IsPermutation-refl touched) sorted
+    subst (λ (out : List Ends). AreSegments touched c.args.points.now out) (sym found)
+    (segments_of_sorted touched touched c.args.points.now (IsPermutation-refl touched) sorted
     c.requires (subst (λ (out : List Ends). All IsRange out) found c.in_ok-pieces.ensures.ranges))

@@ -15,7 +15,7 @@ pub returns : goal.returns
 returns c =
     let filled : c.extend_from_slice.new.self.items ≡ c.args.cuts.now =
     c.in_ok-extend_from_slice.ensures.items
-    ∙ ap (λ (xs : List ℕ). xs ++ c.args.cuts.now) c.in_ok-places.ensures.items in
+    ∙ ap (λ (xs : List ℕ). xs ++ c.args.cuts.now) c.in_ok-points.ensures.items in
     segments_of_any c.args.touched.now c.in_ok-segments.segments.items c.args.cuts.now
     c.sort_unstable.new.self.items
     (subst (λ (xs : List ℕ). IsPermutation xs c.sort_unstable.new.self.items) filled

@@ -1,5 +1,5 @@
 use Rattle.std.proofs.Common.{◌∷◌, [], ◌++◌, refl, append-nil}
-use Rattle.geofeed.specs.Acts.{filled, synced, last_mode, preparing}
+use Rattle.geofeed.specs.DiskCalls.{filled, synced, last_mode, preparing}
 use Rattle.geofeed.proofs.Puts.{adds_then, adds_no_more, map_ok, map_err}
 use Rattle.geofeed.proofs.Taken.{on_err}
 use Rattle.geofeed.proofs.disk.complete.Goals as goal

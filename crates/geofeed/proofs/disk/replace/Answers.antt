@@ -1,6 +1,7 @@
 use Rattle.std.proofs.Common.{◌∷◌, [], ◌++◌, subst, ℕ, List, string_bytes}
-use Rattle.geofeed.specs.Acts.{looked, made, renamed, removed, first_mode, preparing, none_done}
-use Rattle.geofeed.specs.Acts.{only_looked, given_up, Adds}
+use Rattle.geofeed.specs.DiskCalls.{looked, made, renamed, removed, first_mode, preparing}
+use Rattle.geofeed.specs.DiskCalls.{none_done}
+use Rattle.geofeed.specs.DiskCalls.{only_looked, given_up, Adds}
 use Rattle.geofeed.proofs.Puts.{adds_none, adds_no_more, adds_then}
 use Rattle.geofeed.proofs.Taken.{on_err}
 use Rattle.geofeed.proofs.disk.replace.Goals as goal
@@ -23,10 +24,10 @@ returns-in-Ok-clause-ok g c =
     let new = string_bytes c.in_ok-new_name.new_name in
     let ready = preparing mode c.args.bytes.now in
     let made_so =
-    subst (λ (m : ℕ). Adds (g.D.Disk.acts c.look.new.self) (g.D.Disk.acts c.make_beside.new.disk)
+    subst (λ (m : ℕ). Adds (g.D.Disk.calls c.look.new.self) (g.D.Disk.calls c.make_beside.new.disk)
     (made new m ∷ [])) c.mode_at_first.ensures c.in_ok-new_name.ensures.ok in
-    let renamed_so = subst (λ (n : List ℕ). Adds (g.D.Disk.acts c.make_beside.new.disk)
-    (g.D.Disk.acts c.complete.new.disk) (ready ++ renamed n name ∷ [])) c.as_str.ensures.value
+    let renamed_so = subst (λ (n : List ℕ). Adds (g.D.Disk.calls c.make_beside.new.disk)
+    (g.D.Disk.calls c.complete.new.disk) (ready ++ renamed n name ∷ [])) c.as_str.ensures.value
     c.in-Ok.ensures.ok in
     (mode, new, adds_then _ _ c.in_ok-mode.ensures.ok (adds_then _ _ made_so renamed_so))
 
@@ -36,14 +37,14 @@ returns-clause-err g c =
     let new = string_bytes c.in_ok-new_name.new_name in
     let (part, front, done) = c.in-Err.ensures.err in
     let made_so =
-    subst (λ (m : ℕ). Adds (g.D.Disk.acts c.look.new.self) (g.D.Disk.acts c.make_beside.new.disk)
+    subst (λ (m : ℕ). Adds (g.D.Disk.calls c.look.new.self) (g.D.Disk.calls c.make_beside.new.disk)
     (made new m ∷ [])) c.mode_at_first.ensures c.in_ok-new_name.ensures.ok in
-    let removed_so = subst (λ (n : List ℕ). Adds (g.D.Disk.acts c.complete.new.disk)
-    (g.D.Disk.acts c.remove.new.self) (removed n ∷ [])) c.as_str-in-Err.ensures.value
+    let removed_so = subst (λ (n : List ℕ). Adds (g.D.Disk.calls c.complete.new.disk)
+    (g.D.Disk.calls c.remove.new.self) (removed n ∷ [])) c.as_str-in-Err.ensures.value
     c.remove.ensures in
-    let acts =
+    let calls =
     looked c.args.name.now mode ∷ made new (first_mode mode) ∷ (part ++ removed new ∷ []) in (
-      acts,
+      calls,
       given_up mode new part front,
       adds_then _ _ c.in_ok-mode.ensures.ok (adds_then _ _ made_so (adds_then _ _ done removed_so)),
     )

@@ -3,12 +3,12 @@ use Rattle.std.specs.Option.{option_copied}
 use Rattle.inetnum_index.specs.Links.{IsFirstReaching}
 use Rattle.inetnum_index.proofs.cover.first_reaching.Given as goal
 
-abbrev pub invariant-loop-place : goal.invariant-loop-place
-invariant-loop-place l = record {
+abbrev pub invariant-loop-index : goal.invariant-loop-index
+invariant-loop-index l = record {
   within : l.left ≤ l.end;
   first : IsFirstReaching l.url l.family l.last l.refs l.left l.end
       (option_copied l.first);
 }
 
-abbrev pub decreases-loop-place : goal.decreases-loop-place
-decreases-loop-place l = l.left
+abbrev pub decreases-loop-index : goal.decreases-loop-index
+decreases-loop-index l = l.left

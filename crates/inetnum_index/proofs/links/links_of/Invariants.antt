@@ -2,6 +2,6 @@ use Rattle.std.proofs.Common.{◌≡◌, length}
 use Rattle.inetnum_index.specs.Links.{AreLinks}
 use Rattle.inetnum_index.proofs.links.links_of.Given as goal
 
-abbrev pub invariant-loop-place : goal.invariant-loop-place
-invariant-loop-place l = record
-    { made : length l.links.items ≡ l.place; links : AreLinks l.refs l.links.items }
+abbrev pub invariant-loop-index : goal.invariant-loop-index
+invariant-loop-index l = record
+    { made : length l.links.items ≡ l.index; links : AreLinks l.refs l.links.items }

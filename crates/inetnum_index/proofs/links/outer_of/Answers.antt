@@ -12,12 +12,12 @@ use Rattle.inetnum_index.proofs.links.outer_of.Goals as goal
 pub loop-before-preserved : goal.loop-before-preserved
 loop-before-preserved c =
     let next : c.loop-before.left ≤ c.in-Some.before + 1 = grind (arith, nat_tests) in
-    let left : c.loop-before.left ≤ c.args.place = c.loop-before.invariant.within in
+    let left : c.loop-before.left ≤ c.args.index = c.loop-before.invariant.within in
     let earlier : c.in-Some.before < c.loop-before.left = grind (arith, nat_tests) in
-    let here : c.args.place < length c.args.refs.now =
-    slice_get_within c.args.refs.now c.args.place c.args.reference.now c.requires.here in
+    let here : c.args.index < length c.args.refs.now =
+    slice_get_within c.args.refs.now c.args.index c.args.reference.now c.requires.here in
     let within : c.in-Some.before < length c.args.refs.now = omega arith in
-    let made : length c.args.links.now ≡ c.args.place = c.requires.made in
+    let made : length c.args.links.now ≡ c.args.index = c.requires.made in
     let in_links : c.in-Some.before < length c.args.links.now = omega arith in
     let l : Link = get_or c.args.links.now c.in-Some.before (record { reach = 0; outer = 0 }) in
     let m : c.min-left.result ≡ min l.outer c.in-Some.before = c.min-left.ensures in
@@ -29,9 +29,9 @@ loop-before-preserved c =
     (leb c.index-refs-before.result.range.last c.args.reference.now.range.last) inner in
     record {
       within = omega arith;
-      outer = subst (λ n. IsOuter c.args.refs.now c.args.reference.now c.args.place n) (sym m)
+      outer = subst (λ n. IsOuter c.args.refs.now c.args.reference.now c.args.index n) (sym m)
           (outer_step c.args.refs.now c.args.links.now c.args.reference.now
-          c.index-refs-before.result l c.args.place c.loop-before.left c.in-Some.before
+          c.index-refs-before.result l c.args.index c.loop-before.left c.in-Some.before
           c.requires.links c.loop-before.invariant.outer next
           (slice_get_read c.args.refs.now
           (length c.args.refs.now) c.in-Some.before c.index-refs-before.result refl within

@@ -4,7 +4,7 @@ use Rattle.inetnum_index.proofs.links.outer_of.Given as goal
 
 abbrev pub invariant-loop-before : goal.invariant-loop-before
 invariant-loop-before l = record
-    { within : l.left ≤ l.place; outer : IsOuter l.refs l.reference l.place l.left }
+    { within : l.left ≤ l.index; outer : IsOuter l.refs l.reference l.index l.left }
 
 abbrev pub decreases-loop-before : goal.decreases-loop-before
 decreases-loop-before l = l.left

@@ -1,4 +1,4 @@
-use Rattle.job_lines.proofs.PlaceLemmas.{in_order}
+use Rattle.job_lines.proofs.OrderLemmas.{in_order}
 use Rattle.job_lines.proofs.laws.accepted_job_is_in_order.Goals as goal
 
 pub returns : goal.returns

@@ -1,4 +1,4 @@
-use Rattle.job_lines.proofs.PlaceLemmas.{first_is_refused, refused_is_first}
+use Rattle.job_lines.proofs.OrderLemmas.{first_is_refused, refused_is_first}
 use Rattle.job_lines.proofs.laws.refused_line_is_first.Goals as goal
 
 pub returns : goal.returns

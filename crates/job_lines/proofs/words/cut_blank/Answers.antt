@@ -5,5 +5,5 @@ use Rattle.job_lines.proofs.words.cut_blank.Goals as goal
 
 pub returns-clause-pieces : goal.returns-clause-pieces
 returns-clause-pieces c =
-    rw take_rest (pieces_at_blank c.args.text.now c.blank_at-place.result
-    c.blank_at-place.ensures.place (omega arith))
+    rw take_rest (pieces_at_blank c.args.text.now c.blank_at-cut.result
+    c.blank_at-cut.ensures.cut (omega arith))

@@ -7,7 +7,7 @@ use Rattle.job_run.specs.World.{World}
 use Rattle.job_run.specs.declared.scope.Scope.TheVariants.{Sources}
 use Rattle.job_run.proofs.course.do_steps.Given as goal
 
--- the lines before this place were done
+-- the lines before this index were done
 abbrev pub invariant-loop-at : goal.invariant-loop-at
 invariant-loop-at g l =
     let F = g.F.Folder in

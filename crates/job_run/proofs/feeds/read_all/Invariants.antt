@@ -5,7 +5,7 @@ use Rattle.job_run.specs.Feeds.{IsRead}
 use Rattle.job_run.specs.Moves.{read_rooms}
 use Rattle.job_run.proofs.feeds.read_all.Given as goal
 
--- the files of the lines before this place were read
+-- the files of the lines before this index were read
 abbrev pub invariant-loop-at : goal.invariant-loop-at
 invariant-loop-at g l =
     let F = g.F.Folder in

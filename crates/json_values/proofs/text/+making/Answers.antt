@@ -2,7 +2,7 @@ use Rattle.std.proofs.Common.{sym, ap, ◌∙◌, map}
 use Rattle.std.proofs.lemmas.List.{take_all}
 use Rattle.serde_json.specs.Data.{no_members}
 use Rattle.serde_json.specs.View.{items_of as data_items_of}
-use Rattle.mmdb_data.specs.View.{tree, members_view}
+use Rattle.mmdb_data.specs.View.{value_tree, members_view}
 use Rattle.json_values.specs.JsonData.{data_of, members_put}
 use Rattle.json_values.proofs.JsonViews.{items_made, object_made}
 use Rattle.json_values.proofs.text.+making.Goals as goal
@@ -11,10 +11,10 @@ pub json_of-returns-in_ok-object_of-in-Map : goal.json_of-returns-in_ok-object_o
 json_of-returns-in_ok-object_of-in-Map t c =
     object_made c.in_ok-object_of-in-Map.field-0 c.in-Map.pairs (c.in_ok-object_of-in-Map.ensures
     ∙ ap (λ pairs. members_put (members_view pairs) no_members) c.deref.ensures.value)
-    ∙ sym (ap (λ v. data_of (tree v)) c.in-Map.is)
+    ∙ sym (ap (λ v. data_of (value_tree v)) c.in-Map.is)
 
 pub array_of-returns : goal.array_of-returns
 array_of-returns t c =
     let values = c.args.values.now in
-    ap data_items_of (c.loop-value.invariant ∙ ap (map (λ v. data_of (tree v)))
+    ap data_items_of (c.loop-value.invariant ∙ ap (map (λ v. data_of (value_tree v)))
     (take_all c.loop-value.value-index values c.loop-value-test.false)) ∙ items_made values

@@ -4,7 +4,7 @@ use Rattle.std.specs.Arc.{arc_value}
 use Rattle.std.specs.List.{flat_map}
 use Rattle.geo_terms.specs.DelegationForm.{DelegationParts}
 use Rattle.geo_terms.specs.SourceForm.{StatsParts}
-use Rattle.kept_sources.proofs.PlaceLemmas.{in_this, in_later}
+use Rattle.kept_sources.proofs.RowLemmas.{in_this, in_later}
 use Rattle.kept_sources.proofs.delegations.delegation_at.Goals as goal
 
 pub returns-then-left-rows : goal.returns-then-left-rows

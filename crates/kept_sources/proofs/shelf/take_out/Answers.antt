@@ -12,15 +12,15 @@ use Rattle.kept_sources.proofs.shelf.take_out.Goals as goal
 pub returns-in-Ok : goal.returns-in-Ok
 returns-in-Ok g c =
     let X = g.row.T.Denot in
-    let within : c.in-Ok.place < length c.args.shelf.now.items =
-    subst (λ ys. c.in-Ok.place < length ys) c.as_slice.ensures.value c.in-Ok.ensures.within in
+    let within : c.in-Ok.index < length c.args.shelf.now.items =
+    subst (λ ys. c.in-Ok.index < length ys) c.as_slice.ensures.value c.in-Ok.ensures.within in
     let found : IsBinarySearchResult (λ t. text_cmp (g.T.Named.name (arc_value {X = X} t))
-    c.args.name.now) c.args.shelf.now.items (Ok c.in-Ok.place) =
+    c.args.name.now) c.args.shelf.now.items (Ok c.in-Ok.index) =
     subst (λ ys. IsBinarySearchResult (λ t. text_cmp (g.T.Named.name (arc_value {X = X} t))
-    c.args.name.now) ys (Ok c.in-Ok.place)) c.as_slice.ensures.value c.in-Ok.ensures.found in
+    c.args.name.now) ys (Ok c.in-Ok.index)) c.as_slice.ensures.value c.in-Ok.ensures.found in
     ap (map (arc_value {X = X}))
     (c.take_at-taken.ensures ∙ (taken_out (λ t. g.T.Named.name (arc_value {X = X} t))
-    c.args.name.now c.args.shelf.now.items c.in-Ok.place c.take_at-taken.result (order_within
+    c.args.name.now c.args.shelf.now.items c.in-Ok.index c.take_at-taken.result (order_within
     (arc_value {X = X}) g.T.Named.name c.args.shelf.now.items c.requires) within found).0)
     ∙ map_removed (arc_value {X = X}) g.T.Named.name c.args.name.now c.args.shelf.now.items
 

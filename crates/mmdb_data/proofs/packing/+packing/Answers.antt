@@ -1,7 +1,7 @@
 use Rattle.std.proofs.Common.{sym, ap, ◌∙◌, subst, arith}
 use Rattle.std.specs.List.{each_same}
-use Rattle.mmdb_data.specs.Tree.{IsNarrow}
-use Rattle.mmdb_data.specs.View.{tree, items_view, members_view}
+use Rattle.mmdb_data.specs.ValueTree.{IsNarrow}
+use Rattle.mmdb_data.specs.View.{value_tree, items_view, members_view}
 use Rattle.mmdb_data.specs.Section.{packed_of}
 use Rattle.mmdb_data.proofs.Views.{tree-Map, tree-List, len-members_view, len-items_view}
 use Rattle.mmdb_data.proofs.Appending.{map_packed, list_packed, known_full, still_unknown, new_full}
@@ -12,14 +12,14 @@ pub append_content-append_head-requires
     : goal.append_content-append_head-requires
 append_content-append_head-requires t c =
     let pairs = c.in-Map.pairs in
-    let narrow = subst IsNarrow (ap tree c.in-Map.is ∙ tree-Map pairs) c.requires.narrow in
+    let narrow = subst IsNarrow (ap value_tree c.in-Map.is ∙ tree-Map pairs) c.requires.narrow in
     omega (arith, narrow.0, len-members_view pairs.items, pairs.ok.0)
 
 pub append_content-append_head-requires-in-List
     : goal.append_content-append_head-requires-in-List
 append_content-append_head-requires-in-List t c =
     let values = c.in-List.values in
-    let narrow = subst IsNarrow (ap tree c.in-List.is ∙ tree-List values) c.requires.narrow in
+    let narrow = subst IsNarrow (ap value_tree c.in-List.is ∙ tree-List values) c.requires.narrow in
     omega (arith, narrow.0, len-items_view values.items, values.ok.0)
 
 pub append_content-returns-in_ok-append_head-in-Map-clause-appended
@@ -46,12 +46,12 @@ append_content-returns-in_ok-append_head-in-List-clause-appended t c =
 pub append_full-returns-then-is_known-clause-appended
     : goal.append_full-returns-then-is_known-clause-appended
 append_full-returns-then-is_known-clause-appended t c =
-    known_full c.append_content.result (tree c.args.value.now) _ _
+    known_full c.append_content.result (value_tree c.args.value.now) _ _
     (sym c.requires.known ∙ c.if-is_known.true) c.append_content.ensures.appended
 
 pub append_full-note-requires : goal.append_full-note-requires
 append_full-note-requires t c =
-    still_unknown (tree c.args.value.now) (packed_of c.args.section.now)
+    still_unknown (value_tree c.args.value.now) (packed_of c.args.section.now)
     (packed_of c.append_content-2.new.section) c.in_ok-spelled.spelled.items
     (each_same c.args.section.now.piece.items c.in_ok-spelled.spelled.items
     c.in_ok-spelled.ensures.cases.0 ∙ c.requires.spelled)
@@ -60,7 +60,7 @@ append_full-note-requires t c =
 
 pub append_full-returns-clause-appended : goal.append_full-returns-clause-appended
 append_full-returns-clause-appended t c =
-    new_full c.note.result (tree c.args.value.now) (packed_of c.note.new.self)
+    new_full c.note.result (value_tree c.args.value.now) (packed_of c.note.new.self)
     (packed_of c.append_content-2.new.section)
     (packed_of c.args.section.now) c.in_ok-spelled.spelled.items c.len-at.result
     (each_same c.args.section.now.piece.items c.in_ok-spelled.spelled.items

@@ -1,19 +1,19 @@
 use Rattle.std.proofs.Common.{◌≡◌, ◌≤◌, ◌+◌, ◌*◌, drop}
-use Rattle.mmdb_data.specs.Tree.{count, members_count, items_count, MembersAreNarrow}
-use Rattle.mmdb_data.specs.Tree.{ItemsAreNarrow}
-use Rattle.mmdb_data.specs.View.{tree, items_view, members_view}
+use Rattle.mmdb_data.specs.ValueTree.{count, members_count, items_count, MembersAreNarrow}
+use Rattle.mmdb_data.specs.ValueTree.{ItemsAreNarrow}
+use Rattle.mmdb_data.specs.View.{value_tree, items_view, members_view}
 use Rattle.mmdb_data.specs.Packing.{members_in, items_in, IsKept}
 use Rattle.mmdb_data.specs.Section.{packed_of}
 use Rattle.mmdb_data.proofs.packing.+packing.Given as goal
 
 abbrev pub decreases-append_part : goal.decreases-append_part
-decreases-append_part l = 4 * count (tree l.value.now) + 2
+decreases-append_part l = 4 * count (value_tree l.value.now) + 2
 
 abbrev pub decreases-append_full : goal.decreases-append_full
-decreases-append_full l = 4 * count (tree l.value.now) + 1
+decreases-append_full l = 4 * count (value_tree l.value.now) + 1
 
 abbrev pub decreases-append_content : goal.decreases-append_content
-decreases-append_content l = 4 * count (tree l.value.now)
+decreases-append_content l = 4 * count (value_tree l.value.now)
 
 abbrev pub decreases-append_members : goal.decreases-append_members
 decreases-append_members l = 4 * members_count (members_view l.pairs.now) + 3

@@ -1,7 +1,7 @@
 use Rattle.std.proofs.Common.{◌-◌, ap, ◌∙◌, arith}
 use Rattle.std.proofs.lemmas.Bool.{lt-leb}
-use Rattle.mmdb_data.specs.Tree.{members_fit as are_members_fit}
-use Rattle.mmdb_data.specs.Tree.{items_fit as are_items_fit, members_len, items_len}
+use Rattle.mmdb_data.specs.ValueTree.{members_fit as are_members_fit}
+use Rattle.mmdb_data.specs.ValueTree.{items_fit as are_items_fit, members_len, items_len}
 use Rattle.mmdb_data.specs.View.{items_view, members_view}
 use Rattle.mmdb_data.proofs.Views.{tree-Map, tree-List, len-members_view, len-items_view}
 use Rattle.mmdb_data.proofs.Fine.{all_three, too_many}

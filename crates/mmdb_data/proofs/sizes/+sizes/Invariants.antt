@@ -1,6 +1,6 @@
 use Rattle.std.proofs.Common.{◌≡◌, drop}
-use Rattle.mmdb_data.specs.Tree.{members_fit as are_members_fit}
-use Rattle.mmdb_data.specs.Tree.{items_fit as are_items_fit}
+use Rattle.mmdb_data.specs.ValueTree.{members_fit as are_members_fit}
+use Rattle.mmdb_data.specs.ValueTree.{items_fit as are_items_fit}
 use Rattle.mmdb_data.specs.View.{items_view, members_view}
 use Rattle.mmdb_data.proofs.sizes.+sizes.Given as goal
 

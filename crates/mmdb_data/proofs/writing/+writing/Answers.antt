@@ -1,6 +1,6 @@
 use Rattle.std.proofs.Common.{sym, ap, ◌∙◌, subst, arith}
-use Rattle.mmdb_data.specs.Tree.{IsNarrow}
-use Rattle.mmdb_data.specs.View.{tree, items_view, members_view}
+use Rattle.mmdb_data.specs.ValueTree.{IsNarrow}
+use Rattle.mmdb_data.specs.View.{value_tree, items_view, members_view}
 use Rattle.mmdb_data.proofs.Views.{tree-Map, tree-List, len-members_view, len-items_view}
 use Rattle.mmdb_data.proofs.Written.{map_written, list_written}
 use Rattle.mmdb_data.proofs.writing.+writing.Goals as goal
@@ -8,14 +8,14 @@ use Rattle.mmdb_data.proofs.writing.+writing.Goals as goal
 pub put_value-put_head-requires : goal.put_value-put_head-requires
 put_value-put_head-requires t c =
     let pairs = c.in-Map.pairs in
-    let narrow = subst IsNarrow (ap tree c.in-Map.is ∙ tree-Map pairs) c.requires in
+    let narrow = subst IsNarrow (ap value_tree c.in-Map.is ∙ tree-Map pairs) c.requires in
     omega (arith, narrow.0, len-members_view pairs.items, pairs.ok.0)
 
 pub put_value-put_head-requires-in-List
     : goal.put_value-put_head-requires-in-List
 put_value-put_head-requires-in-List t c =
     let values = c.in-List.values in
-    let narrow = subst IsNarrow (ap tree c.in-List.is ∙ tree-List values) c.requires in
+    let narrow = subst IsNarrow (ap value_tree c.in-List.is ∙ tree-List values) c.requires in
     omega (arith, narrow.0, len-items_view values.items, values.ok.0)
 
 pub put_value-returns-in_ok-put_head-in-Map-clause-spelled

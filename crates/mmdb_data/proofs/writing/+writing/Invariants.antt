@@ -1,5 +1,6 @@
 use Rattle.std.proofs.Common.{◌≡◌, ◌++◌, drop}
-use Rattle.mmdb_data.specs.Tree.{MembersAreNarrow, ItemsAreNarrow, MembersAreTyped, ItemsAreTyped}
+use Rattle.mmdb_data.specs.ValueTree.{MembersAreNarrow, ItemsAreNarrow, MembersAreTyped}
+use Rattle.mmdb_data.specs.ValueTree.{ItemsAreTyped}
 use Rattle.mmdb_data.specs.Spelling.{members_spelling, items_spelling}
 use Rattle.mmdb_data.specs.View.{items_view, members_view}
 use Rattle.mmdb_data.proofs.writing.+writing.Given as goal

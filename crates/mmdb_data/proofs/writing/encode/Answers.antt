@@ -1,14 +1,14 @@
 use Rattle.std.proofs.Common.{◌≡◌, List, ℕ, ◌++◌, length, ap, ◌∙◌, append_assoc}
 use Rattle.mmdb_data.specs.Spelling.{spelling}
 use Rattle.mmdb_data.specs.Reading.{reads}
-use Rattle.mmdb_data.specs.View.{tree}
+use Rattle.mmdb_data.specs.View.{value_tree}
 use Rattle.mmdb_data.proofs.ReadsBack.{is_read_again}
 use Rattle.mmdb_data.proofs.writing.encode.Goals as goal
 
 pub returns-clause-read_back : goal.returns-clause-read_back
 returns-clause-read_back c =
     λ within after.
-    let value = tree c.args.value.now in
+    let value = value_tree c.args.value.now in
     let before = c.args.out.now.items in
     let whole = c.in_ok-extend_from_slice.ensures.items in
     let from = c.deref.ensures.value in

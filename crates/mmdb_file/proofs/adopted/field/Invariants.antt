@@ -1,6 +1,6 @@
 use Rattle.std.proofs.Common.{◌≡◌, drop, None}
 use Rattle.std.specs.Option.{option_map}
-use Rattle.mmdb_data.specs.View.{tree as value_tree}
+use Rattle.mmdb_data.specs.View.{value_tree}
 use Rattle.mmdb_data.specs.View.{members_view}
 use Rattle.mmdb_file.specs.Walk.{field as field_of}
 use Rattle.mmdb_file.proofs.adopted.field.Given as goal

@@ -1,7 +1,7 @@
 use Rattle.std.proofs.Common.{ℕ}
 use Rattle.std.proofs.lemmas.List.Elements.{All-map}
 use Rattle.geo_terms.specs.Numbers.{place_at}
-use Rattle.mmdb_data.specs.Tree.{Tree, CanBeReadBack}
+use Rattle.mmdb_data.specs.ValueTree.{ValueTree, CanBeReadBack}
 use Rattle.mmdb_file.specs.FileImage.{answer_value}
 use Rattle.mmdb_file.specs.Writing.{values_of}
 use Rattle.mmdb_file.proofs.SectionLemmas.{section_holds}
@@ -10,7 +10,7 @@ use Rattle.mmdb_file.proofs.data.data_of.Goals as goal
 
 pub loop-number-preserved : goal.loop-number-preserved
 loop-number-preserved c =
-    let value : ℕ → Tree = λ k. answer_value (place_at c.args.places.now k) in
+    let value : ℕ → ValueTree = λ k. answer_value (place_at c.args.places.now k) in
     record {
       section = data_packed value c.args.numbers.now c.loop-number.number-index
           c.loop-number-test.true c.loop-number.made.section c.add.new.made.section _
@@ -27,7 +27,7 @@ loop-number-preserved c =
 -- after the last number each value was found readable
 pub returns-clause-holds : goal.returns-clause-holds
 returns-clause-holds c =
-    let value : ℕ → Tree = λ k. answer_value (place_at c.args.places.now k) in
+    let value : ℕ → ValueTree = λ k. answer_value (place_at c.args.places.now k) in
     let readable = All_whole (λ k. CanBeReadBack (value k)) c.args.numbers.now
     c.loop-number.number-index c.loop-number-test.false c.loop-number.invariant.readable in
     section_holds (values_of c.args.places.now c.args.numbers.now)

@@ -1,6 +1,6 @@
 use Rattle.std.proofs.Common.{◌≡◌, ◌++◌, take, drop, All}
 use Rattle.geo_terms.specs.Numbers.{place_at}
-use Rattle.mmdb_data.specs.Tree.{CanBeReadBack}
+use Rattle.mmdb_data.specs.ValueTree.{CanBeReadBack}
 use Rattle.mmdb_data.specs.Packing.{nothing_packed, all_in_full, offsets_in, packed_offsets}
 use Rattle.mmdb_file.specs.FileImage.{answer_value}
 use Rattle.mmdb_file.specs.Writing.{values_of}

@@ -1,5 +1,5 @@
 use Rattle.std.proofs.Common.{length, sym, ap, subst, arith}
-use Rattle.mmdb_data.specs.Tree.{CanBeReadBack}
+use Rattle.mmdb_data.specs.ValueTree.{CanBeReadBack}
 use Rattle.mmdb_file.proofs.PlaceLemmas.{readable, short_country, short_region, short_city}
 use Rattle.mmdb_file.proofs.PlaceLemmas.{short_postal}
 use Rattle.mmdb_file.proofs.place.place_value.Goals as goal

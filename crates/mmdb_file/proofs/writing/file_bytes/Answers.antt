@@ -1,5 +1,5 @@
 use Rattle.std.proofs.Common.{sym, subst}
-use Rattle.mmdb_data.specs.Tree.{CanBeSpelled}
+use Rattle.mmdb_data.specs.ValueTree.{CanBeSpelled}
 use Rattle.mmdb_file.proofs.WritingLemmas.{told_spelled}
 use Rattle.mmdb_file.proofs.writing.file_bytes.Goals as goal
 

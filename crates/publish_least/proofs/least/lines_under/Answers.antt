@@ -4,8 +4,8 @@ use Rattle.publish_least.specs.Choice.{order_after, lines_below}
 use Rattle.publish_least.proofs.WriteLemmas.{order-some, lines-of_walk}
 use Rattle.publish_least.proofs.least.lines_under.Goals as goal
 
-pub write-requires-clause-place : goal.write-requires-clause-place
-write-requires-clause-place c =
+pub write-requires-clause-index : goal.write-requires-clause-index
+write-requires-clause-index c =
     let t = meaning c.args.store.now c.args.rec in
     order-some c.learn.new.self.order.keys t
     (c.in_ok-learn.ensures.order ∙ ap (λ seen. order_after seen t) c.in_ok-memo.ensures.order)

@@ -1,7 +1,7 @@
--- Those found so far are what the passed places share with the others.
+-- Those found so far are what the passed indexes share with the others.
 use Rattle.std.proofs.Common.{◌≡◌, take}
 use Rattle.publish_least.specs.Price.{shared}
 use Rattle.publish_least.proofs.set.common.Given as goal
 
-abbrev pub invariant-loop-place : goal.invariant-loop-place
-invariant-loop-place l = l.both.items ≡ shared (take l.place-index l.few) l.many
+abbrev pub invariant-loop-at : goal.invariant-loop-at
+invariant-loop-at l = l.both.items ≡ shared (take l.at-index l.few) l.many

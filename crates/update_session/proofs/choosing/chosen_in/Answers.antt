@@ -18,7 +18,7 @@ loop-segment-preserved c =
           c.push.new.self.items (map said run) c.loop-segment.segment-index c.in-Ok.leaf
           (said segment)
           c.in-Ok.ensures.places c.loop-segment.invariant.stands c.in-Ok.ensures.few
-          (c.in-Ok.ensures.place ∙ c.choice.ensures)
+          (c.in-Ok.ensures.place ∙ c.choice_near.ensures)
           (omega (arith, length-map run said, c.loop-segment-test.true))
           (mapped_at said run c.loop-segment.segment-index segment (search rules)) (search rules);
       grown = GrowsBy-trans [] _ _ _ _ _ c.loop-segment.invariant.grown c.in-Ok.ensures.places

@@ -27,14 +27,14 @@ returns-in_err-old-in-Ok-clause-not_there c =
     there _ c.from_residual.result c.from_residual.ensures.1
     (λ none. some_found (arc_value {X = DumpParts}) (λ d. d.slot) c.args.slot.now
     c.self.inside.dumps.items c.as_slice.result.now c.as_slice.ensures.value
-    c.self.invariant.slots c.in-Ok.place c.in-Ok.ensures.within c.in-Ok.ensures.found (ap
+    c.self.invariant.slots c.in-Ok.index c.in-Ok.ensures.within c.in-Ok.ensures.found (ap
     (λ (s : InForce). find (λ d. same_text d.slot c.args.slot.now) s.dumps) c.self.view_is ∙ none))
 
 pub invariant_of-self-in-Ok : goal.invariant_of-self-in-Ok
 invariant_of-self-in-Ok c =
     let out = removed_found (arc_value {X = DumpParts})
     (λ d. d.slot) c.args.slot.now c.self.inside.dumps.items c.as_slice.result.now
-    c.as_slice.ensures.value c.self.invariant.slots c.in-Ok.place c.remove_dump.new.dumps.items
+    c.as_slice.ensures.value c.self.invariant.slots c.in-Ok.index c.remove_dump.new.dumps.items
     c.in-Ok.ensures.within c.in-Ok.ensures.found c.in_ok-old-in-Ok.ensures.dumps in
     record {
       slots = out.0;
@@ -47,7 +47,7 @@ pub returns-in_ok-old-in-Ok-clause-sources : goal.returns-in_ok-old-in-Ok-clause
 returns-in_ok-old-in-Ok-clause-sources c =
     let out = removed_found (arc_value {X = DumpParts})
     (λ d. d.slot) c.args.slot.now c.self.inside.dumps.items c.as_slice.result.now
-    c.as_slice.ensures.value c.self.invariant.slots c.in-Ok.place c.remove_dump.new.dumps.items
+    c.as_slice.ensures.value c.self.invariant.slots c.in-Ok.index c.remove_dump.new.dumps.items
     c.in-Ok.ensures.within c.in-Ok.ensures.found c.in_ok-old-in-Ok.ensures.dumps in
     ap (λ (ds : List DumpParts). in_force ds (map arc_value c.self.inside.feeds.items)) out.1
     ∙ ap (λ (s : InForce). record s { dumps = removed (λ d. d.slot) c.args.slot.now s.dumps })
@@ -56,7 +56,7 @@ returns-in_ok-old-in-Ok-clause-sources c =
 pub returns-in_ok-old-in-Ok-clause-old : goal.returns-in_ok-old-in-Ok-clause-old
 returns-in_ok-old-in-Ok-clause-old c =
     old_found (arc_value {X = DumpParts}) (λ d. d.slot) c.args.slot.now c.self.inside.dumps.items
-    c.as_slice.result.now c.as_slice.ensures.value c.self.invariant.slots c.in-Ok.place
+    c.as_slice.result.now c.as_slice.ensures.value c.self.invariant.slots c.in-Ok.index
     c.in_ok-old-in-Ok.old c.in-Ok.ensures.within c.in-Ok.ensures.found c.in_ok-old-in-Ok.ensures.old
     ∙ ap (λ (s : InForce). find (λ d. same_text d.slot c.args.slot.now) s.dumps) c.self.view_is
 

@@ -17,17 +17,17 @@ remove_feed-requires-clause-firsts c =
       tell_long c.self.inside.feeds.items c.self.inside.firsts.items c.self.invariant.entries,
       long_found (arc_value {X = FeedParts})
           (λ f. f.url) c.args.url.now c.self.inside.feeds.items c.as_slice.result.now
-          c.as_slice.ensures.value c.self.invariant.urls c.in-Ok.place c.in-Ok.ensures.within,
+          c.as_slice.ensures.value c.self.invariant.urls c.in-Ok.index c.in-Ok.ensures.within,
     )
 
 pub invariant_of-self : goal.invariant_of-self
 invariant_of-self c =
     let below = long_found (arc_value {X = FeedParts})
     (λ f. f.url) c.args.url.now c.self.inside.feeds.items c.as_slice.result.now
-    c.as_slice.ensures.value c.self.invariant.urls c.in-Ok.place c.in-Ok.ensures.within in
+    c.as_slice.ensures.value c.self.invariant.urls c.in-Ok.index c.in-Ok.ensures.within in
     let out = removed_found (arc_value {X = FeedParts})
     (λ f. f.url) c.args.url.now c.self.inside.feeds.items c.as_slice.result.now
-    c.as_slice.ensures.value c.self.invariant.urls c.in-Ok.place c.remove_feed.new.feeds.items
+    c.as_slice.ensures.value c.self.invariant.urls c.in-Ok.index c.remove_feed.new.feeds.items
     c.in-Ok.ensures.within c.in-Ok.ensures.found c.remove_feed.ensures.feeds in
     record {
       slots = c.self.invariant.slots;
@@ -35,7 +35,7 @@ invariant_of-self c =
       speakers = c.self.invariant.speakers;
       entries =
           rw (c.remove_feed.ensures.feeds, c.remove_feed.ensures.firsts)
-          (tell_remove c.self.inside.feeds.items c.self.inside.firsts.items c.in-Ok.place
+          (tell_remove c.self.inside.feeds.items c.self.inside.firsts.items c.in-Ok.index
           c.self.invariant.entries below);
     }
 
@@ -43,7 +43,7 @@ pub returns-in-Ok-clause-sources : goal.returns-in-Ok-clause-sources
 returns-in-Ok-clause-sources c =
     let out = removed_found (arc_value {X = FeedParts})
     (λ f. f.url) c.args.url.now c.self.inside.feeds.items c.as_slice.result.now
-    c.as_slice.ensures.value c.self.invariant.urls c.in-Ok.place c.remove_feed.new.feeds.items
+    c.as_slice.ensures.value c.self.invariant.urls c.in-Ok.index c.remove_feed.new.feeds.items
     c.in-Ok.ensures.within c.in-Ok.ensures.found c.remove_feed.ensures.feeds in
     ap (λ (fs : List FeedParts). in_force (map arc_value c.self.inside.dumps.items) fs) out.1
     ∙ ap (λ (s : InForce). record s { feeds = removed (λ f. f.url) c.args.url.now s.feeds })
@@ -53,7 +53,7 @@ pub returns-in-Ok-clause-old : goal.returns-in-Ok-clause-old
 returns-in-Ok-clause-old c =
     old_found (arc_value {X = FeedParts})
     (λ f. f.url) c.args.url.now c.self.inside.feeds.items c.as_slice.result.now
-    c.as_slice.ensures.value c.self.invariant.urls c.in-Ok.place c.remove_feed.result
+    c.as_slice.ensures.value c.self.invariant.urls c.in-Ok.index c.remove_feed.result
     c.in-Ok.ensures.within c.in-Ok.ensures.found c.remove_feed.ensures.old
     ∙ ap (λ (s : InForce). find (λ f. same_text f.url c.args.url.now) s.feeds) c.self.view_is
 

@@ -13,7 +13,7 @@ pub invariant_of-self-in-Ok : goal.invariant_of-self-in-Ok
 invariant_of-self-in-Ok c =
     let put = set_found (arc_value {X = DumpParts}) (λ d. d.slot)
     c.as_str.result.now c.self.inside.dumps.items c.as_slice.result.now c.as_slice.ensures.value
-    c.self.invariant.slots c.in_ok-dump.dump c.in-Ok.place c.replace_dump.new.dumps.items
+    c.self.invariant.slots c.in_ok-dump.dump c.in-Ok.index c.replace_dump.new.dumps.items
     (c.as_str.ensures ∙ ap (λ (d : DumpParts). d.slot) (c.behind-dump.view_is ∙ c.deref.ensures))
     c.in-Ok.ensures.within c.in-Ok.ensures.found c.in_ok-old-in-Ok.ensures.dumps in
     record {
@@ -27,7 +27,7 @@ pub invariant_of-self-in-Err : goal.invariant_of-self-in-Err
 invariant_of-self-in-Err c =
     let put = insert_missed (arc_value {X = DumpParts}) (λ d. d.slot)
     c.as_str.result.now c.self.inside.dumps.items c.as_slice.result.now c.as_slice.ensures.value
-    c.self.invariant.slots c.in_ok-dump.dump c.in-Err.place c.insert_dump.new.dumps.items
+    c.self.invariant.slots c.in_ok-dump.dump c.in-Err.index c.insert_dump.new.dumps.items
     (c.as_str.ensures ∙ ap (λ (d : DumpParts). d.slot) (c.behind-dump.view_is ∙ c.deref.ensures))
     c.in-Err.ensures.within c.in-Err.ensures.found c.in_ok-insert_dump-in-Err.ensures.dumps in
     record {
@@ -41,7 +41,7 @@ pub returns-in_ok-old-in-Ok-clause-sources : goal.returns-in_ok-old-in-Ok-clause
 returns-in_ok-old-in-Ok-clause-sources c =
     let put = set_found (arc_value {X = DumpParts}) (λ d. d.slot)
     c.as_str.result.now c.self.inside.dumps.items c.as_slice.result.now c.as_slice.ensures.value
-    c.self.invariant.slots c.in_ok-dump.dump c.in-Ok.place c.replace_dump.new.dumps.items
+    c.self.invariant.slots c.in_ok-dump.dump c.in-Ok.index c.replace_dump.new.dumps.items
     (c.as_str.ensures ∙ ap (λ (d : DumpParts). d.slot) (c.behind-dump.view_is ∙ c.deref.ensures))
     c.in-Ok.ensures.within c.in-Ok.ensures.found c.in_ok-old-in-Ok.ensures.dumps in
     ap (λ (ds : List DumpParts). in_force ds (map arc_value c.self.inside.feeds.items)) (put.1
@@ -54,7 +54,7 @@ pub returns-in_ok-old-in-Ok-clause-old : goal.returns-in_ok-old-in-Ok-clause-old
 returns-in_ok-old-in-Ok-clause-old c =
     old_found (arc_value {X = DumpParts})
     (λ d. d.slot) c.as_str.result.now c.self.inside.dumps.items c.as_slice.result.now
-    c.as_slice.ensures.value c.self.invariant.slots c.in-Ok.place c.in_ok-old-in-Ok.old
+    c.as_slice.ensures.value c.self.invariant.slots c.in-Ok.index c.in_ok-old-in-Ok.old
     c.in-Ok.ensures.within c.in-Ok.ensures.found c.in_ok-old-in-Ok.ensures.old
     ∙ ap (λ (n : List ℕ). find (λ (d : DumpParts). same_text d.slot n)
     (map arc_value c.self.inside.dumps.items))
@@ -67,7 +67,7 @@ pub returns-in_ok-insert_dump-in-Err-clause-sources :
 returns-in_ok-insert_dump-in-Err-clause-sources c =
     let put = insert_missed (arc_value {X = DumpParts}) (λ d. d.slot)
     c.as_str.result.now c.self.inside.dumps.items c.as_slice.result.now c.as_slice.ensures.value
-    c.self.invariant.slots c.in_ok-dump.dump c.in-Err.place c.insert_dump.new.dumps.items
+    c.self.invariant.slots c.in_ok-dump.dump c.in-Err.index c.insert_dump.new.dumps.items
     (c.as_str.ensures ∙ ap (λ (d : DumpParts). d.slot) (c.behind-dump.view_is ∙ c.deref.ensures))
     c.in-Err.ensures.within c.in-Err.ensures.found c.in_ok-insert_dump-in-Err.ensures.dumps in
     ap (λ (ds : List DumpParts). in_force ds (map arc_value c.self.inside.feeds.items)) (put.1
@@ -80,7 +80,7 @@ pub returns-in_ok-insert_dump-in-Err-clause-old : goal.returns-in_ok-insert_dump
 returns-in_ok-insert_dump-in-Err-clause-old c =
     sym (none_found (arc_value {X = DumpParts})
     (λ d. d.slot) c.as_str.result.now c.self.inside.dumps.items c.as_slice.result.now
-    c.as_slice.ensures.value c.self.invariant.slots c.in-Err.place c.in-Err.ensures.found)
+    c.as_slice.ensures.value c.self.invariant.slots c.in-Err.index c.in-Err.ensures.found)
     ∙ ap (λ (n : List ℕ). find (λ (d : DumpParts). same_text d.slot n)
     (map arc_value c.self.inside.dumps.items))
     ((c.as_str.ensures ∙ ap (λ (d : DumpParts). d.slot) (c.behind-dump.view_is ∙ c.deref.ensures))

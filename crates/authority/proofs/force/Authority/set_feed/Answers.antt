@@ -17,14 +17,14 @@ replace_feed-old-requires-clause-firsts c =
       tell_long c.self.inside.feeds.items c.self.inside.firsts.items c.self.invariant.entries,
       long_found (arc_value {X = FeedParts})
           (λ f. f.url) c.as_str.result.now c.self.inside.feeds.items c.as_slice.result.now
-          c.as_slice.ensures.value c.self.invariant.urls c.in-Ok.place c.in-Ok.ensures.within,
+          c.as_slice.ensures.value c.self.invariant.urls c.in-Ok.index c.in-Ok.ensures.within,
     )
 
 pub invariant_of-self : goal.invariant_of-self
 invariant_of-self c =
     let put = set_found (arc_value {X = FeedParts}) (λ f. f.url) c.as_str.result.now
     c.self.inside.feeds.items c.as_slice.result.now c.as_slice.ensures.value c.self.invariant.urls
-    c.in_ok-feed.feed c.in-Ok.place c.replace_feed-old.new.feeds.items
+    c.parts-feed.result.0 c.in-Ok.index c.replace_feed-old.new.feeds.items
     (c.as_str.ensures ∙ ap (λ (f : FeedParts). f.url) (c.behind-feed.view_is ∙ c.deref.ensures))
     c.in-Ok.ensures.within c.in-Ok.ensures.found c.replace_feed-old.ensures.feeds in
     record {
@@ -34,9 +34,9 @@ invariant_of-self c =
       entries =
           rw (c.replace_feed-old.ensures.feeds, c.replace_feed-old.ensures.firsts)
           (tell_set c.self.inside.feeds.items c.self.inside.firsts.items
-          c.in-Ok.place c.in_ok-feed.feed c.in_ok-first.first c.self.invariant.entries
-          (subst (λ (f : FeedParts). TellsEntries f (arc_value c.in_ok-first.first))
-          (sym c.in_ok-feed.ensures.ok) c.in_ok-first.ensures));
+          c.in-Ok.index c.parts-feed.result.0 c.parts-feed.result.1 c.self.invariant.entries
+          (subst (λ (f : FeedParts). TellsEntries f (arc_value c.parts-feed.result.1))
+          (sym c.parts-feed.ensures.feed) c.parts-feed.ensures.told));
     }
 
 pub insert_feed-requires-clause-firsts : goal.insert_feed-requires-clause-firsts
@@ -46,19 +46,19 @@ insert_feed-requires-clause-firsts c =
       tell_long c.self.inside.feeds.items c.self.inside.firsts.items c.self.invariant.entries,
       long_missed (arc_value {X = FeedParts})
           (λ f. f.url) c.as_str.result.now c.self.inside.feeds.items c.as_slice.result.now
-          c.as_slice.ensures.value c.self.invariant.urls c.in-Err.place c.in-Err.ensures.within,
+          c.as_slice.ensures.value c.self.invariant.urls c.in-Err.index c.in-Err.ensures.within,
     )
 
 pub invariant_of-self-in-Err : goal.invariant_of-self-in-Err
 invariant_of-self-in-Err c =
     let put = insert_missed (arc_value {X = FeedParts}) (λ f. f.url)
     c.as_str.result.now c.self.inside.feeds.items c.as_slice.result.now c.as_slice.ensures.value
-    c.self.invariant.urls c.in_ok-feed.feed c.in-Err.place c.insert_feed.new.feeds.items
+    c.self.invariant.urls c.parts-feed.result.0 c.in-Err.index c.insert_feed.new.feeds.items
     (c.as_str.ensures ∙ ap (λ (f : FeedParts). f.url) (c.behind-feed.view_is ∙ c.deref.ensures))
     c.in-Err.ensures.within c.in-Err.ensures.found c.in_ok-insert_feed-in-Err.ensures.feeds in
     let below = long_missed (arc_value {X = FeedParts})
     (λ f. f.url) c.as_str.result.now c.self.inside.feeds.items c.as_slice.result.now
-    c.as_slice.ensures.value c.self.invariant.urls c.in-Err.place c.in-Err.ensures.within in
+    c.as_slice.ensures.value c.self.invariant.urls c.in-Err.index c.in-Err.ensures.within in
     record {
       slots = c.self.invariant.slots;
       urls = put.0;
@@ -67,21 +67,21 @@ invariant_of-self-in-Err c =
         c.in_ok-insert_feed-in-Err.ensures.feeds,
         c.in_ok-insert_feed-in-Err.ensures.firsts,
       ) (tell_insert c.self.inside.feeds.items c.self.inside.firsts.items
-          c.in-Err.place c.in_ok-feed.feed c.in_ok-first.first c.self.invariant.entries
-          (subst (λ (f : FeedParts). TellsEntries f (arc_value c.in_ok-first.first))
-          (sym c.in_ok-feed.ensures.ok) c.in_ok-first.ensures) below);
+          c.in-Err.index c.parts-feed.result.0 c.parts-feed.result.1 c.self.invariant.entries
+          (subst (λ (f : FeedParts). TellsEntries f (arc_value c.parts-feed.result.1))
+          (sym c.parts-feed.ensures.feed) c.parts-feed.ensures.told) below);
     }
 
 pub returns-in-Ok-clause-sources : goal.returns-in-Ok-clause-sources
 returns-in-Ok-clause-sources c =
     let put = set_found (arc_value {X = FeedParts}) (λ f. f.url) c.as_str.result.now
     c.self.inside.feeds.items c.as_slice.result.now c.as_slice.ensures.value c.self.invariant.urls
-    c.in_ok-feed.feed c.in-Ok.place c.replace_feed-old.new.feeds.items
+    c.parts-feed.result.0 c.in-Ok.index c.replace_feed-old.new.feeds.items
     (c.as_str.ensures ∙ ap (λ (f : FeedParts). f.url) (c.behind-feed.view_is ∙ c.deref.ensures))
     c.in-Ok.ensures.within c.in-Ok.ensures.found c.replace_feed-old.ensures.feeds in
     ap (λ (fs : List FeedParts). in_force (map arc_value c.self.inside.dumps.items) fs)
     (put.1 ∙ ap (λ (x : FeedParts). placed (λ f. f.url) x (map arc_value c.self.inside.feeds.items))
-    c.in_ok-feed.ensures.ok)
+    c.parts-feed.ensures.feed)
     ∙ ap (λ (s : InForce). record s { feeds = placed (λ f. f.url) c.args.feed s.feeds })
     c.self.view_is
 
@@ -89,12 +89,12 @@ pub returns-in-Ok-clause-old : goal.returns-in-Ok-clause-old
 returns-in-Ok-clause-old c =
     old_found (arc_value {X = FeedParts})
     (λ f. f.url) c.as_str.result.now c.self.inside.feeds.items c.as_slice.result.now
-    c.as_slice.ensures.value c.self.invariant.urls c.in-Ok.place c.replace_feed-old.result
+    c.as_slice.ensures.value c.self.invariant.urls c.in-Ok.index c.replace_feed-old.result
     c.in-Ok.ensures.within c.in-Ok.ensures.found c.replace_feed-old.ensures.old
     ∙ ap (λ (n : List ℕ). find (λ (f : FeedParts). same_text f.url n)
     (map arc_value c.self.inside.feeds.items))
     ((c.as_str.ensures ∙ ap (λ (f : FeedParts). f.url) (c.behind-feed.view_is ∙ c.deref.ensures))
-    ∙ ap (λ (f : FeedParts). f.url) c.in_ok-feed.ensures.ok)
+    ∙ ap (λ (f : FeedParts). f.url) c.parts-feed.ensures.feed)
     ∙ ap (λ (s : InForce). find (λ f. same_text f.url c.args.feed.url) s.feeds) c.self.view_is
 
 pub returns-in_ok-insert_feed-in-Err-clause-sources :
@@ -102,12 +102,12 @@ pub returns-in_ok-insert_feed-in-Err-clause-sources :
 returns-in_ok-insert_feed-in-Err-clause-sources c =
     let put = insert_missed (arc_value {X = FeedParts}) (λ f. f.url)
     c.as_str.result.now c.self.inside.feeds.items c.as_slice.result.now c.as_slice.ensures.value
-    c.self.invariant.urls c.in_ok-feed.feed c.in-Err.place c.insert_feed.new.feeds.items
+    c.self.invariant.urls c.parts-feed.result.0 c.in-Err.index c.insert_feed.new.feeds.items
     (c.as_str.ensures ∙ ap (λ (f : FeedParts). f.url) (c.behind-feed.view_is ∙ c.deref.ensures))
     c.in-Err.ensures.within c.in-Err.ensures.found c.in_ok-insert_feed-in-Err.ensures.feeds in
     ap (λ (fs : List FeedParts). in_force (map arc_value c.self.inside.dumps.items) fs)
     (put.1 ∙ ap (λ (x : FeedParts). placed (λ f. f.url) x (map arc_value c.self.inside.feeds.items))
-    c.in_ok-feed.ensures.ok)
+    c.parts-feed.ensures.feed)
     ∙ ap (λ (s : InForce). record s { feeds = placed (λ f. f.url) c.args.feed s.feeds })
     c.self.view_is
 
@@ -115,9 +115,9 @@ pub returns-in_ok-insert_feed-in-Err-clause-old : goal.returns-in_ok-insert_feed
 returns-in_ok-insert_feed-in-Err-clause-old c =
     sym (none_found (arc_value {X = FeedParts})
     (λ f. f.url) c.as_str.result.now c.self.inside.feeds.items c.as_slice.result.now
-    c.as_slice.ensures.value c.self.invariant.urls c.in-Err.place c.in-Err.ensures.found)
+    c.as_slice.ensures.value c.self.invariant.urls c.in-Err.index c.in-Err.ensures.found)
     ∙ ap (λ (n : List ℕ). find (λ (f : FeedParts). same_text f.url n)
     (map arc_value c.self.inside.feeds.items))
     ((c.as_str.ensures ∙ ap (λ (f : FeedParts). f.url) (c.behind-feed.view_is ∙ c.deref.ensures))
-    ∙ ap (λ (f : FeedParts). f.url) c.in_ok-feed.ensures.ok)
+    ∙ ap (λ (f : FeedParts). f.url) c.parts-feed.ensures.feed)
     ∙ ap (λ (s : InForce). find (λ f. same_text f.url c.args.feed.url) s.feeds) c.self.view_is

@@ -9,10 +9,10 @@ use Rattle.std.proofs.lemmas.List.Sorted.{ranks_by}
 use Rattle.geo_addr.specs.Ranges.{Ends, IsRange}
 use Rattle.geo_terms.specs.Apart.{boundaries_apart}
 use Rattle.geo_terms.specs.Boundaries.{AreBoundaries}
-use Rattle.geo_terms.specs.FirstIndex.{TellsFirst, placed_cmp, with_place}
+use Rattle.geo_terms.specs.FirstIndex.{TellsFirst, index_cmp, with_index}
 use Rattle.geo_terms.specs.declared.boundaries.Boundary.{Boundary}
 use Rattle.geo_terms.proofs.ApartLemmas.{apart_ordered, boundaries_found, tells_apart}
-use Rattle.geo_terms.proofs.IndexLemmas.{all_kept, each_seen, map_map, ordered_places, placed_total}
+use Rattle.geo_terms.proofs.IndexLemmas.{all_kept, each_seen, map_map, ordered_indexes, index_total}
 use Rattle.geo_terms.proofs.IndexLemmas.{sorted_seen, tells_first}
 use Rattle.geo_terms.proofs.first_index.FirstIndex.of.Goals as goal
 
@@ -21,7 +21,7 @@ invariant_of-result g c =
     let X = g.row.S.Denot in
     let range : X → Ends = g.S.Statement.range in
     let seen : ℕ × Bor X → ℕ × X = λ x. (x.0, x.1.now) in
-    let ys : List (ℕ × Bor X) = c.apart_in_some_order.new.placed.items in
+    let ys : List (ℕ × Bor X) = c.apart_in_some_order.new.indexed.items in
     let span : ℕ × X → ℕ × Ends = λ x. (x.0, range x.1) in
     let found : boundaries_apart (map span (map seen ys)) ≡ Some c.in-Some.boundaries.items =
     ap boundaries_apart (map_map seen span ys) ∙ sym c.in_ok-boundaries.ensures.found
@@ -39,7 +39,7 @@ returns-in-Some-clause-told g c =
     let X = g.row.S.Denot in
     let range : X → Ends = g.S.Statement.range in
     let seen : ℕ × Bor X → ℕ × X = λ x. (x.0, x.1.now) in
-    let ys : List (ℕ × Bor X) = c.apart_in_some_order.new.placed.items in
+    let ys : List (ℕ × Bor X) = c.apart_in_some_order.new.indexed.items in
     let span : ℕ × X → ℕ × Ends = λ x. (x.0, range x.1) in
     let found : boundaries_apart (map span (map seen ys)) ≡ Some c.in-Some.boundaries.items =
     ap boundaries_apart (map_map seen span ys) ∙ sym c.in_ok-boundaries.ensures.found
@@ -60,7 +60,7 @@ pub returns-in-Some-clause-kept : goal.returns-in-Some-clause-kept
 returns-in-Some-clause-kept g c =
     let X = g.row.S.Denot in
     let seen : ℕ × Bor X → ℕ × X = λ x. (x.0, x.1.now) in
-    let ys : List (ℕ × Bor X) = c.apart_in_some_order.new.placed.items in
+    let ys : List (ℕ × Bor X) = c.apart_in_some_order.new.indexed.items in
     let xs : List X = map (λ (s : Bor X). s.now) c.args.statements.now in
     let kept : All (λ (y : ℕ × Bor X). g.S.Statement.kept y.1.now) ys =
     rw c.in-Some.is at c.in_ok-boundaries.ensures.kept in
@@ -73,11 +73,11 @@ returns-in-Some-clause-kept g c =
 
 pub invariant_of-result-2 : goal.invariant_of-result-2
 invariant_of-result-2 g c =
-    let out : c.put_places.new.boundaries.items
-    ≡ map (with_place c.as_slice-4.result.now) c.in_ok-boundaries-2.boundaries.items =
-    c.put_places.ensures in
+    let out : c.put_indexes.new.boundaries.items
+    ≡ map (with_index c.as_slice-4.result.now) c.in_ok-boundaries-2.boundaries.items =
+    c.put_indexes.ensures in
     subst (λ (bs : List Boundary). IsNonDecreasingBy (λ (b : Boundary). b.at) bs) (sym out)
-    (ordered_places c.as_slice-4.result.now c.in_ok-boundaries-2.boundaries.items
+    (ordered_indexes c.as_slice-4.result.now c.in_ok-boundaries-2.boundaries.items
     c.in_ok-boundaries-2.ensures.ordered)
 
 pub returns-clause-told : goal.returns-clause-told
@@ -87,37 +87,37 @@ returns-clause-told g c =
     let ys : List (ℕ × Bor X) = c.sort_unstable_by.new.self.items in
     let xs : List X = map (λ (s : Bor X). s.now) c.args.statements.now in
     let sorted : IsSortedBy (λ (x y : ℕ × Bor X).
-    is_lt (placed_cmp g.S.Statement.order (seen x) (seen y))) ys =
+    is_lt (index_cmp g.S.Statement.order (seen x) (seen y))) ys =
     c.sort_unstable_by.ensures.sorted (λ x y.
-    is_lt (placed_cmp g.S.Statement.order (seen x) (seen y)))
-    (ranks_by (placed_total g.S.Statement.order g.met.S.Statement.total g.S.Statement.range)
+    is_lt (index_cmp g.S.Statement.order (seen x) (seen y)))
+    (ranks_by (index_total g.S.Statement.order g.met.S.Statement.total g.S.Statement.range)
     seen)
-    (answers_always _ _ _ (λ f a r q k. let e : r ≡ placed_cmp g.S.Statement.order (seen a.0.now)
+    (answers_always _ _ _ (λ f a r q k. let e : r ≡ index_cmp g.S.Statement.order (seen a.0.now)
     (seen a.1.0.now) = search rules in ap is_lt e)) in
     let same : IsPermutation (enumerate_from 0 xs) (map seen ys) =
     subst (λ (zs : List (ℕ × X)). IsPermutation zs (map seen ys)) c.in_ok-ranked.ensures
     (IsPermutation-map seen c.in_ok-ranked.ranked.items ys
-    (IsPermutation-trans c.in_ok-ranked.ranked.items c.apart_in_some_order.new.placed.items ys
+    (IsPermutation-trans c.in_ok-ranked.ranked.items c.apart_in_some_order.new.indexed.items ys
     c.apart_in_some_order.ensures.moved c.sort_unstable_by.ensures.permutation)) in
     let range : ℕ × X → Ends = λ x. g.S.Statement.range x.1 in
     let ranges : c.as_slice-2.result.now ≡ map range (map seen ys) =
     c.as_slice-2.ensures.value ∙ c.in_ok-ranges.ensures.ranges
     ∙ ap (map (λ (y : ℕ × Bor X). range (seen y))) c.as_slice.ensures.value
     ∙ sym (map_map seen range ys) in
-    let place : ℕ × X → ℕ = λ x. x.0 in
-    let places : c.as_slice-4.result.now ≡ map place (map seen ys) =
-    c.as_slice-4.ensures.value ∙ c.in_ok-places.ensures
-    ∙ ap (map (λ (y : ℕ × Bor X). place (seen y))) c.as_slice-3.ensures.value
-    ∙ sym (map_map seen place ys) in
-    let out : c.put_places.new.boundaries.items
-    ≡ map (with_place (map place (map seen ys))) c.in_ok-boundaries-2.boundaries.items =
-    c.put_places.ensures ∙ ap (λ (ps : List ℕ).
-    map (with_place ps) c.in_ok-boundaries-2.boundaries.items) places in
+    let index : ℕ × X → ℕ = λ x. x.0 in
+    let indexes : c.as_slice-4.result.now ≡ map index (map seen ys) =
+    c.as_slice-4.ensures.value ∙ c.in_ok-indexes.ensures
+    ∙ ap (map (λ (y : ℕ × Bor X). index (seen y))) c.as_slice-3.ensures.value
+    ∙ sym (map_map seen index ys) in
+    let out : c.put_indexes.new.boundaries.items
+    ≡ map (with_index (map index (map seen ys))) c.in_ok-boundaries-2.boundaries.items =
+    c.put_indexes.ensures ∙ ap (λ (ps : List ℕ).
+    map (with_index ps) c.in_ok-boundaries-2.boundaries.items) indexes in
     subst (λ (bs : List Boundary). TellsFirst g.S.Statement.order g.S.Statement.range xs bs)
     (sym out)
     (tells_first g.S.Statement.order g.met.S.Statement.total g.S.Statement.range xs (map seen ys)
     same c.in_ok-boundaries-2.boundaries.items
-    (sorted_seen seen (λ x y. is_lt (placed_cmp g.S.Statement.order x y)) ys sorted)
+    (sorted_seen seen (λ x y. is_lt (index_cmp g.S.Statement.order x y)) ys sorted)
     (subst (λ (rs : List Ends). AreBoundaries rs c.in_ok-boundaries-2.boundaries.items) ranges
     c.in_ok-boundaries-2.ensures))
 
@@ -130,7 +130,7 @@ returns-clause-kept g c =
     let same : IsPermutation (enumerate_from 0 xs) (map seen ys) =
     subst (λ (zs : List (ℕ × X)). IsPermutation zs (map seen ys)) c.in_ok-ranked.ensures
     (IsPermutation-map seen c.in_ok-ranked.ranked.items ys
-    (IsPermutation-trans c.in_ok-ranked.ranked.items c.apart_in_some_order.new.placed.items ys
+    (IsPermutation-trans c.in_ok-ranked.ranked.items c.apart_in_some_order.new.indexed.items ys
     c.apart_in_some_order.ensures.moved c.sort_unstable_by.ensures.permutation)) in
     let all : All (λ (y : ℕ × Bor X). g.S.Statement.kept y.1.now) ys =
     subst (λ (zs : List (ℕ × Bor X)). All (λ y. g.S.Statement.kept y.1.now) zs)

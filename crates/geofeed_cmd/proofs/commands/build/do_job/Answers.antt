@@ -14,5 +14,5 @@ returns-clause-comes g c =
     c.standing_stays.ensures.begins meta.epoch meta.name c.in-Ok.session c.in-Ok.ensures in
     let planned_here =
     plan ∙ ap (λ (list : List Step). planned (moves_of list) start) (sym c.as_slice-list.ensures) in
-    c.do_whole.ensures.comes first command start planned_here
+    c.do_whole-status.ensures.comes first command start planned_here
     (record { tells = told; aside = refl; stands = begun }) refl refl

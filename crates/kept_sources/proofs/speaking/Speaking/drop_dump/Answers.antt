@@ -31,10 +31,10 @@ returns-in_err-old-clause-not_there c =
     ↔ (find (λ (d : DumpParts). same_text d.slot c.args.slot.now) s.dumps ≡ None))
     (c.in_ok-left.ensures ∙ c.self.view_is) c.in_err-old.ensures.not_there)
 
-pub returns-in_err-places-clause-not_there : goal.returns-in_err-places-clause-not_there
-returns-in_err-places-clause-not_there c =
-    memory_where_there _ c.from_residual-in_err-places.result
-    c.from_residual-in_err-places.ensures.1
+pub returns-in_err-cuts-clause-not_there : goal.returns-in_err-cuts-clause-not_there
+returns-in_err-cuts-clause-not_there c =
+    memory_where_there _ c.from_residual-in_err-cuts.result
+    c.from_residual-in_err-cuts.ensures.1
     (not_none (c.in-Some.ensures
     ∙ ap (find (λ (d : DumpParts). same_text d.slot c.args.slot.now)) c.dumps.ensures.dumps
     ∙ ap (λ (s : InForce). find (λ (d : DumpParts). same_text d.slot c.args.slot.now) s.dumps)

@@ -11,9 +11,9 @@ use Rattle.geo_terms.specs.Sources.{InForce, references}
 use Rattle.geo_terms.specs.declared.statement.Reference.{Reference}
 use Rattle.kept_sources.proofs.ShelfLemmas.{pass_on}
 use Rattle.kept_sources.proofs.SpeakingLemmas.{zip_removed}
-use Rattle.cut_segments.specs.CutPlaces.{AreCutsOf}
-use Rattle.kept_sources.specs.FeedPlaces.{HasCutsOf, reference_places}
-use Rattle.kept_sources.specs.declared.speaking.FeedPlaces.{FeedPlaces}
+use Rattle.cut_segments.specs.CutPoints.{AreCutsOf}
+use Rattle.kept_sources.specs.FeedCuts.{HasCutsOf, reference_cuts}
+use Rattle.kept_sources.specs.declared.ready.FeedCuts.{FeedCuts}
 use Rattle.std.specs.List.{AllZip}
 use Rattle.kept_sources.proofs.speaking.Speaking.drop_feed.Goals as goal
 
@@ -30,19 +30,19 @@ pub invariant_of-self-2 : goal.invariant_of-self-2
 invariant_of-self-2 c = record {
   of_references =
       subst (λ (s : InForce). AreCutsOf (map (λ (r : Reference). r.range) (references s))
-      (reference_places c.self.inside.references))
+      (reference_cuts c.self.inside.references))
       (sym c.in_ok-old.ensures.sources) c.self.invariant.of_references;
   of_feeds =
       subst (λ (s : InForce). AllZip HasCutsOf s.feeds
-      (map (arc_value {X = FeedPlaces}) c.take_out.new.shelf.items))
+      (map (arc_value {X = FeedCuts}) c.take_out.new.shelf.items))
       (sym c.in_ok-old.ensures.sources)
-      (subst (λ (ks : List FeedPlaces). AllZip HasCutsOf (removed (λ (f : FeedParts). f.url)
+      (subst (λ (ks : List FeedCuts). AllZip HasCutsOf (removed (λ (f : FeedParts). f.url)
       c.args.url.now c.self.inside.authority.feeds) ks) (sym c.take_out.ensures)
       (zip_removed c.args.url.now c.self.inside.authority.feeds
-      (map (arc_value {X = FeedPlaces}) c.self.inside.feeds.items) c.self.invariant.of_feeds));
+      (map (arc_value {X = FeedCuts}) c.self.inside.feeds.items) c.self.invariant.of_feeds));
   ordered =
-      subst (λ (ks : List FeedPlaces). AreInOrder (λ (k : FeedPlaces). k.url) ks)
+      subst (λ (ks : List FeedCuts). AreInOrder (λ (k : FeedCuts). k.url) ks)
       (sym c.take_out.ensures)
-      (removed_in_order (λ (k : FeedPlaces). k.url) c.args.url.now
-      (map (arc_value {X = FeedPlaces}) c.self.inside.feeds.items) c.self.invariant.ordered);
+      (removed_in_order (λ (k : FeedCuts). k.url) c.args.url.now
+      (map (arc_value {X = FeedCuts}) c.self.inside.feeds.items) c.self.invariant.ordered);
 }

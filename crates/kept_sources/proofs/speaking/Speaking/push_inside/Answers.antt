@@ -8,17 +8,17 @@ use Rattle.geo_terms.specs.Sources.{InForce, references}
 use Rattle.geo_terms.specs.declared.statement.Reference.{Reference}
 use Rattle.cut_segments.proofs.CutLemmas.{gathered, none_gathered}
 use Rattle.kept_sources.proofs.SpeakingLemmas.{gathered_feeds, shared_ascend}
-use Rattle.cut_segments.specs.CutPlaces.{AreCutsInside}
-use Rattle.kept_sources.specs.FeedPlaces.{HasCutsOf, kept_places}
-use Rattle.kept_sources.specs.declared.speaking.FeedPlaces.{FeedPlaces}
+use Rattle.cut_segments.specs.CutPoints.{AreCutsInside}
+use Rattle.kept_sources.specs.FeedCuts.{HasCutsOf, kept_cuts}
+use Rattle.kept_sources.specs.declared.ready.FeedCuts.{FeedCuts}
 use Rattle.kept_sources.proofs.speaking.Speaking.push_inside.Goals as goal
 
 pub push_feeds_inside-requires-clause-ascending : goal.push_feeds_inside-requires-clause-ascending
 push_feeds_inside-requires-clause-ascending c =
-    subst (λ (fs : List (Arc FeedPlaces Global)).
-    All (λ (f : Arc FeedPlaces Global). IsStrictlyIncreasing (kept_places f)) fs)
+    subst (λ (fs : List (Arc FeedCuts Global)).
+    All (λ (f : Arc FeedCuts Global). IsStrictlyIncreasing (kept_cuts f)) fs)
     (sym c.as_slice.ensures.value)
-    (shared_ascend (arc_value {X = FeedPlaces}) c.self.inside.authority.feeds
+    (shared_ascend (arc_value {X = FeedCuts}) c.self.inside.authority.feeds
     c.self.inside.feeds.items c.self.invariant.of_feeds)
 
 pub returns : goal.returns
@@ -26,16 +26,16 @@ returns c =
     let first : AreCutsInside (map (λ (r : Reference). r.range) (references c.args.self.now))
     c.args.bounds.now c.push_inside.new.found.items =
     gathered [] (map (λ (r : Reference). r.range) (references c.args.self.now)) c.args.bounds.now
-    c.kept_references.result.now c.args.places.now.items c.push_inside.new.found.items
+    c.kept_references.result.now c.args.cuts.now.items c.push_inside.new.found.items
     (subst (λ (xs : List ℕ). AreCutsInside [] c.args.bounds.now xs) (sym c.requires.none)
     (none_gathered c.args.bounds.now)) c.kept_references.ensures c.in_ok-push_inside.ensures in
-    gathered_feeds (arc_value {X = FeedPlaces}) (map (λ (r : Reference). r.range)
+    gathered_feeds (arc_value {X = FeedCuts}) (map (λ (r : Reference). r.range)
     (references c.args.self.now)) c.args.bounds.now c.args.self.now.feeds c.self.inside.feeds.items
-    c.push_inside.new.found.items c.push_feeds_inside.new.places.items
-    first (subst (λ (s : InForce). AllZip HasCutsOf s.feeds (map (arc_value {X = FeedPlaces})
+    c.push_inside.new.found.items c.push_feeds_inside.new.cuts.items
+    first (subst (λ (s : InForce). AllZip HasCutsOf s.feeds (map (arc_value {X = FeedCuts})
     c.self.inside.feeds.items)) c.self.view_is c.self.invariant.of_feeds)
     (λ a.
-    subst (λ (fs : List (Arc FeedPlaces Global)). Contains c.push_feeds_inside.new.places.items a
-    ↔ (Contains c.push_inside.new.found.items a ⊎ (Any (λ (f : Arc FeedPlaces Global).
-    Contains (kept_places f) a) fs × Any (λ r. IsWithin r a) c.args.bounds.now)))
+    subst (λ (fs : List (Arc FeedCuts Global)). Contains c.push_feeds_inside.new.cuts.items a
+    ↔ (Contains c.push_inside.new.found.items a ⊎ (Any (λ (f : Arc FeedCuts Global).
+    Contains (kept_cuts f) a) fs × Any (λ r. IsWithin r a) c.args.bounds.now)))
     c.as_slice.ensures.value (c.in_ok-push_feeds_inside.ensures a))

@@ -1,7 +1,7 @@
 use Rattle.std.proofs.Common.{ℕ, List, length, take, map as map_list, refl, sym, ap, ◌∙◌}
 use Rattle.std.specs.Global.{Vec}
 use Rattle.std.proofs.lemmas.List.{length-map}
-use Rattle.mmdb_data.specs.View.{tree}
+use Rattle.mmdb_data.specs.View.{value_tree}
 use Rattle.mmdb_data.specs.Packing.{Packed, in_full}
 use Rattle.mmdb_data.specs.Section.{entry_view, packed_of}
 use Rattle.mmdb_data.proofs.Appending.{packed_is, cut_back, put_reads}
@@ -9,9 +9,9 @@ use Rattle.mmdb_data.proofs.packer.Packer.put.Goals as goal
 
 pub returns-in-Ok-clause-read : goal.returns-in-Ok-clause-read
 returns-in-Ok-clause-read c =
-    put_reads (tree c.args.value.now) c.args.self.now
+    put_reads (value_tree c.args.value.now) c.args.self.now
     (packed_of c.append_top.new.section) c.len-len.result
-    (c.in-Ok.ensures.appended ∙ ap (in_full (tree c.args.value.now)) c.self.view_is)
+    (c.in-Ok.ensures.appended ∙ ap (in_full (value_tree c.args.value.now)) c.self.view_is)
     (c.len-len.ensures ∙ c.self.inside.section.bytes.ok.0
     ∙ ap (λ (s : Packed). length s.bytes) c.self.view_is)
     (c.requires, c.in-Ok.ensures.typed)

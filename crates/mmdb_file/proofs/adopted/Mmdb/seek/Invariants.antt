@@ -1,15 +1,15 @@
 use Rattle.std.proofs.Common.{◌≡◌, ◌≤◌}
 use Rattle.geo_addr.specs.Bits.{bits_of}
-use Rattle.mmdb_tree.specs.Nodes.{record_at}
+use Rattle.mmdb_tree.specs.Nodes.{node_record}
 use Rattle.mmdb_file.specs.Walk.{seek}
 use Rattle.mmdb_file.proofs.adopted.Mmdb.seek.Given as goal
 
 abbrev pub invariant-loop-record : goal.invariant-loop-record
 invariant-loop-record l = record {
   few : l.left ≤ 128;
-  same : seek (record_at l.self-inside.bits l.self-inside.tree.now) l.self-inside.nodes l.«record»
+  same : seek (node_record l.self-inside.bits l.self-inside.tree.now) l.self-inside.nodes l.«record»
       (bits_of l.left l.at.0)
-      ≡ seek (record_at l.self-inside.bits l.self-inside.tree.now) l.self-inside.nodes 0
+      ≡ seek (node_record l.self-inside.bits l.self-inside.tree.now) l.self-inside.nodes 0
       (bits_of 128 l.at.0);
 }
 

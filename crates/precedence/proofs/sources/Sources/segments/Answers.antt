@@ -10,12 +10,12 @@ use Rattle.precedence.proofs.sources.Sources.segments.Goals as goal
 pub segments_between-requires : goal.segments_between-requires
 segments_between-requires c =
     subst IsNonDecreasing (sym c.as_slice-2.ensures.value)
-    (rises c.in_ok-places.places.items c.in_ok-places.ensures.ascending)
+    (rises c.in_ok-points.points.items c.in_ok-points.ensures.ascending)
 
 pub returns-clause-segments : goal.returns-clause-segments
 returns-clause-segments c =
     segments_of_sources c.args.self.now c.args.touched.now c.as_slice.result.now
-    c.in_ok-places.places.items c.in_ok-places.ensures.exact c.in_ok-places.ensures.ascending
+    c.in_ok-points.points.items c.in_ok-points.ensures.exact c.in_ok-points.ensures.ascending
     (λ a within touched. subst (λ (rs : List Ends). Any (λ r. IsWithin r a) rs)
     (sym c.as_slice.ensures.value) (c.in_ok-bounds.ensures.covered a within touched))
     c.in_ok-segments.segments.items (subst (λ (ps : List ℕ). AreSegments c.args.touched.now ps

@@ -1,4 +1,4 @@
--- A leaf gets its place; a node gets its set, behind those of its children.
+-- A leaf gets its index; a node gets its set, behind those of its children.
 use Rattle.std.proofs.Common.{◌≡◌, ap, sym, ◌∙◌, subst}
 use Rattle.std.proofs.lemmas.Result.{on_ok_weaker}
 use Rattle.trie_core.specs.Store.{meaning}

@@ -8,10 +8,10 @@ use Rattle.publish_least.proofs.memo.Memo.best_of_halves.Goals as goal
 pub returns : goal.returns
 returns c pairs memo =
     let table = table_of c.args.self.now in
-    let left = IsSet-read pairs table memo c.args.left c.place_of.result c.set_of.result.now
-    c.requires.left c.place_of.ensures c.set_of.ensures in
-    let right = IsSet-read pairs table memo c.args.right c.place_of-2.result c.set_of-2.result.now
-    c.requires.right c.place_of-2.ensures c.set_of-2.ensures in
+    let left = IsSet-read pairs table memo c.args.left c.index_of.result c.set_of.result.now
+    c.requires.left c.index_of.ensures c.set_of.ensures in
+    let right = IsSet-read pairs table memo c.args.right c.index_of-2.result c.set_of-2.result.now
+    c.requires.right c.index_of-2.ensures c.set_of-2.ensures in
     IfOk-weaker c.joined.result _ _
     (λ set joined. IsSet-joined table.order (meaning pairs c.args.left) (meaning pairs c.args.right)
     c.set_of.result.now c.set_of-2.result.now left right set.items joined) c.joined.ensures

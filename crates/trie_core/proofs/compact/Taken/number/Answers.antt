@@ -1,4 +1,4 @@
-use Rattle.std.proofs.Common.{◌∙◌, sym}
+use Rattle.std.proofs.Common.{sym}
 use Rattle.trie_core.proofs.CompactLemmas.{number_from_position}
 use Rattle.trie_core.proofs.compact.Taken.number.Goals as goal
 

@@ -1,4 +1,3 @@
-use Rattle.std.proofs.Common.{◌∙◌}
 use Rattle.std.proofs.lemmas.Bool.{eq-eqb, ne_eqb}
 use Rattle.trie_core.specs.NearHash.{finish}
 use Rattle.trie_core.proofs.near.NearHasherHasher.finish.Goals as goal

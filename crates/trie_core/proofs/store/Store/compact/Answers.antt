@@ -1,5 +1,5 @@
-use Rattle.std.proofs.Common.{◌≡◌, ◌<◌, ◌≤◌, ◌+◌, ◌∙◌, ◌++◌, [], ◌∷◌, List, length, take, get_or}
-use Rattle.std.proofs.Common.{sym, ap, subst, arith}
+use Rattle.std.proofs.Common.{◌≡◌, ◌<◌, List, length, take}
+use Rattle.std.proofs.Common.{sym, subst}
 use Rattle.std.proofs.lemmas.Grind.{take_at_read}
 use Rattle.std.proofs.lemmas.List.{take_all}
 use Rattle.trie_core.specs.declared.node.Rec.TheVariants.{Leaf}
@@ -22,7 +22,7 @@ loop-root-preserved c =
     let more =
     take_at_read c.args.roots.now c.loop-root.root-index (record { 0 = Leaf 0 }) within in
     subst (λ (rs : List Root). AreRootsTaken c.args.self.now c.take_root.new.taken.nodes.keys
-    c.take_root.new.taken.pairs.keys rs c.take_root.new.made.items) (sym more.1)
+    c.take_root.new.taken.pairs rs c.take_root.new.made.items) (sym more.1)
     (c.in_ok-take_root.ensures.roots (take c.loop-root.root-index c.args.roots.now)
     c.loop-root.invariant)
 
@@ -30,13 +30,13 @@ pub returns-clause-exact : goal.returns-clause-exact
 returns-clause-exact c =
     let all : take c.loop-root.root-index c.args.roots.now ≡ c.args.roots.now =
     take_all c.loop-root.root-index c.args.roots.now c.loop-root-test.false in
-    subst (λ (rs : List Root). HoldsExactly c.loop-root.taken.pairs.keys
+    subst (λ (rs : List Root). HoldsExactly c.loop-root.taken.pairs
     (trees_of_roots c.args.self.now rs)) all
     (HoldsExactly-from_taken c.args.self.now
-    c.loop-root.taken.nodes.keys c.loop-root.taken.pairs.keys
+    c.loop-root.taken.nodes.keys c.loop-root.taken.pairs
     (take c.loop-root.root-index c.args.roots.now) c.loop-root.made.items c.loop-root.invariant)
 
 pub returns-clause-few : goal.returns-clause-few
 returns-clause-few c =
-    length-le_from_taken c.args.self.now c.loop-root.taken.nodes.keys c.loop-root.taken.pairs.keys
+    length-le_from_taken c.args.self.now c.loop-root.taken.nodes.keys c.loop-root.taken.pairs
     c.loop-root.invariant.taken

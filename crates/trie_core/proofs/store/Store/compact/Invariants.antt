@@ -4,5 +4,5 @@ use Rattle.trie_core.proofs.store.Store.compact.Given as goal
 
 abbrev pub invariant-loop-root : goal.invariant-loop-root
 invariant-loop-root l =
-    AreRootsTaken l.self l.taken.nodes.keys l.taken.pairs.keys
+    AreRootsTaken l.self l.taken.nodes.keys l.taken.pairs
     (take l.root-index l.roots) l.made.items

@@ -10,13 +10,13 @@ returns-in-Some-clause-meaning g c =
     c.in-Some.ensures.1
 
 -- the store after the pair went in
-made : (g : Rattle.trie_core.proofs.store.Store.mk.Given.Over) (c : goal.In_ok-index g)
-    → IsMade c.args.self.now c.place.new.pairs.keys c.args.left c.args.right c.in_ok-index.index
+made : (g : Rattle.trie_core.proofs.store.Store.mk.Given.Over) (c : goal.In_ok-number g)
+    → IsMade c.args.self.now c.add.new.self c.args.left c.args.right c.in_ok-number.number
 made g c =
-    let old = c.self.inside.pairs.keys in
+    let old = c.self.inside.pairs in
     rw (← c.self.view_is)
-    (IsMade-from_added old c.place.new.pairs.keys c.args.left c.args.right c.in_ok-index.index
-    c.self.invariant c.in_ok-index.ensures.ok c.in_ok-index.ensures.at c.in_ok-index.ensures.few
+    (IsMade-from_added old c.add.new.self c.args.left c.args.right c.in_ok-number.number
+    c.self.invariant c.in_ok-number.ensures.ok c.in_ok-number.ensures.at c.in_ok-number.ensures.few
     (rw c.self.view_is c.requires.left_of)
     (rw c.self.view_is c.requires.right_of) (rw c.self.view_is c.requires.left_low)
     (rw c.self.view_is c.requires.right_low) c.in_default.ensures)

@@ -1,7 +1,7 @@
 use Rattle.std.proofs.Common.{◌≡◌, ℕ, ◌-◌, ◌∙◌, sym, ap, subst, arith, take}
 use Rattle.geo_addr.specs.Bits.{bits_of}
 use Rattle.geo_addr.specs.Ranges.{IsBlock}
-use Rattle.trie_core.specs.Tree.{Tree, height, look}
+use Rattle.trie_core.specs.Tree.{Tree, look}
 use Rattle.trie_core.specs.Store.{meaning, tree_of}
 use Rattle.trie_core.specs.Graft.{way_of, sub}
 use Rattle.trie_core.proofs.GraftLemmas.{sub-zero, sub-one, look-sub, bits_of-inside}

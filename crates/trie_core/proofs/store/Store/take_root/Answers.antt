@@ -8,9 +8,9 @@ use Rattle.trie_core.proofs.store.Store.take_root.Goals as goal
 pub returns-clause-roots : goal.returns-clause-roots
 returns-clause-roots c = λ roots done.
     subst (λ (ms : List Root). AreRootsTaken c.args.self.now c.take.new.taken.nodes.keys
-    c.take.new.taken.pairs.keys (roots ++ c.args.root ∷ []) ms) (sym c.in_ok-push.ensures.items)
+    c.take.new.taken.pairs (roots ++ c.args.root ∷ []) ms) (sym c.in_ok-push.ensures.items)
     (AreRootsTaken-push c.args.self.now c.args.taken.now.nodes.keys c.take.new.taken.nodes.keys
-    c.args.taken.now.pairs.keys c.take.new.taken.pairs.keys roots c.args.made.now.items c.args.root
+    c.args.taken.now.pairs c.take.new.taken.pairs roots c.args.made.now.items c.args.root
     c.in_ok-rec.rec
     done c.in_ok-rec.ensures.taken
     c.in_ok-rec.ensures.kept c.in_ok-rec.ensures.under c.in_ok-rec.ensures.of

@@ -1,9 +1,8 @@
-use Rattle.std.proofs.Common.{◌≡◌, ◌∙◌, ◌++◌, List, ap, subst}
-use Rattle.std.specs.List.Sorted.{IsPermutation}
+use Rattle.std.proofs.Common.{◌≡◌, ◌∙◌, ◌++◌, List, ap}
 use Rattle.geo_addr.specs.Ranges.{Ends}
-use Rattle.geo_terms.specs.declared.statement.Reference.{Reference}
 use Rattle.geo_terms.specs.SourceForm.{DumpParts}
-use Rattle.source_changes.specs.Changes.{SetDump, changes, references_in, named, reference_changes}
+use Rattle.source_changes.specs.Changes.{SetDump, references_in, named}
+use Rattle.update_session.proofs.ChangeLemmas.{changes_by_dump}
 use Rattle.update_session.proofs.KeptLemmas.{IsSession-changed}
 use Rattle.update_session.proofs.session.Session.set_rpsl.Goals as goal
 
@@ -17,12 +16,8 @@ invariant_of-self-2 c =
     ≡ references_in (named (λ x. x.slot) c.args.dump.slot c.self.inside.sources.dumps) =
     c.references_of-old.ensures
     ∙ (λ i. references_in (named (λ x. x.slot) (name i) (c.dumps.ensures.dumps i))) in
-    let same : IsPermutation
-    (changes (SetDump c.args.dump) c.self.inside.sources) c.in_ok-grounds.grounds.items =
-    subst (λ (xs : List Reference). IsPermutation (reference_changes xs c.args.dump.refs)
-    c.in_ok-grounds.grounds.items) old
-    (subst (λ (xs : List Reference). IsPermutation (reference_changes c.references_of-old.result.now
-    xs) c.in_ok-grounds.grounds.items) new c.in_ok-grounds.ensures) in (
+    let same = changes_by_dump c.self.inside.sources c.args.dump _ _
+    c.in_ok-grounds.grounds.items old new c.in_ok-grounds.ensures in (
       c.self.invariant.0,
       IsSession-changed c.sources_stay.ensures c.kept_by_one_more.ensures c.self.inside.sources
           c.set_rpsl.new.self (SetDump c.args.dump) _ _ _ c.self.inside.touched.items

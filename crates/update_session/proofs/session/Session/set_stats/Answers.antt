@@ -1,11 +1,9 @@
 use Rattle.std.proofs.Common.{◌≡◌, ◌∙◌, ◌++◌, List, ap, subst}
-use Rattle.std.specs.List.Sorted.{IsPermutation}
 use Rattle.geo_addr.specs.Ranges.{Ends}
-use Rattle.geo_terms.specs.DelegationForm.{DelegationParts}
 use Rattle.geo_terms.specs.SourceForm.{StatsParts}
-use Rattle.source_changes.specs.Changes.{SetStats, changes, delegations_in, named}
-use Rattle.source_changes.specs.Changes.{delegation_changes}
+use Rattle.source_changes.specs.Changes.{SetStats, delegations_in, named}
 use Rattle.source_changes.specs.Keeping.{AreDelegations}
+use Rattle.update_session.proofs.ChangeLemmas.{changes_by_stats}
 use Rattle.update_session.proofs.KeptLemmas.{IsSession-changed}
 use Rattle.update_session.proofs.session.Session.set_stats.Goals as goal
 
@@ -21,13 +19,8 @@ invariant_of-self-2 c =
     ∙ (λ i. delegations_in (named (λ x. x.slot) (name i) (c.stats-2.ensures.files i))) in
     let sound : AreDelegations c.args.stats.rows =
     subst AreDelegations new (λ k d below. (c.keep_all.ensures k d below).place) in
-    let same : IsPermutation
-    (changes (SetStats c.args.stats) c.self.inside.sources) c.in_ok-grounds.grounds.items =
-    subst (λ (xs : List DelegationParts). IsPermutation (delegation_changes xs c.args.stats.rows)
-    c.in_ok-grounds.grounds.items) old
-    (subst (λ (xs : List DelegationParts). IsPermutation
-    (delegation_changes c.delegations_of-old.result.now xs) c.in_ok-grounds.grounds.items) new
-    c.in_ok-grounds.ensures) in (
+    let same = changes_by_stats c.self.inside.sources c.args.stats _ _
+    c.in_ok-grounds.grounds.items old new c.in_ok-grounds.ensures in (
       c.self.invariant.0,
       IsSession-changed c.sources_stay.ensures c.kept_by_one_more.ensures c.self.inside.sources
           c.set_stats.new.self (SetStats c.args.stats) _ _ _ c.self.inside.touched.items

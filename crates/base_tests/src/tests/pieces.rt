@@ -1,0 +1,180 @@
+//! The parallel map: its results, and what its gates see.
+use fan_work::{Forks, Work, map_pieces};
+use geo_addr::Memory;
+use geo_outside::{Gate, OpenGate};
+use std::alloc::Global;
+use std::sync::atomic::{AtomicU64, Ordering};
+use std::thread;
+
+/// Work that adds one.
+#[derive(Drop)]
+struct AddOne;
+
+impl Work<u32, u64> for AddOne {
+    ghost use Rattle.std.specs.Prelude.{◌≡◌, ◌+◌};
+
+    ghost related = { λ work x y. y ≡ x + 1 };
+
+    fn done(&self, _alloc: Global, item: &u32) -> Result<u64, Memory> {
+        Ok(u64::from(*item) + 1)
+    }
+}
+
+/// A gate that notes which pieces came, and how many calls there were.
+#[derive(Drop)]
+struct Register {
+    came: AtomicU64,
+    calls: AtomicU64,
+}
+
+impl Register {
+    fn new() -> Register {
+        Register {
+            came: AtomicU64::new(0),
+            calls: AtomicU64::new(0),
+        }
+    }
+}
+
+impl Gate for Register {
+    fn enter(&self, piece: u32) {
+        self.came
+            .fetch_or(1u64.wrapping_shl(piece), Ordering::SeqCst);
+        self.calls.fetch_add(1, Ordering::SeqCst);
+    }
+}
+
+/// Work that says whether the gate had been entered by the piece of the item with this number.
+#[derive(Drop)]
+struct Witness<'a> {
+    gate: &'a Register,
+    pieces: [u32; 5],
+}
+
+impl Work<usize, bool> for Witness<'_> {
+    ghost use Rattle.std.specs.Prelude.{⊤};
+
+    ghost related = { λ work x y. ⊤ };
+
+    fn done(&self, _alloc: Global, item: &usize) -> Result<bool, Memory> {
+        let piece = self.pieces[*item % 5];
+        let came = self.gate.came.load(Ordering::SeqCst);
+        Ok(came.wrapping_shr(piece) & 1 == 1)
+    }
+}
+
+/// A gate at which two pieces wait for one another, though not without end.
+#[derive(Drop)]
+struct Meeting {
+    first: AtomicU64,
+    second: AtomicU64,
+    met: AtomicU64,
+}
+
+impl Gate for Meeting {
+    fn enter(&self, piece: u32) {
+        let (mine, other) = if piece == 0 {
+            (&self.first, &self.second)
+        } else {
+            (&self.second, &self.first)
+        };
+        mine.store(1, Ordering::SeqCst);
+        for _ in 0..1_000_000u32 {
+            if other.load(Ordering::SeqCst) == 1 {
+                self.met.fetch_add(1, Ordering::SeqCst);
+                return;
+            }
+            thread::yield_now();
+        }
+    }
+}
+
+#[test]
+fn results_stand_in_the_items_order(rt: HostRuntime) -> Result<(), Memory> {
+    let alloc = rt.alloc();
+    for pieces in [1u32, 3, 64] {
+        let results = map_pieces(
+            &Forks {
+                rt: &rt,
+                alloc,
+                gate: &OpenGate,
+                pieces,
+            },
+            &[1, 2, 3, 4, 5],
+            &AddOne,
+        )?;
+        assert_eq!(rt;
+            results.as_slice(),
+            [2, 3, 4, 5, 6].as_slice(),
+            "{pieces} pieces"
+        );
+        let none = map_pieces(
+            &Forks {
+                rt: &rt,
+                alloc,
+                gate: &OpenGate,
+                pieces,
+            },
+            &[],
+            &AddOne,
+        )?;
+        assert_eq!(rt; none.len(), 0, "{pieces} pieces");
+    }
+    Ok(())
+}
+
+// The numbers of the pieces of 5 items, reckoned by hand.
+#[test]
+fn each_piece_with_items_enters_once_before_its_first(rt: HostRuntime) -> Result<(), Memory> {
+    let alloc = rt.alloc();
+    let cases: [(u32, [u32; 5]); 4] = [
+        (1, [0, 0, 0, 0, 0]),
+        (3, [0, 1, 1, 2, 2]),
+        (7, [1, 2, 4, 5, 6]),
+        (64, [12, 25, 38, 51, 63]),
+    ];
+    for (pieces, of_items) in cases {
+        let gate = Register::new();
+        let work = Witness {
+            gate: &gate,
+            pieces: of_items,
+        };
+        let seen = map_pieces(
+            &Forks {
+                rt: &rt,
+                alloc,
+                gate: &gate,
+                pieces,
+            },
+            &[0, 1, 2, 3, 4],
+            &work,
+        )?;
+        assert_eq!(rt; seen.as_slice(), [true; 5].as_slice(), "{pieces} pieces");
+        let came = gate.came.load(Ordering::SeqCst);
+        let calls = gate.calls.load(Ordering::SeqCst);
+        assert_eq!(rt; came.count_ones(), pieces.min(5), "{pieces} pieces");
+        assert_eq!(rt; calls, u64::from(pieces.min(5)), "{pieces} pieces");
+    }
+    Ok(())
+}
+
+#[test]
+fn two_pieces_meet(rt: HostRuntime) -> Result<(), Memory> {
+    let gate = Meeting {
+        first: AtomicU64::new(0),
+        second: AtomicU64::new(0),
+        met: AtomicU64::new(0),
+    };
+    map_pieces(
+        &Forks {
+            rt: &rt,
+            alloc: rt.alloc(),
+            gate: &gate,
+            pieces: 2,
+        },
+        &[1, 2],
+        &AddOne,
+    )?;
+    assert_eq!(rt; gate.met.load(Ordering::SeqCst), 2);
+    Ok(())
+}

@@ -1,0 +1,106 @@
+-- Grounds that are joined, or left out where others have their addresses.
+use Rattle.std.proofs.Common.{◌≡◌, ◌∙◌, ℕ, ◌+◌, ◌-◌, ◌^◌, ◌<◌, ◌≤◌, Bool, true, false, cond, ◌&&◌}
+use Rattle.std.proofs.Common.{◌||◌, ltb, leb, max, List, [], ◌∷◌, ◌++◌, length, get_or, count_by}
+use Rattle.std.proofs.Common.{refl, sym, ap, arith, not}
+use Rattle.std.specs.Bool.{beq}
+use Rattle.std.proofs.lemmas.Bool.Decides.{nat_tests}
+use Rattle.std.proofs.lemmas.List.Folds.{list_any-append, list_any_at}
+use Rattle.std.proofs.lemmas.List.Sums.{sum_by-cons}
+use Rattle.geo_addr.specs.Ranges.{Ends, ground_first, holds, is_v4}
+use Rattle.source_changes.specs.Touched.{is_touched}
+use Rattle.cut_segments.specs.Segments.{AreSegments}
+
+-- tests that pass alike are the same
+alike : (x y : Bool) → (x ≡ true → y ≡ true) → (y ≡ true → x ≡ true) → x ≡ y
+alike true true to from = refl
+alike true false to from = sym (to refl)
+alike false true to from = from refl
+alike false false to from = refl
+
+-- of two ranges of one family the farther end is of that family
+max_family : (l m : ℕ) → ltb l (2 ^ 32) ≡ ltb m (2 ^ 32) → ltb (max l m) (2 ^ 32) ≡ ltb l (2 ^ 32)
+max_family l m same =
+    alike (ltb (max l m) (2 ^ 32)) (ltb l (2 ^ 32))
+    (λ e. grind (arith, nat_tests)) (λ e. grind (arith, nat_tests))
+
+-- where a range ends in its family does not matter for where its ground begins
+same_first : (first last far : ℕ) → ltb far (2 ^ 32) ≡ ltb last (2 ^ 32)
+    → ground_first (record { first = first; last = far })
+    ≡ ground_first (record { first = first; last = last })
+unfolding ground_first
+same_first first last far same = ap (λ b. cond b first (max first (2 ^ 32))) same
+
+-- the addresses of two ranges, of which the second begins in the first one or right behind it
+covers : (f n l m a : ℕ) → f ≤ n → n - 1 ≤ l
+    → (leb f a && leb a (max l m)) ≡ ((leb f a && leb a l) || (leb n a && leb a m))
+covers f n l m a le near =
+    alike (leb f a && leb a (max l m)) ((leb f a && leb a l) || (leb n a && leb a m))
+    (λ e. grind (arith, nat_tests)) (λ e. grind (arith, nat_tests))
+
+pub joined_holds : (g n : Ends) → is_v4 g ≡ is_v4 n → ground_first g ≤ ground_first n
+    → ground_first n - 1 ≤ g.last → (a : ℕ)
+    → holds (record { first = g.first; last = max g.last n.last }) a ≡ (holds g a || holds n a)
+unfolding holds
+joined_holds g n same le near a =
+    ap (λ f. leb f a && leb a (max g.last n.last))
+    (same_first g.first g.last (max g.last n.last) (max_family g.last n.last same))
+    ∙ covers (ground_first g) (ground_first n) g.last n.last a le near
+
+-- a ground that lies in one of several
+pub touched_by_one : (kept : List Ends) (at : ℕ) (d ground : Ends) → at < length kept
+    → ground_first (get_or kept at d) ≤ ground_first ground → ground.last ≤ (get_or kept at d).last
+    → (a : ℕ) → holds ground a ≡ true → is_touched kept a ≡ true
+unfolding holds
+touched_by_one kept at d ground below first last a e =
+    list_any_at (λ r. holds r a) kept at d below (grind (arith, nat_tests))
+
+-- counting by tests that pass alike
+count_alike : (p q : ℕ → Bool) → ((a : ℕ) → p a ≡ q a) → (cs : List ℕ)
+    → count_by p cs ≡ count_by q cs
+count_alike p q same [] = refl
+count_alike p q same (c ∷ cs) =
+    sum_by-cons (λ x. cond (p x) 1 0) c cs
+    ∙ ap (λ b. cond b 1 0 + count_by p cs) (same c)
+    ∙ ap (λ n. cond (q c) 1 0 + n) (count_alike p q same cs)
+    ∙ sym (sum_by-cons (λ x. cond (q x) 1 0) c cs)
+
+-- segments of grounds that have the same addresses and are no more
+pub segments_of_fewer : (touched fewer : List Ends) (cuts : List ℕ) (out : List Ends)
+    → ((a : ℕ) → is_touched fewer a ≡ is_touched touched a) → length fewer ≤ length touched
+    → AreSegments fewer cuts out → AreSegments touched cuts out
+segments_of_fewer touched fewer cuts out same few h = record {
+  ranges = h.ranges;
+  apart = h.apart;
+  inside = λ a is. sym (same a) ∙ h.inside a is;
+  covered = λ a is. h.covered a (same a ∙ is);
+  uncut = h.uncut;
+  few = omega (
+    arith,
+    h.few,
+    few,
+    count_alike (is_touched fewer) (is_touched touched) same cuts,
+  );
+}
+
+-- one more ground as a range of its own
+pub with_one : (xs : List Ends) (r : Ends) (a : ℕ)
+    → is_touched (xs ++ r ∷ []) a ≡ (is_touched xs a || holds r a)
+with_one xs r a = list_any-append (λ x. holds x a) xs (r ∷ []) ∙ last (is_touched xs a) (holds r a)
+  where
+    last : (x y : Bool) → (x || (y || false)) ≡ (x || y)
+    last true y = refl
+    last false true = refl
+    last false false = refl
+
+pub behind : (xs ys : List Ends) (a : ℕ)
+    → is_touched (xs ++ ys) a ≡ (is_touched xs a || is_touched ys a)
+behind xs ys a = list_any-append (λ x. holds x a) xs ys
+
+pub le_from_test : (x y : ℕ) → leb x y ≡ true → x ≤ y
+le_from_test x y e = grind (arith, nat_tests)
+
+pub same_if : (x y : Bool) → not (beq x y) ≡ false → x ≡ y
+same_if true true e = refl
+same_if true false e = e
+same_if false true e = sym e
+same_if false false e = refl

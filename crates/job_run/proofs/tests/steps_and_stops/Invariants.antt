@@ -1,5 +1,0 @@
-use Rattle.job_run.proofs.tests.steps_and_stops.Given as goal
-
--- the counter is that of the blank
-abbrev pub ghosts-done : goal.ghosts-done
-ghosts-done g a = record { name = a.blank.name; parts = a.blank.parts }

@@ -1,0 +1,12 @@
+use Rattle.std.proofs.Common.{◌∙◌, ap}
+use Rattle.geo_terms.specs.Precedence.{speaking_entry}
+use Rattle.geo_terms.specs.Sources.{InForce}
+use Rattle.precedence.proofs.SourceLemmas.{entry_by_parts}
+use Rattle.precedence.proofs.sources.Sources.entry_near.Goals as goal
+
+pub returns : goal.returns
+returns c =
+    c.entry_near.ensures ∙ ap (λ (s : InForce). speaking_entry s c.args.at.0) c.authority.ensures
+    ∙ entry_by_parts c.self.inside.speaking c.self.inside.statistics
+    c.self.inside.overriding c.args.at.0
+    ∙ ap (λ (s : InForce). speaking_entry s c.args.at.0) c.self.view_is

@@ -1,0 +1,163 @@
+//! The index of references beside the plain look-up.
+use geo_addr::{Addr, Range, Text, parse_block};
+use geo_terms::Reference;
+use geo_terms::plain::first_at;
+use inetnum_index::Index;
+use std::alloc::Global;
+use std::test::Fail;
+
+const TOP_V4: u128 = 0xFFFF_FFFF;
+
+const FEED: &str = "https://e.example/f.csv";
+
+const OTHER: &str = "https://e.example/g.csv";
+
+// A reference of a range, in a slot and on a line that tell it apart.
+fn reference(
+    alloc: Global,
+    name: (&str, u64),
+    ends: (u128, u128),
+    modified: u64,
+    url: &str,
+) -> Result<Reference, Fail> {
+    let (slot, line) = name;
+    let (first, last) = ends;
+    if first > last {
+        return Err(Fail::from("no range"));
+    }
+    Ok(Reference {
+        slot: Text::of(alloc, slot)?,
+        line,
+        range: Range { first, last },
+        modified,
+        url: Text::of(alloc, url)?,
+    })
+}
+
+// Lines 1 and 2 nest, 3 and 4 overlap, 5 and 6 are of one range and one date in two slots, 7 is
+// older than these; the others touch the ends of both families.
+fn references(alloc: Global) -> Result<Vec<Reference>, Fail> {
+    let table: [(&str, u64, u128, u128, u64, &str); 12] = [
+        ("a", 1, 0xC000_0000, 0xC000_FFFF, 0, FEED),
+        ("a", 2, 0xC000_0200, 0xC000_02FF, 0, FEED),
+        ("a", 3, 0x0A00_0000, 0x0A00_0009, 0, OTHER),
+        ("a", 4, 0x0A00_0005, 0x0A00_0014, 0, OTHER),
+        ("b", 5, 0x0B00_0000, 0x0B00_00FF, 20, FEED),
+        ("a", 6, 0x0B00_0000, 0x0B00_00FF, 20, FEED),
+        ("a", 7, 0x0B00_0000, 0x0B00_00FF, 10, FEED),
+        ("a", 8, 0, 0, 0, OTHER),
+        ("a", 9, TOP_V4, TOP_V4, 0, OTHER),
+        ("a", 10, 0, u128::MAX, 0, OTHER),
+        ("a", 11, 1 << 32, 1 << 32, 0, OTHER),
+        ("a", 12, u128::MAX, u128::MAX, 0, OTHER),
+    ];
+    let mut refs = Vec::new(alloc);
+    for (slot, line, first, last, modified, url) in table {
+        refs.push(reference(alloc, (slot, line), (first, last), modified, url)?)?;
+    }
+    Ok(refs)
+}
+
+fn line_of(found: Option<&Reference>) -> u64 {
+    match found {
+        Some(reference) => reference.line,
+        None => 0,
+    }
+}
+
+#[test]
+fn smallest_then_latest_then_slot(rt: HostRuntime) -> Result<(), Fail> {
+    let alloc = rt.alloc();
+    let index = Index::build(alloc, references(alloc)?)?;
+    let table: [(u128, u64); 13] = [
+        (0xC000_0301, 1),
+        (0xC000_02FF, 2),
+        (0xC001_0000, 0),
+        (0x0A00_0007, 3),
+        (0x0A00_000A, 4),
+        (0x0B00_00FF, 6),
+        (0, 8),
+        (1, 0),
+        (TOP_V4, 9),
+        (1 << 32, 11),
+        ((1 << 32) + 1, 10),
+        (u128::MAX - 1, 10),
+        (u128::MAX, 12),
+    ];
+    for (number, line) in table {
+        assert!(rt; line_of(index.best_at(Addr(number))) == line);
+    }
+    Ok(())
+}
+
+// The line of the reference that covers a block; 0 where none does, and where the two calls differ.
+fn covering_line(index: &Index, url: &str, text: &str) -> Result<u64, Fail> {
+    let block = parse_block(text.as_bytes())?;
+    let found = index.covering(block, url);
+    if index.covers(block, url) == found.is_some() {
+        Ok(line_of(found))
+    } else {
+        Err(Fail::from("two answers"))
+    }
+}
+
+#[test]
+fn covered_by_the_first_that_contains(rt: HostRuntime) -> Result<(), Fail> {
+    let alloc = rt.alloc();
+    let index = Index::build(alloc, references(alloc)?)?;
+    let table: [(&str, &str, u64); 11] = [
+        (FEED, "192.0.2.0/25", 2),
+        (FEED, "192.0.3.0/24", 1),
+        (FEED, "192.0.0.0/15", 0),
+        (FEED, "192.0.2.0/24", 2),
+        (FEED, "11.0.0.0/28", 6),
+        (OTHER, "11.0.0.0/28", 0),
+        (OTHER, "10.0.0.8/32", 3),
+        (OTHER, "10.0.0.8/30", 4),
+        (OTHER, "0.0.0.1/32", 0),
+        (OTHER, "::/0", 10),
+        ("https://e.example/h.csv", "192.0.2.0/25", 0),
+    ];
+    for (url, text, line) in table {
+        let found = covering_line(&index, url, text)?;
+        assert!(rt; found == line);
+    }
+    Ok(())
+}
+
+// The next of a row of numbers that look random.
+fn next(number: &mut u64) -> u64 {
+    *number = number
+        .wrapping_mul(6_364_136_223_846_793_005)
+        .wrapping_add(1_442_695_040_888_963_407);
+    *number >> 33
+}
+
+// Many references whose ranges nest, overlap and repeat, on both sides
+// of the border of the families.
+fn made(alloc: Global, count: u64) -> Result<Vec<Reference>, Fail> {
+    let mut number = 1;
+    let mut refs = Vec::new(alloc);
+    for line in 0..count {
+        let low = u128::from(next(&mut number) & 0xFFF);
+        let first = (TOP_V4 - 0x800).wrapping_add(low);
+        let size = u128::from(next(&mut number) & 0x3F);
+        let last = first.saturating_add(size);
+        let modified = next(&mut number) & 3;
+        refs.push(reference(alloc, ("a", line), (first, last), modified, FEED)?)?;
+    }
+    Ok(refs)
+}
+
+#[test]
+fn as_the_plain_look_up(rt: HostRuntime) -> Result<(), Fail> {
+    let alloc = rt.alloc();
+    let refs = made(alloc, 2000)?;
+    let index = Index::build(alloc, made(alloc, 2000)?)?;
+    for step in 0..600 {
+        let at = Addr((TOP_V4 - 0x900) + u128::from(step * 8u32));
+        let plain = first_at(refs.as_slice(), at, None);
+        assert!(rt; line_of(index.best_at(at)) == line_of(plain));
+    }
+    Ok(())
+}

@@ -1,0 +1,38 @@
+//! Rests of lines, their contents, and which are handed to the `csv` reader.
+use csv_lines::{Content, all_handed, content_of, rest_of};
+use std::test::Fail;
+
+#[test]
+fn rests_and_contents(rt: HostRuntime) -> Result<(), Fail> {
+    let table: [(&[u8], &[u8], Content); 12] = [
+        (b"", b"", Content::Blank),
+        (b" \t# a,b", b"", Content::Blank),
+        (b" a , b # c", b"a , b", Content::Fields),
+        (b"\"a#b\"", b"\"a", Content::NoFields),
+        (b"\"", b"\"", Content::NoFields),
+        (b"\"\"", b"\"\"", Content::Fields),
+        (b"\"a\"b", b"\"a\"b", Content::NoFields),
+        (b"a\"b", b"a\"b", Content::NoFields),
+        (b"a\rb", b"a\rb", Content::NoFields),
+        (b"\"a\"\"b\",", b"\"a\"\"b\",", Content::Fields),
+        (b"\xFF\"", b"\xFF\"", Content::NotText),
+        (b"\xFF#\xC3", b"\xFF", Content::NotText),
+    ];
+    for (line, rest, content) in table {
+        assert!(rt; rest_of(line) == rest);
+        assert!(rt; content_of(rest) == content);
+    }
+    Ok(())
+}
+
+#[test]
+fn rests_with_quotes_are_handed_over(rt: HostRuntime) -> Result<(), Fail> {
+    let alloc = rt.alloc();
+    let file: &[u8] =
+        b"\xEF\xBB\xBF\"a\",b\r\n#\n\xEF\xBB\xBF\"c\"\"\", d \n \"c\"\"\", d \nx\"\n,\n\"\xFF\"\n";
+    let handed = all_handed(alloc, file)?;
+    assert!(rt; handed.as_slice() == b"\n\"a\",b\n\"c\"\"\", d\n".as_slice());
+    let handed = all_handed(alloc, b"a,b\nc\n")?;
+    assert!(rt; handed.as_slice() == b"\n".as_slice());
+    Ok(())
+}

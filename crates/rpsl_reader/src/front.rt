@@ -1,0 +1,58 @@
+//! The first bytes of a line, which are looked at together.
+ghost use Rattle.std.specs.Prelude.{◌≡◌, ℕ, ◌<◌, ◌≤◌, length, slice_index, IsTrue, nat_lt};
+ghost use Rattle.std.specs.Prelude.{if◌then◌else◌};
+ghost use Rattle.rpsl_reader.specs.Attributes.{is_name_byte};
+
+use std::simd::prelude::*;
+
+/// How many bytes are looked at together.
+pub(crate) const TOGETHER: usize = 16;
+
+/// How many of the first bytes of a line are small letters, digits and hyphens, which may all stand
+/// in a name.
+pub(crate) fn plain_front(line: &[u8]) -> usize
+    requires { 16 ≤ length line.now }
+    ensures within { result ≤ 16 }
+    ensures named { (k : ℕ) → k < result → IsTrue (is_name_byte (slice_index line.now k)) }
+{
+    let bytes = u8x16::from_slice(line);
+    let no_letters = unless_between(bytes, b'a', b'z', u8x16::splat(255));
+    let neither = unless_between(bytes, b'0', b'9', no_letters);
+    leading_zeros(unless_between(bytes, b'-', b'-', neither))
+}
+
+// Zeros where bytes lie between two others, and elsewhere the lanes of `others`.
+#[inline(always)]
+fn unless_between(bytes: u8x16, low: u8, high: u8, others: u8x16) -> u8x16
+    ensures long { length result ≡ 16 }
+    ensures lanes { (k : ℕ) → k < 16 → slice_index result k
+        ≡ (if nat_lt (slice_index bytes k) low then slice_index others k
+        else (if nat_lt high (slice_index bytes k) then slice_index others k else 0)) }
+{
+    let above = where_less(u8x16::splat(high), bytes, others, u8x16::splat(0));
+    where_less(bytes, u8x16::splat(low), others, above)
+}
+
+// The lanes of `chosen` where a byte is less than another, and elsewhere those of `others`.
+#[inline(always)]
+fn where_less(bytes: u8x16, than: u8x16, chosen: u8x16, others: u8x16) -> u8x16
+    ensures long { length result ≡ 16 }
+    ensures lanes { (k : ℕ) → k < 16 → slice_index result k
+        ≡ (if nat_lt (slice_index bytes k) (slice_index than k) then slice_index chosen k
+        else slice_index others k) }
+{
+    bytes.simd_lt(than).select(chosen, others)
+}
+
+// How many lanes come before the first that is not zero.
+#[inline(always)]
+fn leading_zeros(bytes: u8x16) -> usize
+    ensures within { result ≤ 16 }
+    ensures zeros { (k : ℕ) → k < result → slice_index bytes k ≡ 0 }
+{
+    let others = bytes.simd_ne(u8x16::splat(0)).to_bitmask();
+    if others == 0 {
+        return TOGETHER;
+    }
+    others.trailing_zeros() as usize
+}

@@ -1,0 +1,228 @@
+//! The pairs of a store's nodes, each found by the later of its two children.
+ghost use Rattle.std.specs.Prelude.{◌≡◌, ◌≢◌, ℕ, suc, ◌+◌, ◌-◌, ◌^◌, ◌<◌, ◌++◌, ◌∷◌, [], ◌↔◌};
+ghost use Rattle.std.specs.Prelude.{length, replicate, slice_get, Some, Contains, MatchOption};
+ghost use Rattle.std.specs.Prelude.{IfOk, OnOk, OnErr, IsErrOf};
+ghost use Rattle.trie_core.specs.Pairs.{number_or_zero, later, IsNoted};
+ghost use Rattle.trie_core.specs.Store.{IsAdded};
+
+use crate::fault::StoreFault;
+use crate::near::Near;
+use crate::node::{Pair, Rec};
+use geo_addr::Memory;
+use indexmap::IndexSet;
+use std::alloc::Global;
+use std::marker::Model;
+
+/// The most nodes that a store holds: one less than there are node numbers.
+const MOST_NODES: usize = 0xffff_ffff;
+
+/// The pairs of a store in the order in which they came, each once.
+///
+/// Most nodes become a child of one other node alone, right after they were made. So the first pair
+/// of which a node is the later child is found at that node's number, with no hash; only the other
+/// pairs are in a set.
+#[derive(Drop)]
+pub(crate) struct Pairs {
+    pairs: Vec<Pair>,
+    // At each node's number one more than the number of the first pair whose later child it is, and
+    // 0 where there is none. Pairs of two leaves are taken as pairs of node 0.
+    firsts: Vec<u32>,
+    // The pairs that are no first ones, and their numbers.
+    others: IndexSet<Pair, Near>,
+    numbers: Vec<u32>,
+}
+
+impl Model for Pairs {
+    ghost use Rattle.std.specs.Prelude.{List};
+    ghost use Rattle.trie_core.specs.declared.node.Pair.{Pair};
+    ghost use Rattle.trie_core.specs.Pairs.{AreFound};
+
+    ghost Value = { List Pair };
+
+    ghost view = { λ s. s.pairs.items };
+
+    ghost invariant = { λ s. AreFound s.pairs.items s.firsts.items s.others.keys s.numbers.items };
+}
+
+// What the later child of a pair tells of it.
+enum Told {
+    Held(u32),
+    Missing,
+    Unknown,
+}
+
+impl Pairs {
+    /// No pairs; it takes no memory.
+    pub(crate) fn new(alloc: Global) -> Pairs
+        ensures { result ≡ [] }
+    {
+        Pairs {
+            pairs: Vec::new(alloc),
+            firsts: Vec::new(alloc),
+            others: IndexSet::with_hasher(alloc, Near::new()),
+            numbers: Vec::new(alloc),
+        }
+    }
+
+    /// The number of pairs.
+    pub(crate) fn len(&self) -> usize
+        ensures len { result ≡ length self.now }
+        ensures few { length self.now < 2 ^ 32 }
+    {
+        self.pairs.len()
+    }
+
+    /// The pair with this number.
+    pub(crate) fn at(&self, number: u32) -> Pair
+        requires { number < length self.now }
+        ensures { slice_get self.now number ≡ Some result }
+    {
+        self.pairs[number as usize]
+    }
+
+    /// The number of the pair, which goes last where it is not yet there.
+    pub(crate) fn add(&mut self, pair: Pair) -> Result<u32, StoreFault>
+        ensures at { IfOk result (λ k. slice_get self.new k ≡ Some pair) }
+        ensures ok { IfOk result (λ k. IsAdded self.old self.new pair) }
+        ensures err { OnErr result (self.new ≡ self.old) }
+        ensures refused { OnErr result (Contains self.old pair → ⊥) }
+        ensures full { IsErrOf result StoreFault.Full
+            ↔ ((length self.old + 1 ≡ 2 ^ 32) × (Contains self.old pair → ⊥)) }
+        ensures few { length self.new < 2 ^ 32 }
+    {
+        if let Some(number) = self.find(pair) {
+            return Ok(number);
+        }
+        if self.len() == MOST_NODES {
+            return Err(StoreFault::Full);
+        }
+        match self.push(pair) {
+            Ok(number) => Ok(number),
+            Err(_) => Err(StoreFault::Memory),
+        }
+    }
+
+    // The number of the pair, if it is there.
+    fn find(&self, pair: Pair) -> Option<u32>
+        ensures found { MatchOption result (Contains self.now pair → ⊥)
+            (λ k. slice_get self.now k ≡ Some pair) }
+        ensures few { length self.now < 2 ^ 32 }
+    {
+        match first_of(self.pairs.as_slice(), self.firsts.as_slice(), pair) {
+            Told::Held(number) => Some(number),
+            Told::Missing => None,
+            Told::Unknown => match self.others.get_index_of(&pair) {
+                Some(index) => Some(self.numbers[index]),
+                None => None,
+            },
+        }
+    }
+
+    // Puts a new pair last, and gives its number.
+    fn push(&mut self, pair: Pair) -> Result<u32, Memory>
+        requires few { length self.old + 1 < 2 ^ 32 }
+        requires new { Contains self.old pair → ⊥ }
+        ensures number { IfOk result (λ k. k ≡ length self.old) }
+        ensures pushed { OnOk result (self.new ≡ self.old ++ pair ∷ []) }
+        ensures err { OnErr result (self.new ≡ self.old) }
+    {
+        let number = self.pairs.len() as u32;
+        self.pairs.reserve(1)?;
+        make_room(&mut self.firsts, later(pair))?;
+        note(
+            &mut self.firsts,
+            &mut self.others,
+            &mut self.numbers,
+            pair,
+            number,
+        )?;
+        self.pairs.push_reserved(pair);
+        Ok(number)
+    }
+}
+
+// What stands at the later child of the pair.
+fn first_of(pairs: &[Pair], firsts: &[u32], pair: Pair) -> Told
+    ensures held { (k : ℕ) → result ≡ Told.Held k → slice_get pairs.now k ≡ Some pair }
+    ensures missing { result ≡ Told.Missing
+        → (m : ℕ) → slice_get firsts.now (later pair) ≢ Some (suc m) }
+    ensures unknown { result ≡ Told.Unknown → (k : ℕ) → slice_get pairs.now k ≡ Some pair
+        → slice_get firsts.now (later pair) ≢ Some (suc k) }
+{
+    let Some(first) = firsts.get(later(pair)) else {
+        return Told::Missing;
+    };
+    let Some(number) = first.checked_sub(1) else {
+        return Told::Missing;
+    };
+    let Some(held) = pairs.get(number as usize) else {
+        return Told::Unknown;
+    };
+    if *held == pair {
+        return Told::Held(number);
+    }
+    Told::Unknown
+}
+
+// Notes the number of a new pair at its later child where no number stands there yet, and else among
+// the others.
+fn note(
+    firsts: &mut Vec<u32>,
+    others: &mut IndexSet<Pair, Near>,
+    numbers: &mut Vec<u32>,
+    pair: Pair,
+    number: u32,
+) -> Result<(), Memory>
+    requires within { later pair < length firsts.old.items }
+    requires few { number + 1 < 2 ^ 32 }
+    ensures noted { OnOk result (IsNoted firsts.old.items firsts.new.items
+        others.old.keys others.new.keys numbers.old.items numbers.new.items pair number) }
+    ensures firsts { OnErr result (firsts.new.items ≡ firsts.old.items) }
+    ensures others { OnErr result (others.new.keys ≡ others.old.keys) }
+    ensures numbers { OnErr result (numbers.new.items ≡ numbers.old.items) }
+{
+    let at = later(pair);
+    if firsts[at] == 0 {
+        firsts[at] = number + 1;
+        return Ok(());
+    }
+    numbers.reserve(1)?;
+    others.insert(pair)?;
+    numbers.push_reserved(number);
+    Ok(())
+}
+
+// Puts zeros behind the list until it has this index.
+fn make_room(list: &mut Vec<u32>, index: usize) -> Result<(), Memory>
+    requires { index < 2 ^ 32 }
+    ensures zeros { list.new.items
+        ≡ list.old.items ++ replicate (length list.new.items - length list.old.items) 0 }
+    ensures within { OnOk result (index < length list.new.items) }
+    ensures err { OnErr result (list.new.items ≡ list.old.items) }
+{
+    let len = index + 1;
+    if list.len() < len {
+        list.resize(len, 0)?;
+    }
+    Ok(())
+}
+
+// The number of the later child of a pair, and 0 where both are leaves.
+fn later(pair: Pair) -> usize
+    ensures number { result ≡ later pair }
+    ensures few { result < 2 ^ 32 }
+{
+    let left = number_or_zero(pair.left);
+    let right = number_or_zero(pair.right);
+    left.max(right) as usize
+}
+
+// The number of a node, and 0 of a leaf.
+fn number_or_zero(rec: Rec) -> u32
+    ensures { result ≡ number_or_zero rec }
+{
+    match rec {
+        Rec::Leaf(_) => 0,
+        Rec::Node(id) => id.0,
+    }
+}
