@@ -9,7 +9,7 @@ cd "$(dirname "${BASH_SOURCE[0]}")/.." || exit 1
 
 # looked_up NAME: what a lookup prints, and its status in `status`. No process but the program's own is made for it.
 looked_up() {
-    "$program" lookup "$1" 128.0.0.1 > printed
+    "$program" lookup "$1" 128.0.0.1 > printed 2> /dev/null
     status=$?
     printed=
     IFS= read -r -d '' printed < printed
