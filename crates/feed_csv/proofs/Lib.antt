@@ -1,2 +1,3 @@
 mod CleanLemmas
 pub mod FileLemmas
+mod PartLemmas

@@ -2,21 +2,23 @@
 ghost use Rattle.std.specs.Prelude.{◌≡◌, ◌≢◌, ◌<◌, ◌≤◌, ◌↔◌, ◌++◌, ℕ, [], List, Some, length, map};
 ghost use Rattle.std.specs.Prelude.{IfOk, IsSome, OnOk, option_to_list};
 ghost use Rattle.csv_lines.specs.Rests.{CanRead, Stands, handed};
-ghost use Rattle.feed_csv.specs.File.{AreClean, accepted, refused, entry_of, fault_of, feed};
-ghost use Rattle.feed_csv.specs.File.{longest, most, note_of};
+ghost use Rattle.feed_csv.specs.File.{AreClean, accepted, entry_of, fault_of, feed, longest};
+ghost use Rattle.feed_csv.specs.File.{most, note_of};
+ghost use Rattle.feed_csv.specs.Parts.{IsFileRead, accepted_in, refused_in};
 
 use crate::verdict::{Verdict, read_line};
 use csv::{ByteRecord, Reader};
 use csv_lines::{Fault, RepeatRules, all_handed, judge, reader_of};
-use geo_addr::{Line, Lines, List, Memory, Text};
+use geo_addr::{Line, List, Memory, Text};
 use geo_terms::{Entry, Feed, Note, Origin, Rule, SourceFault, Texts};
+use line_parts::LinePart;
 use std::alloc::Global;
 
 /// The most bytes of a feed.
 pub const LONGEST_FEED: usize = 67_108_864;
 
 /// The most lines that pass the line rules.
-const MOST: usize = 2_097_152;
+pub(crate) const MOST: usize = 2_097_152;
 
 /// For each so many bytes of a file room for one entry is taken ahead; few files have shorter lines
 /// on the average.
@@ -36,7 +38,18 @@ pub fn read_feed(alloc: Global, url: &str, bytes: &[u8]) -> Result<Feed, SourceF
     if bytes.len() > LONGEST_FEED {
         return Err(SourceFault::TooLong);
     }
-    let found = read_lines(alloc, bytes)?;
+    let found = read_lines(alloc, LinePart::whole(bytes), bytes.len(), MOST)?;
+    let feed = feed_of(alloc, url, found)?;
+    Ok(feed)
+}
+
+/// The feed under this URL of what was found in a file.
+pub(crate) fn feed_of(alloc: Global, url: &str, found: Found) -> Result<Feed, Memory>
+    requires { (file : List ℕ) × IsFileRead file found }
+    ensures read { (file : List ℕ) → IsFileRead file found
+        → IfOk result (λ said. said ≡ feed url.now file) }
+    ensures clean { IfOk result (λ said. AreClean said.entries) }
+{
     let rules = RepeatRules {
         repeats: Rule::F07,
         differs: Rule::F08,
@@ -51,62 +64,83 @@ pub fn read_feed(alloc: Global, url: &str, bytes: &[u8]) -> Result<Feed, SourceF
     })
 }
 
+/// What the lines of a part say by themselves.
+#[derive(Drop)]
+pub(crate) struct Found {
+    pub entries: Vec<Entry>,
+    pub faults: Vec<Fault>,
+}
+
 // What is found in the lines so far.
 #[derive(Drop)]
-struct Found {
+struct Reading {
     entries: Vec<Entry>,
     faults: Vec<Fault>,
     texts: Texts,
     row: ByteRecord,
 }
 
-// The entries and the faults of the lines by themselves.
-fn read_lines(alloc: Global, bytes: &[u8]) -> Result<Found, SourceFault>
-    ensures entries { IfOk result (λ found. found.entries.items ≡ accepted bytes.now) }
-    ensures faults { IfOk result (λ found. found.faults.items ≡ refused bytes.now) }
-    ensures within { IfOk result (λ found. length found.entries.items ≤ most) }
-    ensures too_many { result ≡ Err SourceFault.TooMany → most < length (accepted bytes.now) }
+/// The entries and the faults of the lines of a part of a file of `size` bytes by themselves, where
+/// at most `limit` lines pass the line rules.
+pub(crate) fn read_lines(
+    alloc: Global,
+    part: LinePart,
+    size: usize,
+    limit: usize,
+) -> Result<Found, SourceFault>
+    ensures entries { IfOk result (λ found. found.entries.items ≡ accepted_in part.entry) }
+    ensures faults { IfOk result (λ found. found.faults.items ≡ refused_in part.entry) }
+    ensures within { IfOk result (λ found. length found.entries.items ≤ limit) }
+    ensures too_many { result ≡ Err SourceFault.TooMany → limit < length (accepted_in part.entry) }
     ensures too_long { result ≢ Err SourceFault.TooLong }
 {
-    let handed = all_handed(alloc, bytes)?;
+    let handed = all_handed(alloc, part.text)?;
     let mut reader = reader_of(alloc, handed.as_slice());
-    let entries = with_room(alloc, bytes)?;
-    let mut found = Found {
+    let entries = with_room(alloc, size)?;
+    let mut found = Reading {
         entries,
         faults: Vec::new(alloc),
         texts: Texts::new(alloc),
         row: ByteRecord::new(alloc),
     };
-    for line in Lines::of(bytes) {
-        take_line(line, &mut reader, &mut found)?;
+    for line in part.lines() {
+        take_line(line, limit, &mut reader, &mut found)?;
     }
-    Ok(found)
+    Ok(Found {
+        entries: found.entries,
+        faults: found.faults,
+    })
 }
 
-// No entries, with room for those of a file, so that they are not moved as they come.
-fn with_room(alloc: Global, bytes: &[u8]) -> Result<Vec<Entry>, Memory>
+// No entries, with room for those of so many bytes, so that they are not moved as they come.
+fn with_room(alloc: Global, size: usize) -> Result<Vec<Entry>, Memory>
     ensures { IfOk result (λ entries. entries.items ≡ []) }
 {
-    let room = (bytes.len() / SHORT_LINE).min(MOST);
+    let room = (size / SHORT_LINE).min(MOST);
     let entries = Vec::with_capacity(alloc, room)?;
     Ok(entries)
 }
 
 // Adds what one more line says.
-fn take_line(line: Line, reader: &mut Reader<&[u8]>, found: &mut Found) -> Result<(), SourceFault>
-    requires few { length found.old.entries.items ≤ most }
+fn take_line(
+    line: Line,
+    limit: usize,
+    reader: &mut Reader<&[u8]>,
+    found: &mut Reading,
+) -> Result<(), SourceFault>
+    requires few { length found.old.entries.items ≤ limit }
     requires reads { CanRead (λ s. Some s.now) reader.old line.text.now }
     ensures entries { OnOk result (found.new.entries.items ≡ found.old.entries.items
         ++ option_to_list (entry_of (line.entry.number, line.entry.text.now))) }
     ensures faults { OnOk result (found.new.faults.items ≡ found.old.faults.items
         ++ option_to_list (fault_of (line.entry.number, line.entry.text.now))) }
-    ensures within { OnOk result (length found.new.entries.items ≤ most) }
+    ensures within { OnOk result (length found.new.entries.items ≤ limit) }
     ensures stands { (left : List ℕ)
         → Stands (λ s. Some s.now) reader.old (handed line.entry.text.now ++ left)
         → OnOk result (Stands (λ s. Some s.now) reader.new left) }
     ensures too_many { result ≡ Err SourceFault.TooMany
         → IsSome (entry_of (line.entry.number, line.entry.text.now))
-        × (length found.old.entries.items ≡ most) }
+        × (length found.old.entries.items ≡ limit) }
     ensures too_long { result ≢ Err SourceFault.TooLong }
 {
     match read_line(reader, line.text, &mut found.row, &mut found.texts)? {
@@ -119,7 +153,7 @@ fn take_line(line: Line, reader: &mut Reader<&[u8]>, found: &mut Found) -> Resul
             found.faults.push(fault).map_err(Memory::from)?;
         }
         Verdict::Accepted(block, said) => {
-            if found.entries.len() == MOST {
+            if found.entries.len() == limit {
                 return Err(SourceFault::TooMany);
             }
             let entry = Entry {

@@ -81,7 +81,7 @@ pub(crate) fn do_step<R: Threads + Sync, F: Folder, O: Sink, G: Gate, L: Ledger>
             set_dump(alloc, apart, slot.as_str(), file.as_str(), session, folder)
         }
         Act::Stats { slot, file } => {
-            set_stats(alloc, apart, slot.as_str(), file.as_str(), session, folder)
+            set_stats(forks, apart, slot.as_str(), file.as_str(), session, folder)
         }
         Act::Feed { .. } => unreachable!(),
         Act::Overrides { file } => set_overrides(alloc, apart, file.as_str(), session, folder),

@@ -1,7 +1,7 @@
 //! Lines that set feeds together: their files are read in order, then parsed side by side, then
 //! set in order.
-ghost use Rattle.std.specs.Prelude.{◌≡◌, ◌≢◌, ◌≤◌, ◌<◌, ◌+◌, ◌⊎◌, [], true, length, map, IfErr};
-ghost use Rattle.std.specs.Prelude.{IfOk, None, Ok, OnOk, Some};
+ghost use Rattle.std.specs.Prelude.{◌≡◌, ◌≢◌, ◌≤◌, ◌<◌, ◌+◌, ◌⊎◌, [], ◌∷◌, true, length, map};
+ghost use Rattle.std.specs.Prelude.{IfErr, IfOk, None, Ok, OnOk, Some};
 ghost use Rattle.std.specs.List.{AllZip, list_all};
 ghost use Rattle.feed_csv.specs.File.{feed, longest};
 ghost use Rattle.geo_outside.specs.Count.{Rose};
@@ -21,7 +21,7 @@ use crate::course::StepStop;
 use crate::reading::read_source;
 use crate::stop::{Cause, Stop};
 use fan_work::{Forks, Work, map_pieces};
-use feed_csv::{LONGEST_FEED, read_feed};
+use feed_csv::{FEED_PART, LONGEST_FEED, read_feed, read_feed_by_parts};
 use geo_addr::Memory;
 use geo_outside::{Folder, Gate};
 use geo_terms::{Feed, SourceFault};
@@ -207,10 +207,38 @@ fn parse_all<R: Threads + Sync, G: Gate>(
     ensures feeds { IfOk result (λ feeds. AllZip Parses held.now (map Ok feeds.items)) }
     ensures refused { IfErr result (λ stop. RefusesParsing held.now stop.why stop.at) }
 {
-    match map_pieces(forks, held, &Parsing) {
+    match parsed_all(forks, held) {
         Ok(parsed) => all_feeds(forks.alloc, parsed),
         Err(Memory) => Err(OUT_OF_MEMORY),
     }
+}
+
+/// What each of those that were read is, by pieces side by side. A long one that stands alone is
+/// read by parts side by side instead.
+fn parsed_all<R: Threads + Sync, G: Gate>(
+    forks: &Forks<R, G>,
+    held: &[Held<'_>],
+) -> Result<Vec<Result<ReadyFeed, Stop>>, Memory>
+    ensures related { IfOk result (λ parsed. AllZip Parses held.now parsed.items) }
+{
+    if let [one] = held {
+        if one.bytes.len() > FEED_PART {
+            return parsed_long(forks, one);
+        }
+    }
+    map_pieces(forks, held, &Parsing)
+}
+
+/// What a long one is, by parts side by side.
+fn parsed_long<R: Threads + Sync, G: Gate>(
+    forks: &Forks<R, G>,
+    held: &Held<'_>,
+) -> Result<Vec<Result<ReadyFeed, Stop>>, Memory>
+    ensures related { IfOk result (λ parsed. AllZip Parses (held.now ∷ []) parsed.items) }
+{
+    let mut parsed = Vec::new(forks.alloc);
+    parsed.push(ready_long(forks, held.url, held.bytes.as_slice()))?;
+    Ok(parsed)
 }
 
 /// The feeds, where none was refused, or the first that was.
@@ -269,6 +297,52 @@ fn feed_of(alloc: Global, url: &str, bytes: &[u8]) -> Result<Feed, Stop>
         × (result ≢ Err (Stop.Blocked Cause.Words)) }
 {
     match read_feed(alloc, url, bytes) {
+        Ok(found) => Ok(found),
+        Err(SourceFault::TooLong) => Err(Stop::Blocked(Cause::TooLong)),
+        Err(SourceFault::TooMany) => Err(Stop::Blocked(Cause::TooMany)),
+        Err(SourceFault::Memory) => Err(Stop::Memory),
+    }
+}
+
+/// The feed that these bytes are, read by parts side by side and ready to be set.
+fn ready_long<R: Threads + Sync, G: Gate>(
+    forks: &Forks<R, G>,
+    url: &str,
+    bytes: &[u8],
+) -> Result<ReadyFeed, Stop>
+    ensures feed { IfOk result (λ found. found ≡ feed url.now bytes.now) }
+    ensures few { OnOk result (no_feed (Some bytes.now) ≡ None) }
+    ensures unset { IfErr result (λ why. IsHindered why
+        (λ cause. no_feed (Some bytes.now) ≡ Some cause)) }
+    ensures read { (result ≢ Err Stop.ReadFailed) × (result ≢ Err (Stop.Blocked Cause.Missing)) }
+    ensures reads { (result ≢ Err Stop.PutFailed) × (result ≢ Err Stop.SinkFailed)
+        × (result ≢ Err (Stop.Blocked Cause.Words)) }
+{
+    let feed = match long_feed_of(forks, url, bytes) {
+        Ok(feed) => feed,
+        Err(why) => return Err(why),
+    };
+    match ReadyFeed::of(forks.alloc, feed) {
+        Ok(ready) => Ok(ready),
+        Err(Memory) => Err(Stop::Memory),
+    }
+}
+
+/// The feed that these bytes are, read by parts side by side.
+fn long_feed_of<R: Threads + Sync, G: Gate>(
+    forks: &Forks<R, G>,
+    url: &str,
+    bytes: &[u8],
+) -> Result<Feed, Stop>
+    ensures feed { IfOk result (λ found. found ≡ feed url.now bytes.now) }
+    ensures few { OnOk result (no_feed (Some bytes.now) ≡ None) }
+    ensures unset { IfErr result (λ why. IsHindered why
+        (λ cause. no_feed (Some bytes.now) ≡ Some cause)) }
+    ensures read { (result ≢ Err Stop.ReadFailed) × (result ≢ Err (Stop.Blocked Cause.Missing)) }
+    ensures reads { (result ≢ Err Stop.PutFailed) × (result ≢ Err Stop.SinkFailed)
+        × (result ≢ Err (Stop.Blocked Cause.Words)) }
+{
+    match read_feed_by_parts(forks, url, bytes) {
         Ok(found) => Ok(found),
         Err(SourceFault::TooLong) => Err(Stop::Blocked(Cause::TooLong)),
         Err(SourceFault::TooMany) => Err(Stop::Blocked(Cause::TooMany)),

@@ -13,12 +13,15 @@ use crate::apart::Apart;
 use crate::dumps::dump_in;
 use crate::reading::read_source;
 use crate::stop::{Cause, Stop};
-use geo_outside::Folder;
+use fan_work::Forks;
+use geo_outside::{Folder, Gate};
 use geo_terms::{Overrides, SourceFault, Stats};
 use job_lines::Act;
-use nro_stats::{LONGEST_STATS, read_stats};
+use nro_stats::{LONGEST_STATS, read_stats_by_parts};
 use override_rows::{LONGEST_OVERRIDES, read_overrides};
 use std::alloc::Global;
+use std::marker::Sync;
+use std::thread::Threads;
 use update_session::Session;
 
 /// Sets the dump in this slot to what the file of this name holds.
@@ -64,8 +67,8 @@ pub(crate) fn set_dump<F: Folder>(
 }
 
 /// Sets the statistics file in this slot to what the file of this name holds.
-pub(crate) fn set_stats<F: Folder>(
-    alloc: Global,
+pub(crate) fn set_stats<R: Threads + Sync, F: Folder, G: Gate>(
+    forks: &Forks<R, G>,
     apart: &[Apart],
     slot: &str,
     name: &str,
@@ -97,18 +100,22 @@ pub(crate) fn set_stats<F: Folder>(
         × (F.given folder.new ≤ F.given folder.old) }
     ensures given { F.given folder.new ≤ F.given folder.old + (268435456 + 65536) }
 {
-    let bytes = match read_source(alloc, apart, folder, name, LONGEST_STATS as u64) {
+    let bytes = match read_source(forks.alloc, apart, folder, name, LONGEST_STATS as u64) {
         Ok(bytes) => bytes,
         Err(why) => return Err(why),
     };
-    let stats = stats_of(alloc, slot, bytes.as_slice())?;
+    let stats = stats_of(forks, slot, bytes.as_slice())?;
     drop(bytes);
     session.set_stats(stats)?;
     Ok(())
 }
 
 /// The statistics file that these bytes are.
-fn stats_of(alloc: Global, slot: &str, bytes: &[u8]) -> Result<Stats, Stop>
+fn stats_of<R: Threads + Sync, G: Gate>(
+    forks: &Forks<R, G>,
+    slot: &str,
+    bytes: &[u8],
+) -> Result<Stats, Stop>
     ensures stats { IfOk result (λ found. found ≡ stats slot.now bytes.now) }
     ensures few { OnOk result (no_stats slot.now (Some bytes.now) ≡ None) }
     ensures unset { IfErr result (λ why. IsHindered why
@@ -117,7 +124,7 @@ fn stats_of(alloc: Global, slot: &str, bytes: &[u8]) -> Result<Stats, Stop>
     ensures reads { (result ≢ Err Stop.PutFailed) × (result ≢ Err Stop.SinkFailed)
         × (result ≢ Err (Stop.Blocked Cause.Words)) }
 {
-    match read_stats(alloc, slot, bytes) {
+    match read_stats_by_parts(forks, slot, bytes) {
         Ok(found) => Ok(found),
         Err(SourceFault::TooLong) => Err(Stop::Blocked(Cause::TooLong)),
         Err(SourceFault::TooMany) => Err(Stop::Blocked(Cause::TooMany)),

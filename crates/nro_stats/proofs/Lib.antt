@@ -1,2 +1,3 @@
 pub mod CountryLemmas
 pub mod FileLemmas
+mod PartLemmas

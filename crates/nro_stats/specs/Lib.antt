@@ -1,3 +1,4 @@
 pub mod Fields
 pub mod File
+pub mod Parts
 pub mod Verdicts

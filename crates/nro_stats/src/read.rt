@@ -1,18 +1,20 @@
 //! A statistics file.
 ghost use Rattle.std.specs.Prelude.{◌≡◌, ◌≢◌, ◌<◌, ◌≤◌, ◌↔◌, ◌++◌, length, IfOk, IsSome, OnOk};
 ghost use Rattle.std.specs.Prelude.{option_to_list};
-ghost use Rattle.nro_stats.specs.File.{longest, most, note_of, notes, row_of, rows, stats};
+ghost use Rattle.nro_stats.specs.File.{longest, most, note_of, row_of, rows, stats};
+ghost use Rattle.nro_stats.specs.Parts.{notes_in, rows_in};
 
 use crate::verdict::{Verdict, read_line};
-use geo_addr::{Line, Lines, List, Memory, Text};
+use geo_addr::{Line, List, Memory, Text};
 use geo_terms::{Delegation, Note, Origin, SourceFault, Stats, Texts};
+use line_parts::LinePart;
 use std::alloc::Global;
 
 /// The most bytes of a statistics file.
 pub const LONGEST_STATS: usize = 268_435_456;
 
 /// The most delegations of a file.
-const MOST: usize = 2_097_152;
+pub(crate) const MOST: usize = 2_097_152;
 
 /// For each so many bytes of a file room for one row is taken ahead; few files have shorter lines
 /// on the average.
@@ -31,7 +33,7 @@ pub fn read_stats(alloc: Global, slot: &str, bytes: &[u8]) -> Result<Stats, Sour
         return Err(SourceFault::TooLong);
     }
     let slot = Text::of(alloc, slot)?;
-    let found = read_lines(alloc, &slot, bytes)?;
+    let found = read_lines(alloc, &slot, LinePart::whole(bytes), bytes.len(), MOST)?;
     Ok(Stats {
         slot,
         rows: List::of(found.rows),
@@ -39,44 +41,62 @@ pub fn read_stats(alloc: Global, slot: &str, bytes: &[u8]) -> Result<Stats, Sour
     })
 }
 
+/// What the lines of a part say.
+#[derive(Drop)]
+pub(crate) struct Found {
+    pub rows: Vec<Delegation>,
+    pub notes: Vec<Note>,
+}
+
 // What is found in the lines so far.
 #[derive(Drop)]
-struct Found {
+struct Reading {
     rows: Vec<Delegation>,
     notes: Vec<Note>,
     texts: Texts,
 }
 
-fn read_lines(alloc: Global, slot: &Text, bytes: &[u8]) -> Result<Found, SourceFault>
-    ensures rows { IfOk result (λ found. found.rows.items ≡ rows slot.now bytes.now) }
-    ensures notes { IfOk result (λ found. found.notes.items ≡ notes slot.now bytes.now) }
-    ensures within { IfOk result (λ found. length found.rows.items ≤ most) }
-    ensures too_many { result ≡ Err SourceFault.TooMany → most < length (rows slot.now bytes.now) }
+/// Reads the lines of a part of a file of `size` bytes, with at most `limit` delegations.
+pub(crate) fn read_lines(
+    alloc: Global,
+    slot: &Text,
+    part: LinePart,
+    size: usize,
+    limit: usize,
+) -> Result<Found, SourceFault>
+    ensures rows { IfOk result (λ found. found.rows.items ≡ rows_in slot.now part.entry) }
+    ensures notes { IfOk result (λ found. found.notes.items ≡ notes_in slot.now part.entry) }
+    ensures within { IfOk result (λ found. length found.rows.items ≤ limit) }
+    ensures too_many { result ≡ Err SourceFault.TooMany
+        → limit < length (rows_in slot.now part.entry) }
     ensures too_long { result ≢ Err SourceFault.TooLong }
 {
-    let room = (bytes.len() / SHORT_LINE).min(MOST);
-    let mut found = Found {
+    let room = (size / SHORT_LINE).min(MOST);
+    let mut found = Reading {
         rows: Vec::with_capacity(alloc, room).map_err(Memory::from)?,
         notes: Vec::new(alloc),
         texts: Texts::new(alloc),
     };
-    for line in Lines::of(bytes) {
-        take_line(slot, line, &mut found)?;
+    for line in part.lines() {
+        take_line(slot, line, limit, &mut found)?;
     }
-    Ok(found)
+    Ok(Found {
+        rows: found.rows,
+        notes: found.notes,
+    })
 }
 
 // Adds what one more line says.
-fn take_line(slot: &Text, line: Line, found: &mut Found) -> Result<(), SourceFault>
-    requires { length found.old.rows.items ≤ most }
+fn take_line(slot: &Text, line: Line, limit: usize, found: &mut Reading) -> Result<(), SourceFault>
+    requires { length found.old.rows.items ≤ limit }
     ensures rows { OnOk result (found.new.rows.items ≡ found.old.rows.items
         ++ option_to_list (row_of slot.now (line.entry.number, line.entry.text.now))) }
     ensures notes { OnOk result (found.new.notes.items ≡ found.old.notes.items
         ++ option_to_list (note_of slot.now (line.entry.number, line.entry.text.now))) }
-    ensures within { OnOk result (length found.new.rows.items ≤ most) }
+    ensures within { OnOk result (length found.new.rows.items ≤ limit) }
     ensures too_many { result ≡ Err SourceFault.TooMany
         → IsSome (row_of slot.now (line.entry.number, line.entry.text.now))
-        × (length found.old.rows.items ≡ most) }
+        × (length found.old.rows.items ≡ limit) }
     ensures too_long { result ≢ Err SourceFault.TooLong }
 {
     match read_line(&mut found.texts, line.text)? {
@@ -91,7 +111,7 @@ fn take_line(slot: &Text, line: Line, found: &mut Found) -> Result<(), SourceFau
             found.notes.push(note).map_err(Memory::from)?;
         }
         Verdict::Delegated(range, place) => {
-            if found.rows.len() == MOST {
+            if found.rows.len() == limit {
                 return Err(SourceFault::TooMany);
             }
             let slot = slot.copied()?;

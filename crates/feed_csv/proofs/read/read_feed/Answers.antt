@@ -1,56 +1,20 @@
--- The lists are those of the file, which are in form.
-use Rattle.std.proofs.Common.{◌∙◌, ap, sym, subst, map, List}
-use Rattle.geo_terms.specs.declared.statement.Entry.{Entry}
-use Rattle.csv_lines.specs.Repeats.{Rises, kept, merged, repeat_faults}
-use Rattle.csv_lines.specs.declared.fault.Fault.{Fault}
-use Rattle.feed_csv.specs.File.{AreClean, accepted, entry_line, entry_range, entry_said, note_of}
-use Rattle.feed_csv.specs.File.{repeat_rules}
-use Rattle.feed_csv.proofs.CleanLemmas.{entries_clean}
-use Rattle.feed_csv.proofs.FileLemmas.{all_rise, faults_are, feed_in_form}
+-- What was found in the whole file.
+use Rattle.std.proofs.Common.{◌∙◌, ap, filter_map}
+use Rattle.feed_csv.specs.File.{entry_of, fault_of}
 use Rattle.feed_csv.proofs.read.read_feed.Goals as goal
 
-pub judge-requires : goal.judge-requires
-judge-requires c =
-    subst (λ (es : List Entry). Rises 0 (map entry_line es)) (sym c.in_ok-found.ensures.entries)
-    (all_rise c.args.bytes.now)
-
-pub invariant_of-result : goal.invariant_of-result
-invariant_of-result c =
-    let entries = c.of-2.ensures ∙ c.in_ok-judged.ensures.rows ∙ ap (λ (es : List Entry).
-    kept entry_line entry_range entry_said es) c.in_ok-found.ensures.entries in
-    let faults =
-    c.as_slice.ensures.value ∙ c.in_ok-judged.ensures.faults
-    ∙ ap (λ (es : List Entry). merged (repeat_faults entry_line entry_range entry_said repeat_rules
-    es) c.in_ok-found.found.faults.items) c.in_ok-found.ensures.entries
-    ∙ ap (λ (fs : List Fault). merged (repeat_faults entry_line entry_range entry_said repeat_rules
-    (accepted c.args.bytes.now)) fs) c.in_ok-found.ensures.faults
-    ∙ faults_are c.args.bytes.now in
-    let notes =
-    c.of-3.ensures ∙ c.in_ok-notes.ensures
-    ∙ ap (λ u. map (note_of u) c.as_slice.result.now) c.in_ok-url.ensures
-    ∙ ap (λ (fs : List Fault). map (note_of c.args.url.now) fs) faults in
-    feed_in_form c.args.bytes.now c.args.url.now _ _ _ c.in_ok-url.ensures entries notes
+pub feed_of-requires : goal.feed_of-requires
+feed_of-requires c = (
+  c.args.bytes.now,
+  (
+    c.in_ok-found.ensures.entries ∙ ap (filter_map entry_of) c.whole.ensures,
+    c.in_ok-found.ensures.faults ∙ ap (filter_map fault_of) c.whole.ensures,
+  ),
+)
 
 pub returns-clause-read : goal.returns-clause-read
 returns-clause-read c =
-    let url = c.in_ok-url.ensures in
-    let entries = c.of-2.ensures ∙ c.in_ok-judged.ensures.rows ∙ ap (λ (es : List Entry).
-    kept entry_line entry_range entry_said es) c.in_ok-found.ensures.entries in
-    let faults =
-    c.as_slice.ensures.value ∙ c.in_ok-judged.ensures.faults
-    ∙ ap (λ (es : List Entry). merged (repeat_faults entry_line entry_range entry_said repeat_rules
-    es) c.in_ok-found.found.faults.items) c.in_ok-found.ensures.entries
-    ∙ ap (λ (fs : List Fault). merged (repeat_faults entry_line entry_range entry_said repeat_rules
-    (accepted c.args.bytes.now)) fs) c.in_ok-found.ensures.faults
-    ∙ faults_are c.args.bytes.now in
-    let notes =
-    c.of-3.ensures ∙ c.in_ok-notes.ensures
-    ∙ ap (λ u. map (note_of u) c.as_slice.result.now) c.in_ok-url.ensures
-    ∙ ap (λ (fs : List Fault). map (note_of c.args.url.now) fs) faults in
-    λ i. record { url = url i; entries = entries i; notes = notes i }
-
-pub returns-clause-clean : goal.returns-clause-clean
-returns-clause-clean c =
-    let entries = c.of-2.ensures ∙ c.in_ok-judged.ensures.rows ∙ ap (λ (es : List Entry).
-    kept entry_line entry_range entry_said es) c.in_ok-found.ensures.entries in
-    subst AreClean (sym entries) (entries_clean c.args.bytes.now)
+    c.in_ok-feed.ensures.read c.args.bytes.now (
+      c.in_ok-found.ensures.entries ∙ ap (filter_map entry_of) c.whole.ensures,
+      c.in_ok-found.ensures.faults ∙ ap (filter_map fault_of) c.whole.ensures,
+    )

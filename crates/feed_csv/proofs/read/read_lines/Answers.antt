@@ -1,13 +1,14 @@
 -- The reader stands before the first line, and each line takes what it handed over.
 use Rattle.std.proofs.Common.{◌∷◌, ◌++◌, ◌∙◌, Bor, List, ℕ, Some, ap, sym, subst, filter_map, arith}
-use Rattle.csv_lines.specs.Rests.{Stands, all_handed}
+use Rattle.csv_lines.specs.Rests.{Stands, all_handed, handed}
 use Rattle.csv_lines.proofs.OrderLemmas.{one_more}
+use Rattle.line_parts.proofs.GatherLemmas.{of_text}
 use Rattle.feed_csv.specs.File.{entry_of, fault_of}
 use Rattle.feed_csv.proofs.read.read_lines.Goals as goal
 
 pub loop-line-init : goal.loop-line-init
 loop-line-init c =
-    let start = c.into_iter-line-iterator.ensures.into_iter_gives ∙ c.of-line-items.ensures in
+    let start = c.into_iter-line-iterator.ensures.into_iter_gives ∙ c.lines-line-items.ensures in
     record {
       can_next = tt;
       is_finite = tt;
@@ -16,6 +17,7 @@ loop-line-init c =
       few = rw c.in_ok-entries.ensures (omega arith);
       stands =
           c.reader_of-reader.ensures _ (c.as_slice.ensures.value ∙ c.in_ok-handed.ensures
+          ∙ ap (λ t. 10 ∷ t) (sym (of_text handed c.args.part))
           ∙ ap (λ lines. 10 ∷ all_handed lines) (sym start));
     }
 

@@ -1,0 +1,32 @@
+-- What is read of a part of a feed.
+use Rattle.std.specs.Prelude.{◌≡◌, ℕ, List, filter_map}
+use Rattle.geo_terms.specs.declared.statement.Entry.{Entry}
+use Rattle.csv_lines.specs.declared.fault.Fault.{Fault}
+use Rattle.line_parts.specs.Parts.{lines_in}
+use Rattle.line_parts.specs.declared.part.LinePart.{LinePart}
+use Rattle.feed_csv.specs.File.{accepted, entry_of, fault_of, refused}
+use Rattle.feed_csv.specs.declared.read.Found.{Found}
+
+-- the lines of a part that pass the line rules, and the faults of the others
+abbrev pub accepted_in : LinePart → List Entry
+accepted_in part = filter_map entry_of (lines_in part)
+
+abbrev pub refused_in : LinePart → List Fault
+refused_in part = filter_map fault_of (lines_in part)
+
+-- what was found is what the lines of a part say by themselves
+abbrev pub IsPartRead : LinePart → Found → Type 0
+IsPartRead part found =
+    (found.entries.items ≡ accepted_in part) × (found.faults.items ≡ refused_in part)
+
+-- what was found is what the lines of a file say by themselves
+abbrev pub IsFileRead : List ℕ → Found → Type 0
+IsFileRead file found =
+    (found.entries.items ≡ accepted file) × (found.faults.items ≡ refused file)
+
+-- what was found, as lists
+abbrev pub found_entries : Found → List Entry
+found_entries found = found.entries.items
+
+abbrev pub found_faults : Found → List Fault
+found_faults found = found.faults.items

@@ -1,0 +1,101 @@
+//! A feed, read by parts side by side.
+ghost use Rattle.std.specs.Prelude.{◌≡◌, ◌<◌, ◌≤◌, ◌↔◌, ◌++◌, IfOk, OnOk, length};
+ghost use Rattle.std.specs.List.{flat_map};
+ghost use Rattle.feed_csv.specs.File.{AreClean, accepted, feed, longest, most};
+ghost use Rattle.feed_csv.specs.Parts.{found_entries, found_faults};
+
+use crate::read::{Found, LONGEST_FEED, MOST, feed_of, read_lines};
+use fan_work::{Forks, Work, map_pieces};
+use geo_addr::Memory;
+use geo_outside::Gate;
+use geo_terms::{Feed, SourceFault};
+use line_parts::{LinePart, parts_of};
+use std::alloc::Global;
+use std::marker::Sync;
+use std::thread::Threads;
+
+/// The least bytes of a part before others: a shorter feed is one part.
+pub const FEED_PART: usize = 262_144;
+
+/// Work that reads the lines of a part of a feed, which has `size` bytes.
+#[derive(Clone, Copy, Debug)]
+struct PartReading {
+    size: usize,
+}
+
+impl<'a> Work<LinePart<'a>, Found> for PartReading {
+    ghost use Rattle.feed_csv.specs.Parts.{IsPartRead};
+
+    ghost related = { λ work part found. IsPartRead part found };
+
+    fn done(&self, alloc: Global, item: &LinePart<'a>) -> Result<Found, Memory> {
+        // The entries of the other parts come to stand behind those of the first.
+        let room = if item.before == 0 {
+            self.size
+        } else {
+            item.text.len()
+        };
+        match read_lines(alloc, *item, room, usize::MAX) {
+            Ok(found) => Ok(found),
+            Err(_) => Err(Memory),
+        }
+    }
+}
+
+/// Reads a geofeed as `read_feed` does, by parts of it side by side.
+pub fn read_feed_by_parts<R: Threads + Sync, G: Gate>(
+    forks: &Forks<R, G>,
+    url: &str,
+    bytes: &[u8],
+) -> Result<Feed, SourceFault>
+    ensures read { IfOk result (λ found. found ≡ feed url.now bytes.now) }
+    ensures clean { IfOk result (λ found. AreClean found.entries) }
+    ensures within { OnOk result (length (accepted bytes.now) ≤ most) }
+    ensures too_long { (result ≡ Err SourceFault.TooLong) ↔ (longest < length bytes.now) }
+    ensures too_many { result ≡ Err SourceFault.TooMany → most < length (accepted bytes.now) }
+{
+    if bytes.len() > LONGEST_FEED {
+        return Err(SourceFault::TooLong);
+    }
+    let size = (bytes.len() / forks.pieces as usize).max(FEED_PART);
+    let parts = parts_of(forks.alloc, bytes, size)?;
+    let work = PartReading { size: bytes.len() };
+    let found = map_pieces(forks, parts.as_slice(), &work)?;
+    let all = joined(forks.alloc, found)?;
+    if all.entries.len() > MOST {
+        return Err(SourceFault::TooMany);
+    }
+    let feed = feed_of(forks.alloc, url, all)?;
+    Ok(feed)
+}
+
+// What was found in all parts.
+fn joined(alloc: Global, parts: Vec<Found>) -> Result<Found, Memory>
+    ensures entries { IfOk result (λ all. all.entries.items ≡ flat_map found_entries parts.items) }
+    ensures faults { IfOk result (λ all. all.faults.items ≡ flat_map found_faults parts.items) }
+{
+    let mut all = Found {
+        entries: Vec::new(alloc),
+        faults: Vec::new(alloc),
+    };
+    for part in parts {
+        all = joined_two(all, part)?;
+    }
+    Ok(all)
+}
+
+// What was found in two parts, in the room of the first where that has any.
+fn joined_two(first: Found, second: Found) -> Result<Found, Memory>
+    ensures entries { IfOk result
+        (λ all. all.entries.items ≡ first.entries.items ++ second.entries.items) }
+    ensures faults { IfOk result
+        (λ all. all.faults.items ≡ first.faults.items ++ second.faults.items) }
+{
+    if first.entries.is_empty() && first.faults.is_empty() {
+        return Ok(second);
+    }
+    let (mut all, mut second) = (first, second);
+    all.entries.append(&mut second.entries)?;
+    all.faults.append(&mut second.faults)?;
+    Ok(all)
+}

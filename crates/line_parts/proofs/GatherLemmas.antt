@@ -1,0 +1,38 @@
+-- What is gathered of the parts of a file is what the whole file gives.
+use Rattle.std.proofs.Common.{◌≡◌, ℕ, List, [], ◌∷◌, ◌++◌, Option, filter_map, refl}
+use Rattle.std.proofs.Common.{sym, ap, ap₂, ◌∙◌}
+use Rattle.std.specs.List.{AllZip, flat_map}
+use Rattle.std.proofs.lemmas.List.Elements.{filter_map-append}
+use Rattle.geo_addr.specs.Lines.{numbered_lines}
+use Rattle.line_parts.specs.Parts.{behind, lines_in}
+use Rattle.line_parts.specs.declared.part.LinePart.{LinePart}
+
+module _ {A B : Type 0} (f : (ℕ × List ℕ) → Option A) (g : B → List A)
+    (Reads : LinePart → B → Type 0) where
+  by_parts : (parts : List LinePart) (found : List B)
+      → ((p : LinePart) (b : B) → Reads p b → g b ≡ filter_map f (lines_in p))
+      → AllZip Reads parts found → flat_map g found ≡ filter_map f (flat_map lines_in parts)
+  by_parts [] [] each zipped = refl
+  by_parts [] (b ∷ bs) each zipped = absurd zipped
+  by_parts (p ∷ ps) [] each zipped = absurd zipped
+  by_parts (p ∷ ps) (b ∷ bs) each zipped =
+      ap₂ ◌++◌ (each p b zipped.0) (by_parts ps bs each zipped.1)
+      ∙ sym (filter_map-append f (lines_in p) (flat_map lines_in ps))
+
+  pub gathered : (file : List ℕ) (parts : List LinePart) (found : List B)
+      → ((p : LinePart) (b : B) → Reads p b → g b ≡ filter_map f (lines_in p))
+      → flat_map lines_in parts ≡ numbered_lines file
+      → AllZip Reads parts found → flat_map g found ≡ filter_map f (numbered_lines file)
+  gathered file parts found each cut zipped =
+      by_parts parts found each zipped ∙ ap (filter_map f) cut
+
+-- what does not look at numbers says the same of a part as of its text
+flat_map-behind : {A : Type 0} (g : List ℕ → List A) (n : ℕ) (ls : List (ℕ × List ℕ))
+    → flat_map (λ l. g l.1) (behind n ls) ≡ flat_map (λ l. g l.1) ls
+flat_map-behind g n [] = refl
+flat_map-behind g n (l ∷ ls) = ap (λ t. g l.1 ++ t) (flat_map-behind g n ls)
+
+pub of_text : {A : Type 0} (g : List ℕ → List A) (p : LinePart)
+    → flat_map (λ l. g l.1) (lines_in p) ≡ flat_map (λ l. g l.1) (numbered_lines p.text.now)
+unfolding lines_in
+of_text g p = flat_map-behind g p.before (numbered_lines p.text.now)

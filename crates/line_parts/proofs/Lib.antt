@@ -1,0 +1,2 @@
+pub mod GatherLemmas
+mod PartLemmas

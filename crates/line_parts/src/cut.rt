@@ -1,0 +1,101 @@
+//! A file cut into parts.
+ghost use Rattle.std.specs.Prelude.{◌≡◌, ◌+◌, ◌<◌, ◌≤◌, ◌^◌, ◌++◌, ◌⊎◌, [], false, true, All};
+ghost use Rattle.std.specs.Prelude.{IfOk, length};
+ghost use Rattle.std.specs.List.{flat_map};
+ghost use Rattle.geo_addr.specs.Lines.{byte_order_mark, numbered_lines, without_mark};
+ghost use Rattle.line_parts.specs.Parts.{EndsBehind, EndsWithFeed, feeds, lines_in};
+
+use crate::part::LinePart;
+use geo_addr::{Memory, cut_at, skip_mark};
+use std::alloc::Global;
+
+/// Cuts a file behind the first line feed at or after each `size` bytes.
+///
+/// Where a byte order mark stands there, which is part of a line, what is left is one part.
+pub fn parts_of(alloc: Global, file: &[u8], size: usize) -> Result<Vec<LinePart<'_>>, Memory>
+    ensures lines { IfOk result (λ parts. flat_map lines_in parts.items ≡ numbered_lines file.now) }
+    ensures short { IfOk result (λ parts. All (λ p. EndsBehind size p.text.now) parts.items) }
+{
+    let mut parts = Vec::new(alloc);
+    let mut before = 0;
+    let mut left = file;
+    while !left.is_empty() {
+        let (text, after) = cut_behind(left, size);
+        let part = part_behind(before, text);
+        parts.push(part).map_err(Memory::from)?;
+        before += count_feeds(text);
+        left = after;
+    }
+    Ok(parts)
+}
+
+fn part_behind(before: u64, text: &[u8]) -> LinePart<'_>
+    requires { before + length text.now < 2 ^ 64 }
+    ensures before { result.before ≡ before }
+    ensures text { result.text.now ≡ text.now }
+{
+    LinePart { before, text }
+}
+
+// The text up to the first line feed from this index on, with it, and what stands after it.
+fn cut_behind(text: &[u8], size: usize) -> (&[u8], &[u8])
+    requires { 0 < length text.now }
+    ensures joined { result.0.now ++ result.1.now ≡ text.now }
+    ensures end { (result.1.now ≡ []) ⊎ EndsWithFeed result.0.now }
+    ensures unmarked { without_mark result.1.now ≡ result.1.now }
+    ensures short { EndsBehind size result.0.now }
+    ensures shorter { length result.1.now < length text.now }
+{
+    if text.len() <= size {
+        return (text, &[]);
+    }
+    let (_, after) = cut_at(&text[size..], b'\n');
+    match after {
+        Some(after) => {
+            if has_mark(after) {
+                return (text, &[]);
+            }
+            (&text[..text.len() - after.len()], after)
+        }
+        None => (text, &[]),
+    }
+}
+
+// Whether a text begins with a byte order mark.
+fn has_mark(text: &[u8]) -> bool
+    ensures without { result ≡ false → without_mark text.now ≡ text.now }
+    ensures with { result ≡ true → text.now ≡ byte_order_mark ++ without_mark text.now }
+{
+    skip_mark(text).len() < text.len()
+}
+
+/// The line feeds of so many bytes are counted in one byte.
+const FEW: usize = 255;
+
+// How many line feeds a text has.
+fn count_feeds(text: &[u8]) -> u64
+    ensures { result ≡ feeds text.now }
+{
+    let mut count = 0;
+    let mut left = text;
+    while left.len() > FEW {
+        let (few, more) = left.split_at(FEW);
+        count += u64::from(count_few(few));
+        left = more;
+    }
+    count + u64::from(count_few(left))
+}
+
+// How many line feeds a text of at most 255 bytes has.
+fn count_few(text: &[u8]) -> u8
+    requires { length text.now < 256 }
+    ensures { result ≡ feeds text.now }
+{
+    let mut count = 0;
+    for byte in text {
+        if *byte == b'\n' {
+            count += 1;
+        }
+    }
+    count
+}

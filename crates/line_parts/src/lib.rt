@@ -1,0 +1,10 @@
+//! A file cut at line feeds into parts, so that its lines can be read side by side.
+#![tactic(auto)]
+
+mod cut;
+mod lines;
+mod part;
+
+pub use cut::parts_of;
+pub use lines::PartLines;
+pub use part::LinePart;
