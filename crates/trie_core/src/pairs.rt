@@ -18,14 +18,14 @@ const MOST_NODES: usize = 0xffff_ffff;
 
 /// The pairs of a store in the order in which they came, each once.
 ///
-/// Most nodes become a child of one other node alone, right after they were made. So the first pair
-/// of which a node is the later child is found at that node's number, with no hash; only the other
-/// pairs are in a set.
+/// Most nodes become a child of one other node alone, right after they were made, or of one on each
+/// side. So the first pair that has a node as its later child on one side is found at a slot that
+/// follows from that node's number, with no hash; only the other pairs are in a set.
 #[derive(Drop)]
 pub(crate) struct Pairs {
     pairs: Vec<Pair>,
-    // At each node's number one more than the number of the first pair whose later child it is, and
-    // 0 where there is none. Pairs of two leaves are taken as pairs of node 0.
+    // At the slot of its later child one more than the number of the first pair with that slot, and
+    // 0 where there is none. A node has two slots, for where it is a left and where a right child.
     firsts: Vec<u32>,
     // The pairs that are no first ones, and their numbers.
     others: IndexSet<Pair, Near>,
@@ -194,7 +194,7 @@ fn note(
 
 // Puts zeros behind the list until it has this index.
 fn make_room(list: &mut Vec<u32>, index: usize) -> Result<(), Memory>
-    requires { index < 2 ^ 32 }
+    requires { index < 2 ^ 33 }
     ensures zeros { list.new.items
         ≡ list.old.items ++ replicate (length list.new.items - length list.old.items) 0 }
     ensures within { OnOk result (index < length list.new.items) }
@@ -207,14 +207,14 @@ fn make_room(list: &mut Vec<u32>, index: usize) -> Result<(), Memory>
     Ok(())
 }
 
-// The number of the later child of a pair, and 0 where both are leaves.
+// The slot of the later child of a pair. Pairs of two leaves have the right slot of node 0.
 fn later(pair: Pair) -> usize
-    ensures number { result ≡ later pair }
-    ensures few { result < 2 ^ 32 }
+    ensures slot { result ≡ later pair }
+    ensures few { result < 2 ^ 33 }
 {
-    let left = number_or_zero(pair.left);
-    let right = number_or_zero(pair.right);
-    left.max(right) as usize
+    let left = number_or_zero(pair.left) as usize;
+    let right = number_or_zero(pair.right) as usize;
+    (2 * left).max(2 * right + 1)
 }
 
 // The number of a node, and 0 of a leaf.

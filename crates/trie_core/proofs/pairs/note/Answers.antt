@@ -7,9 +7,9 @@ pub returns-clause-noted : goal.returns-clause-noted
 returns-clause-noted c =
     let firsts = c.args.firsts.now.items in
     let within : c.later-at.result < length firsts =
-    omega (arith, c.later-at.ensures.number, c.requires.within) in
+    omega (arith, c.later-at.ensures.slot, c.requires.within) in
     let stands = stands_from_read firsts c.later-at.result c.index.result.now c.args.pair
-    c.later-at.ensures.number within c.index.ensures c.if-index-eq0.false in
+    c.later-at.ensures.slot within c.index.ensures c.if-index-eq0.false in
     inr (
       stands,
       refl,
