@@ -2,6 +2,7 @@ pub mod DateLemmas
 pub mod DumpForm
 pub mod FeedLemmas
 pub mod GroupLines
+mod ItemLemmas
 pub mod KindLemmas
 pub mod NoteOrder
 pub mod ObjectLines

@@ -86,8 +86,10 @@ impl DumpReader {
             return Err(fault);
         }
         let within = first_bytes(piece, LONGEST_DUMP.saturating_sub(self.fed));
-        let progress = self.reader.read(within, &self.selection)?;
-        let more = Found::of(self.alloc, &self.slot, progress.items(), &mut self.urls)?;
+        let mut line = Vec::new(self.alloc);
+        let (progress, seen) = self.reader.see(within, &self.selection, &mut line)?;
+        let more = Found::of(self.alloc, &self.slot, &seen, &mut self.urls)?;
+        drop(seen);
         if self.found.refs.len() + more.refs.len() > MOST {
             self.found = Found::new(self.alloc);
             self.fault = Some(SourceFault::TooMany);
@@ -113,9 +115,10 @@ impl DumpReader {
         if let Some(fault) = self.fault {
             return Err(fault);
         }
-        let items = self.reader.read_end(&self.selection)?;
         let mut urls = self.urls;
-        let more = Found::of(self.alloc, &self.slot, items.as_slice(), &mut urls)?;
+        let seen = self.reader.see_end(&self.selection)?;
+        let more = Found::of(self.alloc, &self.slot, &seen, &mut urls)?;
+        drop(seen);
         let mut whole = self.found;
         if whole.refs.len() + more.refs.len() > MOST {
             return Err(SourceFault::TooMany);

@@ -2,12 +2,12 @@
 ghost use Rattle.std.specs.Prelude.{◌≡◌, ◌+◌, ◌≤◌, ◌++◌, [], IfOk, OnOk, vec_capacity, vec_len};
 ghost use Rattle.feed_refs.specs.Dumps.{AreApart, in_line_order, noted, notes_of, reference_in};
 ghost use Rattle.feed_refs.specs.Dumps.{references, references_of};
-ghost use Rattle.feed_refs.specs.References.{found as found_of};
+ghost use Rattle.feed_refs.specs.References.{found_in_parts};
 
 use crate::reference::{What, found_of};
 use geo_addr::{Memory, Text};
 use geo_terms::{Note, Origin, Reference, Texts};
-use rpsl_reader::{Item, Object};
+use rpsl_reader::{Part, Seen, Sight};
 use std::alloc::Global;
 
 /// References and notes.
@@ -31,13 +31,13 @@ impl Found {
 
     /// What items say, in their order. URLs that came before are given again.
     #[tactic(auto, unfolding(crate::specs::Dumps::noted, crate::specs::Dumps::references))]
-    pub fn of(alloc: Global, slot: &Text, items: &[Item], urls: &mut Texts) -> Result<Found, Memory>
-        ensures refs { IfOk result (λ found. found.refs.items ≡ references slot.now items.now) }
-        ensures notes { IfOk result (λ found. found.notes.items ≡ noted slot.now items.now) }
+    pub fn of(alloc: Global, slot: &Text, seen: &Seen, urls: &mut Texts) -> Result<Found, Memory>
+        ensures refs { IfOk result (λ found. found.refs.items ≡ references slot.now seen.now.items) }
+        ensures notes { IfOk result (λ found. found.notes.items ≡ noted slot.now seen.now.items) }
     {
         let mut found = Found::new(alloc);
-        for item in items {
-            take_item(alloc, slot, item, urls, &mut found)?;
+        for index in 0..seen.len() {
+            take_item(alloc, slot, seen.at(index), urls, &mut found)?;
         }
         Ok(found)
     }
@@ -72,28 +72,28 @@ impl Found {
     }
 }
 
+#[tactic(auto, unfolding(crate::specs::References::found))]
 fn take_item(
     alloc: Global,
     slot: &Text,
-    item: &Item,
+    item: Sight,
     urls: &mut Texts,
     found: &mut Found,
 ) -> Result<(), Memory>
     ensures refs { OnOk result
-        (found.new.refs.items ≡ found.old.refs.items ++ references_of slot.now item.now) }
+        (found.new.refs.items ≡ found.old.refs.items ++ references_of slot.now item.entry) }
     ensures notes { OnOk result
-        (found.new.notes.items ≡ found.old.notes.items ++ notes_of slot.now item.now) }
+        (found.new.notes.items ≡ found.old.notes.items ++ notes_of slot.now item.entry) }
 {
-    match item {
-        Item::Whole(object) => take_object(alloc, slot, object, urls, found),
-        Item::Passed { line, rule } => {
+    let line = item.line;
+    match item.rule {
+        None => take_object(alloc, slot, item.parts, urls, found),
+        Some(rule) => {
             let origin = Origin::Rpsl(slot.copied()?);
-            let note = Note {
-                origin,
-                line: *line,
-                rule: *rule,
-            };
-            found.notes.push(note).map_err(Memory::from)
+            found
+                .notes
+                .push(Note { origin, line, rule })
+                .map_err(Memory::from)
         }
     }
 }
@@ -101,16 +101,16 @@ fn take_item(
 fn take_object(
     alloc: Global,
     slot: &Text,
-    object: &Object,
+    parts: &[Part],
     urls: &mut Texts,
     found: &mut Found,
 ) -> Result<(), Memory>
     ensures refs { OnOk result (found.new.refs.items
-        ≡ found.old.refs.items ++ reference_in (found_of slot.now object.now).what) }
+        ≡ found.old.refs.items ++ reference_in (found_in_parts slot.now parts.now).what) }
     ensures notes { OnOk result
-        (found.new.notes.items ≡ found.old.notes.items ++ (found_of slot.now object.now).notes) }
+        (found.new.notes.items ≡ found.old.notes.items ++ (found_in_parts slot.now parts.now).notes) }
 {
-    let told = found_of(alloc, slot, object)?;
+    let told = found_of(alloc, slot, parts)?;
     let mut notes = told.notes.into_vec();
     found.notes.append(&mut notes)?;
     match told.what {

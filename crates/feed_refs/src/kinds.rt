@@ -8,7 +8,7 @@ ghost use Rattle.feed_refs.specs.Kinds.{is_last_modified, is_of_kind, is_referen
 ghost use Rattle.feed_refs.specs.Kinds.{remark_url, url_text, used_kind};
 
 use geo_addr::{is_blank, trim_blanks};
-use rpsl_reader::Attribute;
+use rpsl_reader::Part;
 
 /// The two kinds of references: `geofeed` attributes, and remarks of the form that stands for them.
 #[derive(Clone, Copy, Debug, PartialEq, Eq)]
@@ -18,7 +18,7 @@ pub(crate) enum Kind {
 }
 
 /// The kind of which the references of an object count.
-pub(crate) fn used_kind(parts: &[Attribute]) -> Kind
+pub(crate) fn used_kind(parts: &[Part]) -> Kind
     ensures { result ≡ used_kind parts.now }
 {
     if has_geofeed(parts) {
@@ -28,14 +28,14 @@ pub(crate) fn used_kind(parts: &[Attribute]) -> Kind
     }
 }
 
-fn has_geofeed(parts: &[Attribute]) -> bool
+fn has_geofeed(parts: &[Part]) -> bool
     ensures { result ≡ list_any is_geofeed parts.now }
 {
     parts.iter().any(|a| is_geofeed(a))
 }
 
 /// Whether an attribute is a reference of a kind.
-pub(crate) fn is_of_kind(kind: Kind, attribute: &Attribute) -> bool
+pub(crate) fn is_of_kind(kind: Kind, attribute: &Part) -> bool
     ensures { result ≡ is_of_kind kind attribute.now }
 {
     match kind {
@@ -45,7 +45,7 @@ pub(crate) fn is_of_kind(kind: Kind, attribute: &Attribute) -> bool
 }
 
 /// The URL text of a reference of a kind.
-pub(crate) fn url_text(kind: Kind, attribute: &Attribute) -> &[u8]
+pub(crate) fn url_text<'s>(kind: Kind, attribute: &'s Part) -> &'s [u8]
     ensures { result.now ≡ url_text kind attribute.now }
 {
     let value = attribute.value.as_slice();
@@ -55,20 +55,20 @@ pub(crate) fn url_text(kind: Kind, attribute: &Attribute) -> &[u8]
     }
 }
 
-fn is_geofeed(attribute: &Attribute) -> bool
+fn is_geofeed(attribute: &Part) -> bool
     ensures { result ≡ is_geofeed attribute.now }
 {
     attribute.name.as_str() == "geofeed"
 }
 
 /// Whether an attribute is a remark that refers to a feed.
-pub(crate) fn is_reference_remark(attribute: &Attribute) -> bool
+pub(crate) fn is_reference_remark(attribute: &Part) -> bool
     ensures { result ≡ is_reference_remark attribute.now }
 {
     attribute.name.as_str() == "remarks" && remark_url(attribute.value.as_slice()).is_some()
 }
 
-pub(crate) fn is_last_modified(attribute: &Attribute) -> bool
+pub(crate) fn is_last_modified(attribute: &Part) -> bool
     ensures { result ≡ is_last_modified attribute.now }
 {
     attribute.name.as_str() == "last-modified"

@@ -4,7 +4,8 @@ ghost use Rattle.std.specs.Prelude.{find, filter, option_to_list};
 ghost use Rattle.std.specs.Option.{option_copied};
 ghost use Rattle.rpsl_reader.specs.declared.item.Attribute.{Attribute};
 ghost use Rattle.feed_refs.specs.Kinds.{is_of_kind, is_last_modified, url_text, used_kind};
-ghost use Rattle.feed_refs.specs.References.{class_named, found, found_by, found_in, found_unread};
+ghost use Rattle.feed_refs.specs.References.{class_named, found, found_by, found_in};
+ghost use Rattle.feed_refs.specs.References.{found_in_parts, found_unread};
 ghost use Rattle.feed_refs.specs.References.{modified_of, note_by, notes_from, notes_on, rule_on};
 ghost use Rattle.feed_refs.specs.References.{v4_class, v6_class};
 ghost use Rattle.feed_refs.specs.Urls.{url_read};
@@ -17,7 +18,7 @@ use crate::kinds::{Kind, is_last_modified, is_of_kind, is_reference_remark, url_
 use crate::modified::modified_in;
 use geo_addr::{List, Memory, Range, Text, parse_block, parse_span, range_of};
 use geo_terms::{Note, Origin, Reference, Rule};
-use rpsl_reader::{Attribute, Object};
+use rpsl_reader::{Object, Part, parts_of};
 use std::alloc::Global;
 
 /// What an object says of feeds.
@@ -52,19 +53,19 @@ enum Class {
 ///
 /// Where the object has a `geofeed` attribute, these count; otherwise the remarks that begin with
 /// `Geofeed`, blanks and a word with `://` in it. Two or more of the kind that counts are void.
+#[tactic(auto, unfolding(crate::specs::References::found))]
 pub fn reference_of(alloc: Global, slot: &str, object: &Object) -> Result<FoundRef, Memory>
     ensures { IfOk result (λ told. told ≡ found slot.now object.now) }
 {
     let slot = Text::of(alloc, slot)?;
-    found_of(alloc, &slot, object)
+    let parts = parts_of(alloc, object.parts.as_slice())?;
+    found_of(alloc, &slot, parts.as_slice())
 }
 
-/// The same, for a slot that is shared.
-#[tactic(auto, unfolding(crate::specs::References::found))]
-pub(crate) fn found_of(alloc: Global, slot: &Text, object: &Object) -> Result<FoundRef, Memory>
-    ensures { IfOk result (λ told. told ≡ found slot.now object.now) }
+/// The same, for a slot that is shared, of the attributes of an object.
+pub(crate) fn found_of(alloc: Global, slot: &Text, parts: &[Part]) -> Result<FoundRef, Memory>
+    ensures { IfOk result (λ told. told ≡ found_in_parts slot.now parts.now) }
 {
-    let parts = object.parts.as_slice();
     match parts {
         [first, ..] => match class_named(first) {
             Class::Other => Ok(without_notes(alloc, What::NotInet)),
@@ -99,7 +100,7 @@ fn unread(alloc: Global, slot: &Text, line: u64) -> Result<FoundRef, Memory>
 
 // The addresses that the first attribute of an object names.
 #[tactic(auto, unfolding(crate::specs::References::class_named))]
-fn class_named(first: &Attribute) -> Class
+fn class_named(first: &Part) -> Class
     ensures { result ≡ class_named first.now }
 {
     let name = first.name.as_str();
@@ -136,12 +137,7 @@ fn v6_class(value: &[u8]) -> Class
 }
 
 // What the references of an object come to.
-fn found_in(
-    alloc: Global,
-    slot: &Text,
-    range: Range,
-    parts: &[Attribute],
-) -> Result<FoundRef, Memory>
+fn found_in(alloc: Global, slot: &Text, range: Range, parts: &[Part]) -> Result<FoundRef, Memory>
     ensures { IfOk result (λ told. told ≡ found_in slot.now range parts.now) }
 {
     let kind = used_kind(parts);
@@ -160,13 +156,13 @@ fn found_in(
 
 // The references of one kind among some attributes.
 #[derive(Clone, Copy)]
-enum Used<'a> {
+enum Used<'s, 'a> {
     Nobody,
-    One(&'a Attribute),
+    One(&'s Part<'a>),
     Several,
 }
 
-fn used_among<'a>(kind: Kind, parts: &'a [Attribute]) -> Used<'a>
+fn used_among<'s, 'a>(kind: Kind, parts: &'s [Part<'a>]) -> Used<'s, 'a>
     ensures { IsUsed (filter (is_of_kind kind) parts.entry.now) result }
 {
     let mut used = Used::Nobody;
@@ -178,7 +174,7 @@ fn used_among<'a>(kind: Kind, parts: &'a [Attribute]) -> Used<'a>
     used
 }
 
-fn one_more<'a>(used: Used<'a>, next: &'a Attribute) -> Used<'a>
+fn one_more<'s, 'a>(used: Used<'s, 'a>, next: &'s Part<'a>) -> Used<'s, 'a>
     ensures { (before : List Attribute) → IsUsed before used.entry
         → IsUsed (before ++ next.entry.now ∷ []) result }
 {
@@ -194,8 +190,8 @@ fn read_only(
     alloc: Global,
     slot: &Text,
     range: Range,
-    parts: &[Attribute],
-    only: &Attribute,
+    parts: &[Part],
+    only: &Part,
 ) -> Result<FoundRef, Memory>
     ensures { IfOk result (λ told. told ≡ found_by slot.now range parts.now only.now
         (url_read (url_text (used_kind parts.now) only.now))) }
@@ -220,7 +216,7 @@ fn read_only(
 }
 
 // The time of the last change of an object, or 0.
-fn modified_of(parts: &[Attribute]) -> u64
+fn modified_of(parts: &[Part]) -> u64
     ensures { result ≡ modified_of parts.now }
 {
     match first_modified(parts) {
@@ -229,7 +225,7 @@ fn modified_of(parts: &[Attribute]) -> u64
     }
 }
 
-fn first_modified(parts: &[Attribute]) -> Option<&Attribute>
+fn first_modified<'s, 'a>(parts: &'s [Part<'a>]) -> Option<&'s Part<'a>>
     ensures { option_copied result ≡ find is_last_modified parts.now }
 {
     parts.iter().find(|a| is_last_modified(a))
@@ -241,7 +237,7 @@ fn notes_on(
     slot: &Text,
     kind: Kind,
     used: Option<Rule>,
-    parts: &[Attribute],
+    parts: &[Part],
 ) -> Result<List<Note>, Memory>
     ensures { IfOk result (λ notes. notes ≡ notes_on slot.now kind used parts.now) }
 {
@@ -255,7 +251,7 @@ fn notes_on(
     Ok(List::of(notes))
 }
 
-fn rule_on(kind: Kind, used: Option<Rule>, seen: bool, attribute: &Attribute) -> Option<Rule>
+fn rule_on(kind: Kind, used: Option<Rule>, seen: bool, attribute: &Part) -> Option<Rule>
     ensures { result ≡ rule_on kind used seen attribute.now }
 {
     if is_of_kind(kind, attribute) {

@@ -151,3 +151,9 @@ group_gone false keeps first ls more new e kept k m =
 pub found_aside : (r : Fed) (c : Change) → accepted r (record c { found = [] }) ≡ accepted r c
 unfolding accepted
 found_aside r c = refl
+
+-- whatever items they are
+pub found_beside : (r : Fed) (c : Change) (items : List Item)
+    → accepted r (record c { found = items }) ≡ accepted r c
+unfolding accepted
+found_beside r c items = refl

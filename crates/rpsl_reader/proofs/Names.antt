@@ -1,6 +1,8 @@
 -- A name is ASCII, so it is a text; and a name that is found is the one that was sought.
 use Rattle.std.proofs.Common.{◌≡◌, ℕ, ◌<◌, Bool, true, false, ◌&&◌, List, [], ◌∷◌, length, IsTrue}
 use Rattle.std.proofs.Common.{suc, ap, sym, ◌∙◌, map, refl, arith, nat_eq, nat_le}
+use Rattle.std.proofs.Common.{◌≤◌, ◌||◌, All, get_or}
+use Rattle.std.proofs.lemmas.List.Elements.{All-head, All-tail}
 use Rattle.std.proofs.lemmas.Bool.Decides.{nat_tests}
 use Rattle.std.proofs.lemmas.Str.{IsUtf8-from_ascii}
 use Rattle.std.proofs.lemmas.Str.Ascii.{IsAscii-cons, IsAscii-nil}
@@ -10,6 +12,7 @@ use Rattle.std.specs.List.{list_all}
 use Rattle.std.specs.Str.{IsAscii, IsUtf8}
 use Rattle.geo_terms.specs.PlaceForm.{same_text}
 use Rattle.rpsl_reader.specs.Attributes.{is_name, is_name_byte}
+use Rattle.rpsl_reader.specs.Selections.{HasFirst, is_among}
 
 pub and_left : (a b : Bool) → (a && b) ≡ true → a ≡ true
 and_left true b e = refl
@@ -68,3 +71,36 @@ pub unlike_lower : (name text : List ℕ) → (length name ≡ length text → �
 unlike_lower name text h =
     unlike (map to_ascii_lowercase name) text
     (λ e. h (sym (length-map name to_ascii_lowercase) ∙ e))
+
+-- letters with different marks differ
+apart : (x y : ℕ) (begins : List Bool) (same : Bool) → nat_eq x y ≡ same
+    → get_or begins y false ≡ true → get_or begins x false ≡ false → nat_eq x y ≡ false
+apart x y begins false e marked unmarked = e
+apart x y begins true e marked unmarked =
+    let is : x ≡ y = grind (arith, nat_tests) in
+    let f : true ≡ false = sym marked ∙ ap (λ i. get_or begins i false) (sym is) ∙ unmarked in
+    absurd cc
+
+-- a text that begins with a byte without a mark is none of the texts whose first bytes are marked
+other_text : (x : ℕ) (xs text : List ℕ) (begins : List Bool) → HasFirst begins text
+    → get_or begins x false ≡ false → same_text (x ∷ xs) text ≡ false
+other_text x xs [] begins marked unmarked = refl
+other_text x xs (y ∷ ys) begins marked unmarked =
+    ap (λ t. t && same_text xs ys) (apart x y begins (nat_eq x y) refl marked unmarked)
+
+not_among : (x : ℕ) (xs : List ℕ) (names : List (List ℕ)) (begins : List Bool)
+    → All (HasFirst begins) names → get_or begins x false ≡ false
+    → is_among (x ∷ xs) names ≡ false
+not_among x xs [] begins marked unmarked = refl
+not_among x xs (n ∷ ns) begins marked unmarked =
+    ap (λ t. t || is_among (x ∷ xs) ns)
+    (other_text x xs n begins (All-head (HasFirst begins) n ns marked) unmarked)
+    ∙ not_among x xs ns begins (All-tail (HasFirst begins) n ns marked) unmarked
+
+pub unwanted : (name : List ℕ) (names : List (List ℕ)) (begins : List Bool) → 1 ≤ length name
+    → All (HasFirst begins) names
+    → get_or begins (to_ascii_lowercase (get_or name 0 0)) false ≡ false
+    → is_among (map to_ascii_lowercase name) names ≡ false
+unwanted [] names begins long marked unmarked = absurd (omega arith)
+unwanted (b ∷ bs) names begins long marked unmarked =
+    not_among (to_ascii_lowercase b) (map to_ascii_lowercase bs) names begins marked unmarked

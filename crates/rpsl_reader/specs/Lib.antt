@@ -3,4 +3,5 @@ pub mod Changes
 pub mod Laws
 pub mod Objects
 pub mod Reading
+pub mod Seen
 pub mod Selections

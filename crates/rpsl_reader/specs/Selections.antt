@@ -1,5 +1,5 @@
 -- Which objects, and which attributes of them, a reader is asked for.
-use Rattle.std.specs.Prelude.{ℕ, Bool, ◌||◌, if◌then◌else◌, List, [], ◌∷◌, filter, filter_map}
+use Rattle.std.specs.Prelude.{◌≡◌, ℕ, All, Bool, false, length, get_or, true, ◌||◌, if◌then◌else◌, List, [], ◌∷◌, filter, filter_map}
 use Rattle.std.specs.Prelude.{Option, None, Some}
 use Rattle.std.specs.List.{list_any}
 use Rattle.geo_terms.specs.PlaceForm.{same_text}
@@ -17,6 +17,15 @@ pub record Wanted : Type 0 where
 -- whether a name is one of these
 abbrev pub is_among : List ℕ → List (List ℕ) → Bool
 is_among name names = list_any (same_text name) names
+
+-- whether the first byte of a text is marked, if it has one
+abbrev pub HasFirst : (begins : List Bool) → List ℕ → Type 0
+HasFirst begins [] = Unit {0}
+HasFirst begins (b ∷ bs) = get_or begins b false ≡ true
+
+-- marks of bytes, among which are the first ones of some texts
+abbrev pub HasFirsts : (begins : List Bool) → List (List ℕ) → Type 0
+HasFirsts begins names = (length begins ≡ 256) × All (HasFirst begins) names
 
 -- whether objects of a class are handed out
 abbrev pub wants_class : Wanted → List ℕ → Bool

@@ -4,14 +4,14 @@ ghost use Rattle.std.specs.Char.{to_ascii_lowercase};
 ghost use Rattle.std.specs.List.{list_any, position, position_or_len};
 ghost use Rattle.rpsl_reader.specs.Attributes.{HasSides, attribute, attribute_in, attributes};
 ghost use Rattle.rpsl_reader.specs.Attributes.{continued, is_attribute, is_name, is_name_byte};
-ghost use Rattle.rpsl_reader.specs.Attributes.{is_stray, joined, may_begin, said_of};
+ghost use Rattle.rpsl_reader.specs.Attributes.{is_stray, may_begin, said_of};
 ghost use Rattle.rpsl_reader.specs.Selections.{wants_name};
 
 use crate::front::{TOGETHER, plain_front};
-use crate::item::Attribute;
 use crate::line::{GroupLine, continues, cut_first, without_first};
+use crate::seen::{Part, Said};
 use crate::selection::Selection;
-use geo_addr::{Bytes, Memory, Text, trim_blanks};
+use geo_addr::{Memory, Text, trim_blanks};
 use std::alloc::Global;
 
 /// The most bytes of a name behind its first letter.
@@ -102,12 +102,16 @@ pub(crate) fn lower_name(alloc: Global, name: &[u8]) -> Result<Text, Memory>
 }
 
 /// The value that begins behind a colon, with the lines that continue it.
-pub(crate) fn value_of(alloc: Global, first: &[u8], lines: &[GroupLine]) -> Result<Bytes, Memory>
-    ensures { IfOk result (λ value. value ≡ continued (said_of first.now) lines.now) }
+pub(crate) fn value_of<'a>(
+    alloc: Global,
+    first: &'a [u8],
+    lines: &[GroupLine],
+) -> Result<Said<'a>, Memory>
+    ensures { IfOk result (λ value. value ≡ continued (said_of first.entry.now) lines.now) }
 {
-    let mut value = Vec::from_slice(alloc, said_of(first))?;
+    let mut value = Said::of(alloc, said_of(first));
     continue_value(&mut value, lines)?;
-    Ok(Bytes::from_vec(value))
+    Ok(value)
 }
 
 // What a text says before its first `#`.
@@ -124,13 +128,13 @@ fn said_of(text: &[u8]) -> &[u8]
 
 // Goes on with a value as far as the lines continue it.
 #[tactic(auto, unfolding(crate::specs::Attributes::continued))]
-fn continue_value(value: &mut Vec<u8>, lines: &[GroupLine]) -> Result<(), Memory>
-    ensures { OnOk result (value.new.items ≡ continued value.old.items lines.now) }
+fn continue_value(value: &mut Said, lines: &[GroupLine]) -> Result<(), Memory>
+    ensures { OnOk result (value.new ≡ continued value.old lines.now) }
 {
     let mut left = lines;
     while let [line, rest @ ..] = left {
         if continues(line.text) {
-            join(value, said_of(without_first(line.text)))?;
+            value.join(said_of(without_first(line.text)))?;
         } else if sides_of(line.text).is_some() {
             return Ok(());
         }
@@ -139,27 +143,13 @@ fn continue_value(value: &mut Vec<u8>, lines: &[GroupLine]) -> Result<(), Memory
     Ok(())
 }
 
-// Adds what is said behind a value.
-fn join(value: &mut Vec<u8>, said: &[u8]) -> Result<(), Memory>
-    ensures { OnOk result (value.new.items ≡ joined value.old.items said.now) }
-{
-    if said.is_empty() {
-        return Ok(());
-    }
-    if !value.is_empty() {
-        value.push(b' ')?;
-    }
-    value.extend_from_slice(said)?;
-    Ok(())
-}
-
 /// Adds the attributes of some lines, as far as they are wanted, and says whether a line is stray.
 #[tactic(auto, unfolding(crate::specs::Attributes::attributes))]
-pub(crate) fn push_attributes(
+pub(crate) fn push_attributes<'a>(
     alloc: Global,
     selection: &Selection,
-    lines: &[GroupLine],
-    parts: &mut Vec<Attribute>,
+    lines: &[GroupLine<'a>],
+    parts: &mut Vec<Part<'a>>,
 ) -> Result<bool, Memory>
     ensures parts { OnOk result (parts.new.items
         ≡ parts.old.items ++ filter (λ a. wants_name selection.now a.name) (attributes lines.now)) }
@@ -177,12 +167,12 @@ pub(crate) fn push_attributes(
 }
 
 // Adds the attribute that a line begins, where it is wanted, or says whether the line is stray.
-fn push_line(
+fn push_line<'a>(
     alloc: Global,
     selection: &Selection,
-    line: &GroupLine,
-    lines: &[GroupLine],
-    parts: &mut Vec<Attribute>,
+    line: &GroupLine<'a>,
+    lines: &[GroupLine<'a>],
+    parts: &mut Vec<Part<'a>>,
 ) -> Result<bool, Memory>
     ensures parts { OnOk result (parts.new.items ≡ parts.old.items
         ++ filter (λ a. wants_name selection.now a.name) (attribute_in line.now lines.now)) }
@@ -198,13 +188,13 @@ fn push_line(
 }
 
 // Adds the attribute that a line begins, where it is wanted.
-fn push_attribute(
+fn push_attribute<'a>(
     alloc: Global,
     selection: &Selection,
-    line: &GroupLine,
-    sides: Sides,
-    lines: &[GroupLine],
-    parts: &mut Vec<Attribute>,
+    line: &GroupLine<'a>,
+    sides: Sides<'a>,
+    lines: &[GroupLine<'a>],
+    parts: &mut Vec<Part<'a>>,
 ) -> Result<(), Memory>
     requires { HasSides line.now.1 sides.name.now sides.value.now }
     ensures { OnOk result (parts.new.items ≡ parts.old.items
@@ -215,6 +205,6 @@ fn push_attribute(
     };
     let value = value_of(alloc, sides.value, lines)?;
     let line = line.number;
-    parts.push(Attribute { name, value, line })?;
+    parts.push(Part { name, value, line })?;
     Ok(())
 }

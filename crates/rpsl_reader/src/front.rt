@@ -1,6 +1,7 @@
 //! The first bytes of a line, which are looked at together.
-ghost use Rattle.std.specs.Prelude.{◌≡◌, ℕ, ◌<◌, ◌≤◌, length, slice_index, IsTrue, nat_lt};
-ghost use Rattle.std.specs.Prelude.{if◌then◌else◌};
+ghost use Rattle.std.specs.Prelude.{◌≡◌, ◌≢◌, ℕ, ◌<◌, ◌≤◌, length, map, slice_index, IsTrue, nat_lt};
+ghost use Rattle.std.specs.Prelude.{◌==◌, if◌then◌else◌};
+ghost use Rattle.std.specs.Simd.Lanes.{mask_l};
 ghost use Rattle.rpsl_reader.specs.Attributes.{is_name_byte};
 
 use std::simd::prelude::*;
@@ -55,4 +56,29 @@ fn leading_zeros(bytes: u8x16) -> usize
         return TOGETHER;
     }
     others.trailing_zeros() as usize
+}
+
+/// How many bytes are searched together for the end of a line: few lines are longer.
+pub(crate) const WIDE: usize = 64;
+
+/// The offset of the first line feed among the first 64 bytes of a text, or 64 where there is none.
+#[inline(always)]
+pub(crate) fn feed_among(text: &[u8]) -> usize
+    requires { 64 ≤ length text.now }
+    ensures free { (k : ℕ) → k < result → slice_index text.now k ≢ 10 }
+    ensures feed { result < 64 → slice_index text.now result ≡ 10 }
+{
+    let found = feeds(u8x64::from_slice(text));
+    if found == 0 {
+        return WIDE;
+    }
+    found.trailing_zeros() as usize
+}
+
+// A bit for each lane that is a line feed, the first one's lowest.
+#[inline(always)]
+fn feeds(bytes: u8x64) -> u64
+    ensures { result ≡ mask_l (map (λ b. b == 10) bytes) }
+{
+    bytes.simd_eq(u8x64::splat(b'\n')).to_bitmask()
 }

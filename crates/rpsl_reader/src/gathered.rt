@@ -8,6 +8,7 @@ use crate::item::Item;
 use crate::line::{GroupLine, HeldLine, held_lines, is_comment, is_end};
 use crate::object::push_items;
 use crate::progress::{Ended, Progress};
+use crate::seen::Seen;
 use crate::selection::Selection;
 use geo_addr::Memory;
 use geo_terms::Rule;
@@ -72,7 +73,7 @@ impl<'a> Gathered<'a> {
         selection: &Selection,
         number: u64,
         text: &'a [u8],
-        found: &mut Vec<Item>,
+        found: &mut Seen<'a>,
     ) -> Result<(), Memory>
         ensures held { OnOk result (self.new.held ≡ self.old.held) }
         ensures group { OnOk result
@@ -138,13 +139,13 @@ impl<'a> Gathered<'a> {
     }
 
     // Adds what the group says.
-    fn say(&self, selection: &Selection, found: &mut Vec<Item>) -> Result<(), Memory>
+    fn say(&self, selection: &Selection, found: &mut Seen<'a>) -> Result<(), Memory>
         ensures { OnOk result (found.new.items
             ≡ found.old.items ++ wanted selection.now (said_by (open_group self.now))) }
     {
         if let Some(line) = self.first {
             let rule = Rule::P01;
-            found.push(Item::Passed { line, rule })?;
+            found.pass(line, rule)?;
             return Ok(());
         }
         if self.keeps && !self.held.is_empty() {
@@ -157,7 +158,7 @@ impl<'a> Gathered<'a> {
     }
 
     // The held lines and those of the piece.
-    fn whole(&self) -> Result<Vec<GroupLine<'_>>, Memory>
+    fn whole(&self) -> Result<Vec<GroupLine<'a>>, Memory>
         ensures { IfOk result (λ lines. lines.items ≡ self.now.held ++ self.now.lines) }
     {
         let mut lines = Vec::with_capacity(self.alloc, self.held.len())?;

@@ -12,9 +12,11 @@ mod pending;
 mod progress;
 mod read;
 mod reader;
+mod seen;
 mod selection;
 
 pub use item::{Attribute, Item, Object};
 pub use progress::Progress;
 pub use reader::Reader;
+pub use seen::{Part, Said, Seen, Sight, parts_of};
 pub use selection::Selection;

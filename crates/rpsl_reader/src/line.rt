@@ -1,10 +1,11 @@
-ghost use Rattle.std.specs.Prelude.{◌≡◌, IfOk, drop};
+ghost use Rattle.std.specs.Prelude.{◌≡◌, ◌≢◌, ◌∷◌, ◌++◌, All, IfOk, MatchOption, drop};
 ghost use Rattle.std.specs.Str.Lines.{strip_carriage_return};
 ghost use Rattle.std.specs.Option.{option_copied};
 ghost use Rattle.geo_addr.specs.Prefixes.{cut_first};
 ghost use Rattle.rpsl_reader.specs.Attributes.{continues, is_comment, is_end};
 ghost use Rattle.rpsl_reader.specs.Reading.{line_of};
 
+use crate::front::{WIDE, feed_among};
 use geo_addr::{Bytes, Memory, cut_at, is_blank, skip_mark};
 use std::alloc::Global;
 use std::marker::Model;
@@ -102,6 +103,23 @@ pub(crate) fn cut_first(text: &[u8], separator: u8) -> (&[u8], Option<&[u8]>)
     ensures { cut_first separator text.now ≡ (result.0.now, option_copied result.1) }
 {
     cut_at(text, separator)
+}
+
+/// The text before its first line feed, which is mostly near, and what stands behind it.
+#[inline(always)]
+pub(crate) fn cut_line(text: &[u8]) -> (&[u8], Option<&[u8]>)
+    ensures free { All (λ b. b ≢ 10) result.0.now }
+    ensures joined { MatchOption result.1
+        (text.now ≡ result.0.now)
+        (λ after. text.now ≡ result.0.now ++ 10 ∷ after.now) }
+{
+    if WIDE <= text.len() {
+        let end = feed_among(text);
+        if end < WIDE {
+            return (&text[..end], Some(&text[end + 1..]));
+        }
+    }
+    cut_at(text, b'\n')
 }
 
 /// Copies of lines, to be kept.

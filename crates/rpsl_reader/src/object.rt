@@ -7,19 +7,19 @@ ghost use Rattle.rpsl_reader.specs.Selections.{wanted, wants_name};
 ghost use Rattle.rpsl_reader.specs.declared.item.Item.TheVariants.{Passed, Whole};
 
 use crate::attribute::{Sides, is_stray, push_attributes, sides_of, value_of};
-use crate::item::{Attribute, Item, Object};
 use crate::line::GroupLine;
+use crate::seen::{Part, Seen};
 use crate::selection::Selection;
-use geo_addr::{List, Memory, Text};
+use geo_addr::{Memory, Text};
 use geo_terms::Rule;
 use std::alloc::Global;
 
 /// Adds the object and the notes that lines say, as far as they are wanted.
-pub(crate) fn push_items(
+pub(crate) fn push_items<'a>(
     alloc: Global,
     selection: &Selection,
-    lines: &[GroupLine],
-    found: &mut Vec<Item>,
+    lines: &[GroupLine<'a>],
+    found: &mut Seen<'a>,
 ) -> Result<(), Memory>
     ensures { OnOk result
         (found.new.items ≡ found.old.items ++ wanted selection.now (items lines.now)) }
@@ -37,13 +37,13 @@ pub(crate) fn push_items(
 }
 
 // Adds the object that begins with a line, where it is wanted, and the notes on later lines.
-fn push_first(
+fn push_first<'a>(
     alloc: Global,
     selection: &Selection,
-    line: &GroupLine,
-    sides: Sides,
-    lines: &[GroupLine],
-    found: &mut Vec<Item>,
+    line: &GroupLine<'a>,
+    sides: Sides<'a>,
+    lines: &[GroupLine<'a>],
+    found: &mut Seen<'a>,
 ) -> Result<(), Memory>
     requires { HasSides line.now.1 sides.name.now sides.value.now }
     ensures { OnOk result
@@ -59,13 +59,13 @@ fn push_first(
 }
 
 // Adds the same object alone, and says whether a line behind its first one may be stray.
-fn push_object(
+fn push_object<'a>(
     alloc: Global,
     selection: &Selection,
-    line: &GroupLine,
-    sides: Sides,
-    lines: &[GroupLine],
-    found: &mut Vec<Item>,
+    line: &GroupLine<'a>,
+    sides: Sides<'a>,
+    lines: &[GroupLine<'a>],
+    found: &mut Seen<'a>,
 ) -> Result<bool, Memory>
     requires { HasSides line.now.1 sides.name.now sides.value.now }
     ensures found { OnOk result
@@ -78,42 +78,45 @@ fn push_object(
     let Some(name) = selection.class_name(alloc, sides.name)? else {
         return Ok(true);
     };
-    let (object, strays) = object_of(alloc, selection, name, line, sides.value, lines)?;
-    found.push(Item::Whole(object))?;
+    let strays = begin_object(
+        alloc,
+        selection,
+        name,
+        line,
+        sides.value,
+        lines,
+        &mut found.begun,
+    )?;
+    found.close(line.number)?;
     Ok(strays)
 }
 
-// The object of a class with its wanted attributes, and whether a line behind its first one is
-// stray.
-fn object_of(
+// The wanted attributes of an object of a class, and whether a line behind its first one is stray.
+fn begin_object<'a>(
     alloc: Global,
     selection: &Selection,
     name: Text,
-    line: &GroupLine,
-    first: &[u8],
-    lines: &[GroupLine],
-) -> Result<(Object, bool), Memory>
-    ensures object { IfOk result (λ made. made.0 ≡ record {
+    line: &GroupLine<'a>,
+    first: &'a [u8],
+    lines: &[GroupLine<'a>],
+    parts: &mut Vec<Part<'a>>,
+) -> Result<bool, Memory>
+    ensures parts { OnOk result (parts.new.items ≡ record {
+      name = name;
+      value = continued (said_of first.entry.now) lines.now;
       line = line.now.0;
-      parts = record {
-        name = name;
-        value = continued (said_of first.now) lines.now;
-        line = line.now.0;
-      } ∷ filter (λ a. wants_name selection.now a.name) (attributes lines.now);
-    }) }
-    ensures strays { IfOk result (λ made. made.1 ≡ list_any (λ l. is_stray l.1) lines.now) }
+    } ∷ filter (λ a. wants_name selection.now a.name) (attributes lines.now)) }
+    ensures strays { IfOk result (λ strays. strays ≡ list_any (λ l. is_stray l.1) lines.now) }
 {
     let value = value_of(alloc, first, lines)?;
     let line = line.number;
-    let mut parts = Vec::new(alloc);
-    parts.push(Attribute { name, value, line })?;
-    let strays = push_attributes(alloc, selection, lines, &mut parts)?;
-    let parts = List::of(parts);
-    Ok((Object { line, parts }, strays))
+    parts.clear();
+    parts.push(Part { name, value, line })?;
+    push_attributes(alloc, selection, lines, parts)
 }
 
 // Adds a note on each line that is neither an attribute nor a continuation.
-fn push_strays(lines: &[GroupLine], found: &mut Vec<Item>) -> Result<(), Memory>
+fn push_strays(lines: &[GroupLine], found: &mut Seen) -> Result<(), Memory>
     ensures { OnOk result (found.new.items ≡ found.old.items ++ strays lines.now) }
 {
     let mut left = lines;
@@ -127,11 +130,11 @@ fn push_strays(lines: &[GroupLine], found: &mut Vec<Item>) -> Result<(), Memory>
 }
 
 // Adds the note on such a line.
-fn push_stray(line: &GroupLine, found: &mut Vec<Item>) -> Result<(), Memory>
+fn push_stray(line: &GroupLine, found: &mut Seen) -> Result<(), Memory>
     ensures { OnOk result (found.new.items ≡ found.old.items ++ Passed line.now.0 Rule.P02 ∷ []) }
 {
     let line = line.number;
     let rule = Rule::P02;
-    found.push(Item::Passed { line, rule })?;
+    found.pass(line, rule)?;
     Ok(())
 }

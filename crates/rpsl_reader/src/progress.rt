@@ -55,6 +55,15 @@ impl<'a> Progress<'a> {
         self.found.as_slice()
     }
 
+    /// The same with copies of items.
+    pub(crate) fn with(self, found: Vec<Item>) -> Progress<'a>
+        ensures { result ≡ record self.entry { found = found.items } }
+    {
+        let mut progress = self;
+        progress.found = found;
+        progress
+    }
+
     /// Moves the items to the end of `out`.
     pub(crate) fn give(&mut self, out: &mut Vec<Item>) -> Result<(), Memory>
         ensures items { OnOk result (out.new.items ≡ out.old.items ++ self.old.found) }

@@ -6,11 +6,11 @@ ghost use Rattle.rpsl_reader.specs.Reading.{after, given, grown, state_of};
 ghost use Rattle.rpsl_reader.specs.Selections.{wanted};
 
 use crate::gathered::Gathered;
-use crate::item::Item;
-use crate::line::text_of;
+use crate::line::{cut_line, text_of};
 use crate::progress::Ended;
+use crate::seen::Seen;
 use crate::selection::Selection;
-use geo_addr::{Memory, cut_at};
+use geo_addr::Memory;
 
 /// Reads the line before a line feed, and the lines that end in the bytes behind it.
 pub(crate) fn read_lines<'b, 'a: 'b>(
@@ -19,7 +19,7 @@ pub(crate) fn read_lines<'b, 'a: 'b>(
     gathered: &mut Gathered<'b>,
     first: &'b [u8],
     rest: &'a [u8],
-    found: &mut Vec<Item>,
+    found: &mut Seen<'b>,
 ) -> Result<Ended<'a>, Memory>
     requires { lines + length rest.now + 1 < 2 ^ 64 }
     ensures held { OnOk result (gathered.new.held ≡ gathered.old.held) }
@@ -36,7 +36,7 @@ pub(crate) fn read_lines<'b, 'a: 'b>(
     'each: loop {
         lines += 1;
         gathered.take(selection, lines, text_of(lines, line), found)?;
-        let (piece, after) = cut_at(left, b'\n');
+        let (piece, after) = cut_line(left);
         let Some(after) = after else {
             return Ok(Ended { lines, tail: left });
         };

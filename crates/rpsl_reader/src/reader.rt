@@ -10,6 +10,7 @@ use crate::line::HeldLine;
 use crate::pending::hold;
 use crate::progress::Progress;
 use crate::read::read_lines;
+use crate::seen::Seen;
 use crate::selection::Selection;
 use geo_addr::{Memory, cut_at};
 use std::alloc::Global;
@@ -120,11 +121,33 @@ impl Reader {
         ensures items { IfOk result
             (λ progress. progress.found ≡ wanted selection.now (given self.now.state piece.now)) }
     {
+        let mut line = Vec::new(self.alloc);
+        let (progress, seen) = self.see(piece, selection, &mut line)?;
+        let found = seen.items(self.alloc)?;
+        Ok(progress.with(found))
+    }
+
+    /// The same, as it stands in the piece, in this reader and in `line`, whose bytes do not matter.
+    pub fn see<'b, 'a: 'b>(
+        &'b self,
+        piece: &'a [u8],
+        selection: &Selection,
+        line: &'b mut Vec<u8>,
+    ) -> Result<(Progress<'a>, Seen<'b>), Memory>
+        requires { self.now.fed + length piece.now < 2 ^ 63 }
+        ensures change { IfOk result (λ both. IsChange self.entry.now both.0) }
+        ensures fed { IfOk result (λ both. (accepted self.entry.now both.0).fed
+            ≡ self.entry.now.fed + length piece.entry.now) }
+        ensures state { IfOk result (λ both. (accepted self.entry.now both.0).state
+            ≡ after self.entry.now.state piece.entry.now) }
+        ensures items { IfOk result (λ both. both.1.items
+            ≡ wanted selection.now (given self.entry.now.state piece.entry.now)) }
+    {
         let fed = self.fed + piece.len() as u64;
         let (head, after) = cut_at(piece, b'\n');
         match after {
-            None => Ok(self.part(fed, piece)),
-            Some(rest) => self.ended(selection, fed, head, rest),
+            None => Ok((self.part(fed, piece), Seen::new(self.alloc))),
+            Some(rest) => self.ended(selection, fed, head, rest, line),
         }
     }
 
@@ -152,44 +175,49 @@ impl Reader {
     }
 
     // What a piece gives and changes whose first line feed stands behind `head`.
-    fn ended<'a>(
-        &self,
+    fn ended<'b, 'a: 'b>(
+        &'b self,
         selection: &Selection,
         fed: u64,
         head: &[u8],
         rest: &'a [u8],
-    ) -> Result<Progress<'a>, Memory>
+        line: &'b mut Vec<u8>,
+    ) -> Result<(Progress<'a>, Seen<'b>), Memory>
         requires counted { self.now.fed + length head.now + length rest.now + 1 ≡ fed }
         requires fits { fed < 2 ^ 63 }
         requires free { All (λ b. b ≢ 10) head.now }
-        ensures change { IfOk result (λ progress. IsChange self.now progress) }
-        ensures after { IfOk result (λ progress. accepted self.now progress
-            ≡ record { fed = fed; state = after self.now.state (head.now ++ 10 ∷ rest.now) }) }
-        ensures items { IfOk result (λ progress. progress.found
-            ≡ wanted selection.now (given self.now.state (head.now ++ 10 ∷ rest.now))) }
+        ensures change { IfOk result (λ both. IsChange self.entry.now both.0) }
+        ensures after { IfOk result (λ both. accepted self.entry.now both.0 ≡ record {
+          fed = fed;
+          state = after self.entry.now.state (head.now ++ 10 ∷ rest.entry.now);
+        }) }
+        ensures items { IfOk result (λ both. both.1.items
+            ≡ wanted selection.now (given self.entry.now.state (head.now ++ 10 ∷ rest.entry.now))) }
     {
-        let first = self.first_line(head)?;
+        self.first_line(head, line)?;
         let mut gathered = self.gathered();
-        let mut found = Vec::new(self.alloc);
+        let mut found = Seen::new(self.alloc);
         let ended = read_lines(
             selection,
             self.lines(),
             &mut gathered,
-            first.as_slice(),
+            line.as_slice(),
             rest,
             &mut found,
         )?;
-        let progress = gathered.progress(fed, ended, found)?;
-        Ok(progress)
+        let none = Vec::new(self.alloc);
+        let progress = gathered.progress(fed, ended, none)?;
+        Ok((progress, found))
     }
 
     // The line that has not ended, with more of it.
-    fn first_line(&self, head: &[u8]) -> Result<Vec<u8>, Memory>
-        ensures { IfOk result (λ line. line.items ≡ fold grown self.now.state.pending head.now) }
+    fn first_line(&self, head: &[u8], line: &mut Vec<u8>) -> Result<(), Memory>
+        ensures { OnOk result
+            (line.new.items ≡ fold grown self.now.state.pending head.now) }
     {
-        let mut line = Vec::from_slice(self.alloc, self.pending.as_slice())?;
-        hold(&mut line, head)?;
-        Ok(line)
+        line.clear();
+        line.extend_from_slice(self.pending.as_slice())?;
+        hold(line, head)
     }
 
     // The open group, before the next piece.
@@ -247,8 +275,17 @@ impl Reader {
     pub fn read_end(&self, selection: &Selection) -> Result<Vec<Item>, Memory>
         ensures { IfOk result (λ found. found.items ≡ wanted selection.now (last self.now.state)) }
     {
+        let seen = self.see_end(selection)?;
+        seen.items(self.alloc)
+    }
+
+    /// The same, as it stands in this reader.
+    pub fn see_end(&self, selection: &Selection) -> Result<Seen<'_>, Memory>
+        ensures { IfOk result
+            (λ seen. seen.items ≡ wanted selection.now (last self.entry.now.state)) }
+    {
         let mut gathered = self.gathered();
-        let mut found = Vec::new(self.alloc);
+        let mut found = Seen::new(self.alloc);
         let _ended = read_lines(
             selection,
             self.lines(),

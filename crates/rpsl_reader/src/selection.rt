@@ -18,10 +18,12 @@ pub struct Selection {
     everything: bool,
     classes: Vec<Text>,
     names: Vec<Text>,
+    // Whether a wanted name begins with a byte.
+    begins: [bool; 256],
 }
 
 impl Model for Selection {
-    ghost use Rattle.rpsl_reader.specs.Selections.{Wanted};
+    ghost use Rattle.rpsl_reader.specs.Selections.{HasFirsts, Wanted};
 
     ghost Value = { Wanted };
 
@@ -30,6 +32,8 @@ impl Model for Selection {
       classes = s.classes.items;
       names = s.names.items;
     } };
+
+    ghost invariant = { λ s. HasFirsts s.begins s.names.items };
 }
 
 impl Selection {
@@ -41,6 +45,7 @@ impl Selection {
             everything: true,
             classes: Vec::new(alloc),
             names: Vec::new(alloc),
+            begins: [false; 256],
         }
     }
 
@@ -52,6 +57,7 @@ impl Selection {
             everything: false,
             classes: Vec::new(alloc),
             names: Vec::new(alloc),
+            begins: [false; 256],
         }
     }
 
@@ -70,7 +76,12 @@ impl Selection {
             (self.new ≡ record self.old { names = self.old.names ++ name ∷ [] }) }
         ensures err { OnErr result (self.new ≡ self.old) }
     {
-        self.names.push(name).map_err(Memory::from)
+        let first = name.as_str().as_bytes().first().copied();
+        self.names.push(name)?;
+        if let Some(first) = first {
+            self.begins[usize::from(first)] = true;
+        }
+        Ok(())
     }
 
     /// The name of a class in lower case, where its objects are wanted.
@@ -96,7 +107,20 @@ impl Selection {
         if self.everything {
             return Ok(Some(lower_name(alloc, name)?));
         }
+        if !self.may_want(name) {
+            return Ok(None);
+        }
         copy_of(find(self.names.as_slice(), name))
+    }
+
+    // Whether a wanted name begins with the letter that a name begins with.
+    fn may_want(&self, name: &[u8]) -> bool
+        ensures { result ≡ false → is_among (map to_ascii_lowercase name.now) self.now.names ≡ false }
+    {
+        match name {
+            [first, ..] => self.begins[usize::from(first.to_ascii_lowercase())],
+            [] => true,
+        }
     }
 }
 

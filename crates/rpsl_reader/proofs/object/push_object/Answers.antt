@@ -1,4 +1,4 @@
-use Rattle.std.proofs.Common.{◌++◌, ◌∷◌, [], ap, sym, ◌∙◌}
+use Rattle.std.proofs.Common.{◌++◌, ◌∷◌, [], sym, ◌∙◌}
 use Rattle.rpsl_reader.specs.declared.item.Item.TheVariants.{Whole}
 use Rattle.rpsl_reader.proofs.Sides.{sides_named}
 use Rattle.rpsl_reader.proofs.Wanted.{none_stray, sides_in, sides_out}
@@ -15,10 +15,13 @@ class_name-requires c =
 
 pub returns-clause-found : goal.returns-clause-found
 returns-clause-found c =
-    c.in_ok-push.ensures.items
-    ∙ ap (λ o. c.args.found.now.items ++ (Whole o ∷ [])) c.in_ok-object.ensures.object
+    c.in_ok-close.ensures
+    ∙ (λ i. (c.found.view_is i).items ++ (Whole (record {
+      line = (c.line.view_is i).0;
+      parts = c.in_ok-strays.ensures.parts i;
+    }) ∷ []))
     ∙ sides_in c.args.selection.now c.args.line.now c.args.lines.now c.args.sides.name.now
     c.args.sides.value.now c.args.found.now.items _ _ c.requires c.in_ok-name.ensures c.in-Some.is
 
 pub returns-clause-strays : goal.returns-clause-strays
-returns-clause-strays c = λ no. none_stray c.args.lines.now (sym c.in_ok-object.ensures.strays ∙ no)
+returns-clause-strays c = λ no. none_stray c.args.lines.now (sym c.in_ok-strays.ensures.strays ∙ no)

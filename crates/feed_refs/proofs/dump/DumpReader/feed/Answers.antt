@@ -1,5 +1,5 @@
 -- The reader stands for the text and the piece, by what the items of the piece say.
-use Rattle.std.proofs.Common.{◌≡◌, ◌+◌, ◌-◌, ◌<◌, ◌≤◌, ◌++◌, length, ap, arith, ◌∙◌}
+use Rattle.std.proofs.Common.{◌≡◌, ◌+◌, ◌-◌, ◌<◌, ◌≤◌, ◌++◌, length, ap, refl, arith, ◌∙◌}
 use Rattle.geo_terms.specs.declared.source.SourceFault.TheVariants.{TooLong, TooMany}
 use Rattle.rpsl_reader.specs.Reading.{Fed, given}
 use Rattle.feed_refs.specs.Dumps.{longest, most}
@@ -33,8 +33,8 @@ returns-in-Some-clause-answer c = λ ne text h.
     (is_faulty c.self.inside.slot k c.self.inside.fault c.in-Some.fault c.in-Some.is c.args.self.now
     c.self.view_is) text c.args.piece.now h).1
 
-pub read-requires : goal.read-requires
-read-requires c =
+pub see-requires : goal.see-requires
+see-requires c =
     let k : Kept =
     record {
       reader = c.self.inside.reader;
@@ -65,9 +65,9 @@ invariant_of-self-then-len-gt-MOST c =
     c.first_bytes-within.result.now c.first_bytes-within.ensures c.saturating_sub.ensures
     c.self.invariant.counted in
     let said =
-    refs_are c.self.inside.slot c.items.result.now c.in_ok-progress.progress.found
+    refs_are c.self.inside.slot c.in_ok-progress.seen.items c.in_ok-progress.seen.items
     (given k.reader.state c.first_bytes-within.result.now) c.self.inside.selection
-    c.items.ensures c.in_ok-progress.ensures.items c.self.invariant.asked
+    refl c.in_ok-progress.ensures.items c.self.invariant.asked
     c.in_ok-more.more.refs.items c.in_ok-more.ensures.refs in
     let over : most < length k.refs + length c.in_ok-more.more.refs.items = omega (
       arith,
@@ -99,9 +99,9 @@ returns-then-len-gt-MOST-clause-read c = λ ne text h.
     c.first_bytes-within.result.now c.first_bytes-within.ensures c.saturating_sub.ensures
     c.self.invariant.counted in
     let said =
-    refs_are c.self.inside.slot c.items.result.now c.in_ok-progress.progress.found
+    refs_are c.self.inside.slot c.in_ok-progress.seen.items c.in_ok-progress.seen.items
     (given k.reader.state c.first_bytes-within.result.now) c.self.inside.selection
-    c.items.ensures c.in_ok-progress.ensures.items c.self.invariant.asked
+    refl c.in_ok-progress.ensures.items c.self.invariant.asked
     c.in_ok-more.more.refs.items c.in_ok-more.ensures.refs in
     let over : most < length k.refs + length c.in_ok-more.more.refs.items = omega (
       arith,
@@ -128,9 +128,9 @@ returns-then-len-gt-MOST-clause-answer c = λ ne text h.
     c.first_bytes-within.result.now c.first_bytes-within.ensures c.saturating_sub.ensures
     c.self.invariant.counted in
     let said =
-    refs_are c.self.inside.slot c.items.result.now c.in_ok-progress.progress.found
+    refs_are c.self.inside.slot c.in_ok-progress.seen.items c.in_ok-progress.seen.items
     (given k.reader.state c.first_bytes-within.result.now) c.self.inside.selection
-    c.items.ensures c.in_ok-progress.ensures.items c.self.invariant.asked
+    refl c.in_ok-progress.ensures.items c.self.invariant.asked
     c.in_ok-more.more.refs.items c.in_ok-more.ensures.refs in
     let over : most < length k.refs + length c.in_ok-more.more.refs.items = omega (
       arith,
@@ -157,9 +157,9 @@ invariant_of-self-then-within-piece c =
     c.first_bytes-within.result.now c.first_bytes-within.ensures c.saturating_sub.ensures
     c.self.invariant.counted in
     let said =
-    refs_are c.self.inside.slot c.items.result.now c.in_ok-progress.progress.found
+    refs_are c.self.inside.slot c.in_ok-progress.seen.items c.in_ok-progress.seen.items
     (given k.reader.state c.first_bytes-within.result.now) c.self.inside.selection
-    c.items.ensures c.in_ok-progress.ensures.items c.self.invariant.asked
+    refl c.in_ok-progress.ensures.items c.self.invariant.asked
     c.in_ok-more.more.refs.items c.in_ok-more.ensures.refs in
     let few : length k.refs + length c.in_ok-more.more.refs.items ≤ most = omega (
       arith,
@@ -191,9 +191,9 @@ returns-then-within-piece-clause-read c = λ ne text h.
     c.first_bytes-within.result.now c.first_bytes-within.ensures c.saturating_sub.ensures
     c.self.invariant.counted in
     let said =
-    refs_are c.self.inside.slot c.items.result.now c.in_ok-progress.progress.found
+    refs_are c.self.inside.slot c.in_ok-progress.seen.items c.in_ok-progress.seen.items
     (given k.reader.state c.first_bytes-within.result.now) c.self.inside.selection
-    c.items.ensures c.in_ok-progress.ensures.items c.self.invariant.asked
+    refl c.in_ok-progress.ensures.items c.self.invariant.asked
     c.in_ok-more.more.refs.items c.in_ok-more.ensures.refs in
     let few : length k.refs + length c.in_ok-more.more.refs.items ≤ most = omega (
       arith,
@@ -221,9 +221,9 @@ returns-then-within-piece-clause-answer c = λ ne text h.
     c.first_bytes-within.result.now c.first_bytes-within.ensures c.saturating_sub.ensures
     c.self.invariant.counted in
     let said =
-    refs_are c.self.inside.slot c.items.result.now c.in_ok-progress.progress.found
+    refs_are c.self.inside.slot c.in_ok-progress.seen.items c.in_ok-progress.seen.items
     (given k.reader.state c.first_bytes-within.result.now) c.self.inside.selection
-    c.items.ensures c.in_ok-progress.ensures.items c.self.invariant.asked
+    refl c.in_ok-progress.ensures.items c.self.invariant.asked
     c.in_ok-more.more.refs.items c.in_ok-more.ensures.refs in
     let few : length k.refs + length c.in_ok-more.more.refs.items ≤ most = omega (
       arith,
@@ -251,14 +251,14 @@ invariant_of-self-2 c =
     c.first_bytes-within.result.now c.first_bytes-within.ensures c.saturating_sub.ensures
     c.self.invariant.counted in
     let said =
-    refs_are c.self.inside.slot c.items.result.now c.in_ok-progress.progress.found
+    refs_are c.self.inside.slot c.in_ok-progress.seen.items c.in_ok-progress.seen.items
     (given k.reader.state c.first_bytes-within.result.now) c.self.inside.selection
-    c.items.ensures c.in_ok-progress.ensures.items c.self.invariant.asked
+    refl c.in_ok-progress.ensures.items c.self.invariant.asked
     c.in_ok-more.more.refs.items c.in_ok-more.ensures.refs in
     let told =
-    notes_are c.self.inside.slot c.items.result.now c.in_ok-progress.progress.found
+    notes_are c.self.inside.slot c.in_ok-progress.seen.items c.in_ok-progress.seen.items
     (given k.reader.state c.first_bytes-within.result.now) c.self.inside.selection
-    c.items.ensures c.in_ok-progress.ensures.items c.self.invariant.asked
+    refl c.in_ok-progress.ensures.items c.self.invariant.asked
     c.in_ok-more.more.notes.items c.in_ok-more.ensures.notes in
     let few : length k.refs + length c.in_ok-more.more.refs.items ≤ most = omega (
       arith,
@@ -310,14 +310,14 @@ returns-clause-read c = λ ne text h.
     c.first_bytes-within.result.now c.first_bytes-within.ensures c.saturating_sub.ensures
     c.self.invariant.counted in
     let said =
-    refs_are c.self.inside.slot c.items.result.now c.in_ok-progress.progress.found
+    refs_are c.self.inside.slot c.in_ok-progress.seen.items c.in_ok-progress.seen.items
     (given k.reader.state c.first_bytes-within.result.now) c.self.inside.selection
-    c.items.ensures c.in_ok-progress.ensures.items c.self.invariant.asked
+    refl c.in_ok-progress.ensures.items c.self.invariant.asked
     c.in_ok-more.more.refs.items c.in_ok-more.ensures.refs in
     let told =
-    notes_are c.self.inside.slot c.items.result.now c.in_ok-progress.progress.found
+    notes_are c.self.inside.slot c.in_ok-progress.seen.items c.in_ok-progress.seen.items
     (given k.reader.state c.first_bytes-within.result.now) c.self.inside.selection
-    c.items.ensures c.in_ok-progress.ensures.items c.self.invariant.asked
+    refl c.in_ok-progress.ensures.items c.self.invariant.asked
     c.in_ok-more.more.notes.items c.in_ok-more.ensures.notes in
     let few : length k.refs + length c.in_ok-more.more.refs.items ≤ most = omega (
       arith,
@@ -358,14 +358,14 @@ returns-clause-answer c = λ ne text h.
     c.first_bytes-within.result.now c.first_bytes-within.ensures c.saturating_sub.ensures
     c.self.invariant.counted in
     let said =
-    refs_are c.self.inside.slot c.items.result.now c.in_ok-progress.progress.found
+    refs_are c.self.inside.slot c.in_ok-progress.seen.items c.in_ok-progress.seen.items
     (given k.reader.state c.first_bytes-within.result.now) c.self.inside.selection
-    c.items.ensures c.in_ok-progress.ensures.items c.self.invariant.asked
+    refl c.in_ok-progress.ensures.items c.self.invariant.asked
     c.in_ok-more.more.refs.items c.in_ok-more.ensures.refs in
     let told =
-    notes_are c.self.inside.slot c.items.result.now c.in_ok-progress.progress.found
+    notes_are c.self.inside.slot c.in_ok-progress.seen.items c.in_ok-progress.seen.items
     (given k.reader.state c.first_bytes-within.result.now) c.self.inside.selection
-    c.items.ensures c.in_ok-progress.ensures.items c.self.invariant.asked
+    refl c.in_ok-progress.ensures.items c.self.invariant.asked
     c.in_ok-more.more.notes.items c.in_ok-more.ensures.notes in
     let few : length k.refs + length c.in_ok-more.more.refs.items ≤ most = omega (
       arith,

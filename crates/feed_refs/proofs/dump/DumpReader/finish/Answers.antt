@@ -29,9 +29,9 @@ returns-then-len-gt-MOST c = λ ne text h.
       notes = c.self.inside.found.notes.items;
     } in
     let said =
-    refs_are c.self.inside.slot c.as_slice.result.now c.in_ok-items.items.items
-    (last k.reader.state) c.self.inside.selection c.as_slice.ensures.value
-    c.in_ok-items.ensures c.self.invariant.asked c.in_ok-more.more.refs.items
+    refs_are c.self.inside.slot c.in_ok-seen.seen.items c.in_ok-seen.seen.items
+    (last k.reader.state) c.self.inside.selection refl
+    c.in_ok-seen.ensures c.self.invariant.asked c.in_ok-more.more.refs.items
     c.in_ok-more.ensures.refs in
     let over : most < length k.refs + length c.in_ok-more.more.refs.items = omega (
       arith,
@@ -55,14 +55,14 @@ invariant_of-result c =
       notes = c.self.inside.found.notes.items;
     } in
     let said =
-    refs_are c.self.inside.slot c.as_slice.result.now c.in_ok-items.items.items
-    (last k.reader.state) c.self.inside.selection c.as_slice.ensures.value
-    c.in_ok-items.ensures c.self.invariant.asked c.in_ok-more.more.refs.items
+    refs_are c.self.inside.slot c.in_ok-seen.seen.items c.in_ok-seen.seen.items
+    (last k.reader.state) c.self.inside.selection refl
+    c.in_ok-seen.ensures c.self.invariant.asked c.in_ok-more.more.refs.items
     c.in_ok-more.ensures.refs in
     let told =
-    notes_are c.self.inside.slot c.as_slice.result.now c.in_ok-items.items.items
-    (last k.reader.state) c.self.inside.selection c.as_slice.ensures.value
-    c.in_ok-items.ensures c.self.invariant.asked c.in_ok-more.more.notes.items
+    notes_are c.self.inside.slot c.in_ok-seen.seen.items c.in_ok-seen.seen.items
+    (last k.reader.state) c.self.inside.selection refl
+    c.in_ok-seen.ensures c.self.invariant.asked c.in_ok-more.more.notes.items
     c.in_ok-more.ensures.notes in
     let refs : c.join.new.self.refs.items ≡ k.refs ++ c.in_ok-more.more.refs.items =
     c.join.ensures.refs ∙ ap (λ t. t ++ c.in_ok-more.more.refs.items) c.reserve.ensures.refs in
@@ -86,14 +86,14 @@ returns c = λ ne text h.
       notes = c.self.inside.found.notes.items;
     } in
     let said =
-    refs_are c.self.inside.slot c.as_slice.result.now c.in_ok-items.items.items
-    (last k.reader.state) c.self.inside.selection c.as_slice.ensures.value
-    c.in_ok-items.ensures c.self.invariant.asked c.in_ok-more.more.refs.items
+    refs_are c.self.inside.slot c.in_ok-seen.seen.items c.in_ok-seen.seen.items
+    (last k.reader.state) c.self.inside.selection refl
+    c.in_ok-seen.ensures c.self.invariant.asked c.in_ok-more.more.refs.items
     c.in_ok-more.ensures.refs in
     let told =
-    notes_are c.self.inside.slot c.as_slice.result.now c.in_ok-items.items.items
-    (last k.reader.state) c.self.inside.selection c.as_slice.ensures.value
-    c.in_ok-items.ensures c.self.invariant.asked c.in_ok-more.more.notes.items
+    notes_are c.self.inside.slot c.in_ok-seen.seen.items c.in_ok-seen.seen.items
+    (last k.reader.state) c.self.inside.selection refl
+    c.in_ok-seen.ensures c.self.invariant.asked c.in_ok-more.more.notes.items
     c.in_ok-more.ensures.notes in
     let few : length k.refs + length c.in_ok-more.more.refs.items ≤ most = omega (
       arith,

@@ -4,6 +4,6 @@ use Rattle.rpsl_reader.proofs.gathered.Gathered.say.Goals as goal
 
 pub returns-in-Some : goal.returns-in-Some
 returns-in-Some c =
-    c.in_ok-push.ensures.items
+    c.in_ok-pass.ensures
     ∙ ap (λ t. c.args.found.now.items ++ t) (sym (say_over c.args.selection.now c.args.self.now
     c.in-Some.line (ap (λ g. g.first) (sym c.self.view_is) ∙ c.in-Some.is)))

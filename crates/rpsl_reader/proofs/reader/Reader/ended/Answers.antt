@@ -16,7 +16,7 @@ returns-clause-change c =
     ) in
     subst (λ (p : Change). IsChange c.args.self.now p) (sym c.in_ok-progress.ensures.progress)
     (whole_change c.args.self.now c.args.fed c.in_ok-ended.ended.lines c.in_ok-ended.ended.tail.now
-    c.gathered-gathered.result c.read_lines.new.gathered c.read_lines.new.found.items
+    c.gathered-gathered.result c.read_lines.new.gathered c.new-none.result.items
     few c.requires.fits c.in_ok-progress.ensures.open c.gathered-gathered.ensures.held
     c.in_ok-ended.ensures.held)
 
@@ -25,19 +25,18 @@ returns-clause-after c =
     ap (λ (p : Change). accepted c.args.self.now p) c.in_ok-progress.ensures.progress
     ∙ whole_after c.args.self.now c.args.fed c.lines.result c.in_ok-ended.ended.lines
     c.as_slice.result.now c.args.head.now c.args.rest.now c.in_ok-ended.ended.tail.now
-    c.gathered-gathered.result c.read_lines.new.gathered c.read_lines.new.found.items
-    c.lines.ensures.lines (c.as_slice.ensures.value ∙ c.in_ok-first.ensures) c.requires.free
+    c.gathered-gathered.result c.read_lines.new.gathered c.new-none.result.items
+    c.lines.ensures.lines (c.as_slice.ensures.value ∙ c.in_ok-first_line.ensures) c.requires.free
     c.gathered-gathered.ensures.held c.gathered-gathered.ensures.group c.in_ok-ended.ensures.held
     c.in_ok-ended.ensures.state
 
 pub returns-clause-items : goal.returns-clause-items
 returns-clause-items c =
-    ap (λ (p : Change). p.found) c.in_ok-progress.ensures.progress
-    ∙ c.in_ok-ended.ensures.found
+    c.in_ok-ended.ensures.found
     ∙ ap (λ t. t ++ wanted c.args.selection.now
     (given (state_of c.lines.result c.as_slice.result.now (open_group c.gathered-gathered.result))
-    (10 ∷ c.args.rest.now))) c.new-found.ensures.items
+    (10 ∷ c.args.rest.now))) (ap (λ s. s.items) c.new-found.ensures)
     ∙ ap (wanted c.args.selection.now) (whole_given c.args.self.now
     c.lines.result c.as_slice.result.now c.args.head.now c.args.rest.now c.gathered-gathered.result
-    c.lines.ensures.lines (c.as_slice.ensures.value ∙ c.in_ok-first.ensures) c.requires.free
+    c.lines.ensures.lines (c.as_slice.ensures.value ∙ c.in_ok-first_line.ensures) c.requires.free
     c.gathered-gathered.ensures.group)

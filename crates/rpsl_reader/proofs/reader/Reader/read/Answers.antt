@@ -1,15 +1,16 @@
-use Rattle.std.proofs.Common.{ap, sym, ◌∙◌}
-use Rattle.rpsl_reader.specs.Selections.{wanted}
-use Rattle.rpsl_reader.proofs.Cuts.{all_before}
-use Rattle.rpsl_reader.proofs.PieceLemmas.{given-tail}
-use Rattle.rpsl_reader.proofs.Wanted.{wanted_nil}
+use Rattle.std.proofs.Common.{ap, ◌∙◌}
+use Rattle.rpsl_reader.specs.Changes.{accepted}
+use Rattle.rpsl_reader.proofs.Changed.{found_beside}
 use Rattle.rpsl_reader.proofs.reader.Reader.read.Goals as goal
 
-pub returns-in-None-clause-items : goal.returns-in-None-clause-items
-returns-in-None-clause-items c =
-    c.part.ensures.items
-    ∙ sym (ap (wanted c.args.selection.now) (given-tail c.args.self.now.state.lines
-    c.args.self.now.state.pending c.args.self.now.state.group c.args.piece.now
-    (all_before c.args.piece.now c.cut_at.result.0.now c.cut_at.result.1 10 c.cut_at.ensures.joined
-    c.in-None.is c.cut_at.ensures.free))
-    ∙ wanted_nil c.args.selection.now)
+pub returns-clause-fed : goal.returns-clause-fed
+returns-clause-fed c =
+    ap (λ r. r.fed) (ap (accepted c.args.self.now) c.with.ensures
+    ∙ found_beside c.args.self.now c.in_ok-progress.progress c.in_ok-found.found.items)
+    ∙ c.in_ok-progress.ensures.fed
+
+pub returns-clause-state : goal.returns-clause-state
+returns-clause-state c =
+    ap (λ r. r.state) (ap (accepted c.args.self.now) c.with.ensures
+    ∙ found_beside c.args.self.now c.in_ok-progress.progress c.in_ok-found.found.items)
+    ∙ c.in_ok-progress.ensures.state
