@@ -6,7 +6,7 @@ use Rattle.std.specs.Arc.{arc_value}
 use Rattle.std.specs.declared.sync.Arc.{Arc}
 use Rattle.geo_addr.specs.Ranges.{IsBlock, range_of_block}
 use Rattle.geo_terms.specs.Boundaries.{told}
-use Rattle.geo_terms.specs.FirstIndex.{TellsFirst}
+use Rattle.geo_terms.specs.FirstIndex.{StandAtCuts, TellsFirst}
 use Rattle.geo_terms.specs.Precedence.{entry_cmp}
 use Rattle.geo_terms.specs.SlotOrder.{AreInOrder}
 use Rattle.geo_terms.specs.SourceForm.{DumpParts, FeedParts}
@@ -24,10 +24,11 @@ in_force dumps feeds = record { dumps = dumps; feeds = feeds; stats = []; overri
 abbrev pub references_in : List DumpParts → List Reference
 references_in = flat_map (λ d. d.refs)
 
--- an index tells the longest entry of a feed that holds an address
+-- an index tells the longest entry of a feed that holds an address, and stands at its cut points
 pub record TellsEntries (f : FeedParts) (index : List Boundary) : Type 0 where
   pub blocks : All (λ e. IsBlock e.block) f.entries
   pub first : TellsFirst entry_cmp (λ e. range_of_block e.block) f.entries index
+  pub cuts : StandAtCuts (λ e. range_of_block e.block) f.entries index
 
 module _ {Z : Type 0} where
   abbrev pub slot_of : Arc DumpParts Z → List ℕ

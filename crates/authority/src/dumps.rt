@@ -186,3 +186,19 @@ pub fn best_at(refs: &Option<Arc<Index>>, at: Addr) -> Option<&Reference>
         None => None,
     }
 }
+
+/// The first reference in the order of references that holds an address, looked for first where the
+/// last one was found.
+pub fn best_near<'a>(
+    refs: &'a Option<Arc<Index>>,
+    at: Addr,
+    near: &mut usize,
+) -> Option<&'a Reference>
+    ensures { option_copied result
+        ≡ first_at reference_before (λ r. r.range) (indexed refs.entry.now) at.0 }
+{
+    match refs {
+        Some(index) => index.best_near(at, near),
+        None => None,
+    }
+}

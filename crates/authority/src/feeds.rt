@@ -14,6 +14,7 @@ ghost use Rattle.geo_terms.specs.SlotOrder.{AreInOrder};
 ghost use Rattle.geo_terms.specs.Sources.{entries_in};
 ghost use Rattle.authority.specs.Held.{TellFeeds, TellsEntries, told_at, url_of};
 
+use crate::near::Near;
 use geo_addr::{Addr, Memory, Range, range_of};
 use geo_terms::{Entry, Feed, FirstIndex, Reference};
 use std::alloc::Global;
@@ -164,14 +165,14 @@ fn feed_at(feeds: &[Arc<Feed>], index: usize) -> Option<&Feed>
 
 /// The entry that speaks for a speaker at an address: the longest one of its feed that holds the
 /// address, if it lies within the speaker's range. Blocks that hold one address are nested, so
-/// where the longest one does not lie within, no shorter one does. The feed is looked for first
-/// where the last one was found.
+/// where the longest one does not lie within, no shorter one does. The feed and the entry are
+/// looked for first where the last ones were found.
 pub fn entry_of<'a>(
     feeds: &'a [Arc<Feed>],
     firsts: &[Arc<FirstIndex>],
     speaker: &Reference,
     at: Addr,
-    near: &mut usize,
+    near: &mut Near,
 ) -> Option<&'a Entry>
     requires urls { AreInOrder url_of feeds.now }
     requires entries { TellFeeds feeds.now firsts.now }
@@ -179,8 +180,8 @@ pub fn entry_of<'a>(
         (entries_in (find (λ f. same_text f.url speaker.now.url) (map arc_value feeds.entry.now)))
         speaker.now.range at.0) }
 {
-    let index = find_feed_near(feeds, speaker.url.as_str(), near)?;
-    let entry = longest_in(feeds, firsts, index, at)?;
+    let index = find_feed_near(feeds, speaker.url.as_str(), &mut near.feed)?;
+    let entry = longest_in(feeds, firsts, index, at, &mut near.entry)?;
     within(entry, speaker.range)
 }
 
@@ -190,22 +191,28 @@ fn longest_in<'a>(
     firsts: &[Arc<FirstIndex>],
     index: usize,
     at: Addr,
+    near: &mut usize,
 ) -> Option<&'a Entry>
     ensures told { option_copied result ≡ told_at feeds.entry.now firsts.now index at.0 }
     ensures range { at.0 < 2 ^ 128 }
 {
     let feed = feeds.get(index)?;
     let first = firsts.get(index)?;
-    longest_at(feed, first, at)
+    longest_at(feed, first, at, near)
 }
 
 // The longest entry of a feed that holds an address, by the index of the feed.
-fn longest_at<'a>(feed: &'a Feed, first: &FirstIndex, at: Addr) -> Option<&'a Entry>
+fn longest_at<'a>(
+    feed: &'a Feed,
+    first: &FirstIndex,
+    at: Addr,
+    near: &mut usize,
+) -> Option<&'a Entry>
     ensures told { option_copied result
         ≡ option_and_then (slice_get feed.entry.now.entries) (told None first.entry.now at.0) }
     ensures range { at.0 < 2 ^ 128 }
 {
-    let index = first.index_at(at)?;
+    let index = first.index_near(at, near)?;
     feed.entries.as_slice().get(index)
 }
 

@@ -1,7 +1,10 @@
-use crate::dumps::{best_at, insert_dump, remove_dump, replace_dump, search_dumps, shared};
+use crate::dumps::{
+    best_at, best_near, insert_dump, remove_dump, replace_dump, search_dumps, shared,
+};
 use crate::fault::DropFault;
 use crate::feeds::{entry_of, feed_in, insert_feed, remove_feed, replace_feed, search_feeds};
 use crate::indexed::IndexedFeed;
+use crate::near::Near;
 use crate::notes::joint_notes;
 use geo_addr::{Addr, Block, Memory};
 use geo_terms::{Dump, Entry, Feed, FirstIndex, Note, Reference};
@@ -197,16 +200,24 @@ impl Authority {
     pub fn entry_at(&self, at: Addr) -> Option<&Entry>
         ensures { option_copied result ≡ speaking_entry self.now at.0 }
     {
-        let mut near = 0;
+        let mut near = Near::default();
         self.entry_near(at, &mut near)
     }
 
-    /// The entry that speaks at an address. The speaker's feed is looked for first at the index
-    /// where the last one was found, which spares a halving where addresses ascend.
-    pub fn entry_near(&self, at: Addr, near: &mut usize) -> Option<&Entry>
+    // The speaker at an address, looked for first where the last one was found.
+    fn speaker_near(&self, at: Addr, near: &mut usize) -> Option<&Reference>
+        ensures { option_copied result ≡ speaker self.now at.0 }
+    {
+        best_near(&self.refs, at, near)
+    }
+
+    /// The entry that speaks at an address, as `entry_at` gives it. The speaker, its feed and the
+    /// entry are looked for first where the last ones were found, which spares three halvings where
+    /// addresses ascend.
+    pub fn entry_near(&self, at: Addr, near: &mut Near) -> Option<&Entry>
         ensures { option_copied result ≡ speaking_entry self.now at.0 }
     {
-        let speaker = self.speaker_at(at)?;
+        let speaker = self.speaker_near(at, &mut near.speaker)?;
         entry_of(
             self.feeds.as_slice(),
             self.firsts.as_slice(),

@@ -28,9 +28,10 @@ impl Model for IndexedFeed {
 }
 
 impl IndexedFeed {
-    ghost use Rattle.std.specs.Prelude.{◌≡◌, All, IfOk};
+    ghost use Rattle.std.specs.Prelude.{◌≡◌, ◌-◌, ◌^◌, All, IfOk, map};
     ghost use Rattle.std.specs.Arc.{arc_value};
-    ghost use Rattle.geo_addr.specs.Ranges.{IsBlock};
+    ghost use Rattle.std.specs.List.Sorted.{IsStrictlyIncreasing};
+    ghost use Rattle.geo_addr.specs.Ranges.{AreCuts, IsBlock, range_of_block};
     ghost use Rattle.authority.specs.Held.{TellsEntries};
 
     /// The feed with its index.
@@ -48,6 +49,17 @@ impl IndexedFeed {
         ensures blocks { All (λ e. IsBlock e.block) self.now.entries }
     {
         &self.feed
+    }
+
+    /// The cut points of the entries in the whole address space, ascending, each once.
+    pub fn cut_points(&self, alloc: Global) -> Result<Vec<u128>, Memory>
+        ensures exact { IfOk result
+            (λ points. AreCuts (map (λ e. range_of_block e.block) self.now.entries)
+            (record { first = 0; last = 2 ^ 128 - 1 }) points.items) }
+        ensures ascending { IfOk result (λ points. IsStrictlyIncreasing points.items) }
+    {
+        let points = self.first.cut_points(alloc)?;
+        Ok(points)
     }
 
     // The feed and its index, apart.

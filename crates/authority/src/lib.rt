@@ -6,8 +6,10 @@ mod fault;
 mod feeds;
 mod force;
 mod indexed;
+mod near;
 mod notes;
 
 pub use fault::DropFault;
 pub use force::Authority;
 pub use indexed::IndexedFeed;
+pub use near::Near;

@@ -12,6 +12,7 @@ use Rattle.std.proofs.lemmas.List.Sorted.{list_any-IsPermutation, All-permutatio
 use Rattle.geo_addr.specs.Ranges.{Ends, IsRange, ground_first, holds}
 use Rattle.geo_terms.specs.Boundaries.{told, AreBoundaries}
 use Rattle.geo_terms.specs.Edges.{edges_of, edges_from, after_edge, sweep}
+use Rattle.geo_terms.specs.Nested.{StandAtEdges, is_edge, stands_at}
 use Rattle.geo_terms.specs.declared.boundaries.Boundary.{Boundary}
 use Rattle.geo_terms.specs.declared.boundaries.Edge.{Edge}
 use Rattle.geo_terms.proofs.RankLemmas.{after_all, flag, up_all, in_all, head_is_position}
@@ -486,3 +487,49 @@ told_found bs i a le found =
     found.0 k (record { at = 0; first = None }) (omega arith) lt in grind (arith, nat_tests))
     (λ lt. let e : leb (get_or bs i (record { at = 0; first = None })).at a ≡ false =
     found.1 i (record { at = 0; first = None }) (omega arith) lt in grind (arith, nat_tests))
+
+-- where the boundaries of a pass stand
+stands_sweep : (ks : List ℕ) (es : List Edge) (c : ℕ) → stands_at (sweep ks es) c
+    ≡ list_any (λ (e : Edge). eqb e.at c) es
+stands_sweep ks [] c = refl
+stands_sweep ks (e ∷ es) c = ap (λ v. eqb e.at c || v) (stands_sweep (after_edge ks e) es c)
+
+stand_both : (g t k w : Bool) → (g ≡ true → w ≡ true) → (t ≡ true → w ≡ true)
+    → ((g || (t || false)) || (k && w)) ≡ (((g || t) || k) && w)
+stand_both true t k w f h = sym (f refl)
+stand_both false true k w f h = sym (h refl)
+stand_both false false k w f h = refl
+
+stand_begin : (g t k w : Bool) → (g ≡ true → w ≡ true) → (t ≡ true → w ≡ false)
+    → ((g || false) || (k && w)) ≡ (((g || t) || k) && w)
+stand_begin true t k w f h = sym (f refl)
+stand_begin false true k w f h = ap (λ v. k && v) (h refl) ∙ none k ∙ sym (h refl)
+  where
+    none : (v : Bool) → (v && false) ≡ false
+    none true = refl
+    none false = refl
+stand_begin false false k w f h = refl
+
+edges_stand : (n : ℕ) (rs : List Ends) (c : ℕ) → AllByRecursion IsRange rs
+    → list_any (λ (e : Edge). eqb e.at c) (edges_from n rs) ≡ (is_edge rs c && ltb c (2 ^ 128))
+edges_stand n [] c all = refl
+edges_stand n (r ∷ rs) c all =
+    let p : Edge → Bool = λ e. eqb e.at c in
+    let g : ℕ = ground_first r in
+    let order : g < r.last + 1 = ground_before r all.0 in
+    let within : r.last < 2 ^ 128 = all.0.within in
+    list_any-append p (edges_of n r) (edges_from (n + 1) rs)
+    ∙ ap (λ v. list_any p (edges_of n r) || v) (edges_stand (n + 1) rs c all.1)
+    ∙ edges_cases n r (λ es. (list_any p es || (is_edge rs c && ltb c (2 ^ 128)))
+    ≡ (((eqb g c || eqb (r.last + 1) c) || is_edge rs c) && ltb c (2 ^ 128)))
+    (λ ends. stand_both (eqb g c) (eqb (r.last + 1) c) (is_edge rs c) (ltb c (2 ^ 128))
+    (λ is. grind (arith, nat_tests)) (λ is. grind (arith, nat_tests)))
+    (λ never. stand_begin (eqb g c) (eqb (r.last + 1) c) (is_edge rs c) (ltb c (2 ^ 128))
+    (λ is. grind (arith, nat_tests)) (λ is. grind (arith, nat_tests)))
+
+pub are_standing : (ranges : List Ends) (es : List Edge) → IsPermutation (edges_from 0 ranges) es
+    → All IsRange ranges → StandAtEdges ranges (sweep [] es)
+are_standing ranges es same all c =
+    stands_sweep [] es c
+    ∙ sym (list_any-IsPermutation (λ (e : Edge). eqb e.at c) (edges_from 0 ranges) es same)
+    ∙ edges_stand 0 ranges c (recursion_from_All IsRange ranges all)

@@ -1,6 +1,7 @@
 -- What an index tells is the first statement that holds an address:
 -- by the ranks of the statements in their order, those that tie by their indexes.
 use Rattle.std.proofs.Common.{◌≡◌, ℕ, zero, suc, ◌+◌, ◌<◌, ◌≤◌, Bool, true, false, cond, leb, ltb}
+use Rattle.std.proofs.Common.{◌||◌, eqb}
 use Rattle.std.proofs.Common.{List, [], ◌∷◌, length, get_or, map, fold, Option, Some, None}
 use Rattle.std.proofs.Common.{Ordering, slice_get, refl, sym, ap, ◌∙◌, subst, inl, inr, arith}
 use Rattle.std.specs.Cmp.{IsTotalOrder}
@@ -15,9 +16,11 @@ use Rattle.std.proofs.lemmas.List.Sorted.{ranks_by, sorted_far, All-permutation}
 use Rattle.std.proofs.lemmas.List.Sorted.{Contains-permutation, IsPermutation-sym}
 use Rattle.geo_addr.specs.Ranges.{Ends, holds}
 use Rattle.geo_terms.specs.Boundaries.{told, AreBoundaries}
-use Rattle.geo_terms.specs.First.{better, first_of, first_at}
+use Rattle.geo_terms.specs.First.{IsFirst, better, first_of, first_at}
 use Rattle.geo_terms.specs.FirstIndex.{TellsFirst, index_cmp, with_index}
+use Rattle.geo_terms.specs.Nested.{stands_at}
 use Rattle.geo_terms.specs.declared.boundaries.Boundary.{Boundary}
+use Rattle.geo_terms.proofs.FirstLemmas.{first_is_first}
 use Rattle.geo_terms.proofs.Members.{Among, among_from_contains, contains_from_among, all_among}
 
 -- boundaries with indexes tell the index of the rank that was told
@@ -89,6 +92,41 @@ then_greater Ordering.Greater y e is = refl
 abbrev pub found : {X : Type 0} → (X → Ends) → List (ℕ × X) → ℕ → Option (ℕ × X)
 found range_of [] a = None
 found range_of (c ∷ cs) a = cond (holds (range_of c.1) a) (Some c) (found range_of cs a)
+
+-- what is kept of a list, and what of the list is not
+kept_none : {Y : Type 0} (p : Y → Bool) (ys : List Y) → filter p ys ≡ []
+    → AllByRecursion (λ y. p y ≡ false) ys
+kept_none p [] is = tt
+kept_none p (y ∷ ys) is =
+    elim (p y) as (λ v. p y ≡ v → cond v (y ∷ filter p ys) (filter p ys) ≡ []
+    → AllByRecursion (λ y. p y ≡ false) (y ∷ ys)) [
+      | true ↦ λ e here. absurd cc
+      | false ↦ λ e later. (e, kept_none p ys later)
+    ] refl is
+
+among_kept : {Y : Type 0} (p : Y → Bool) (z : Y) (ys : List Y) → Among z (filter p ys)
+    → Among z ys × (p z ≡ true)
+among_kept p z [] is = absurd is
+among_kept p z (y ∷ ys) is =
+    elim (p y) as (λ v. p y ≡ v → Among z (cond v (y ∷ filter p ys) (filter p ys))
+    → Among z (y ∷ ys) × (p z ≡ true)) [
+      | true ↦ λ e here. elim here [
+        | inl same ↦ (inl same, subst (λ x. p x ≡ true) same e)
+        | inr later ↦ let found = among_kept p z ys later in (inr found.0, found.1)
+      ]
+      | false ↦ λ e later. let found = among_kept p z ys later in (inr found.0, found.1)
+    ] refl is
+
+least_kept : {Y : Type 0} (p : Y → Bool) (P : Y → Type 0) (ys : List Y)
+    → AllByRecursion P (filter p ys) → AllByRecursion (λ y. p y ≡ true → P y) ys
+least_kept p P [] all = tt
+least_kept p P (y ∷ ys) all =
+    elim (p y) as (λ v. p y ≡ v → AllByRecursion P (cond v (y ∷ filter p ys) (filter p ys))
+    → AllByRecursion (λ y. p y ≡ true → P y) (y ∷ ys)) [
+      | true ↦ λ e here. ((λ _. here.0), least_kept p P ys here.1)
+      | false ↦ λ e later.
+          ((λ is. absurd (let f : false ≡ true = sym e ∙ is in cc)), least_kept p P ys later)
+    ] refl all
 
 module _ {X : Type 0} (order : X → X → Ordering) (total : IsTotalOrder order)
     (range_of : X → Ends) where
@@ -318,6 +356,31 @@ module _ {X : Type 0} (order : X → X → Ordering) (total : IsTotalOrder order
               (back (λ d. holds (range_of d.1) a ≡ true → ranked_before d z ≡ false) h.least) tt)
         ] refl
 
+    -- the same for the first in the order among those that hold
+    pub best_first : (a : ℕ) → option_and_then (slice_get xs) (option_map (λ (c : ℕ × X). c.0)
+        (first_at ranked_before (λ c. range_of c.1) cs a)) ≡ first_at before range_of xs a
+    best_first a =
+        let p : ℕ × X → Bool = λ c. holds (range_of c.1) a in
+        elim (first_of ranked_before (filter p cs)) as (λ o. IsFirst ranked_before (filter p cs) o
+        → option_and_then (slice_get xs) (option_map (λ (c : ℕ × X). c.0) o)
+        ≡ first_at before range_of xs a) [
+          | None ↦ λ none. sym (ap (first_of before) (nothing_passes (λ x. holds (range_of x) a) 0
+              xs (back (λ c. holds (range_of c.1) a ≡ false) (kept_none p cs none))))
+          | Some z ↦ λ h.
+              let kept = among_kept p z cs (among_from_contains z (filter p cs) h.0) in
+              let least = least_kept p (λ d. ranked_before d z ≡ false) cs
+              (recursion_from_All (λ d. ranked_before d z ≡ false) (filter p cs) h.1) in
+              let member : Among z (enumerate_from 0 xs) =
+              among_from_contains z (enumerate_from 0 xs) (Contains-permutation cs
+              (enumerate_from 0 xs) z (IsPermutation-sym (enumerate_from 0 xs) cs same)
+              (contains_from_among z cs kept.0)) in
+              let at : slice_get xs z.0 ≡ Some z.1 =
+              all_among (λ (c : ℕ × X). slice_get xs c.0 ≡ Some c.1) z (enumerate_from 0 xs)
+              (own_index xs 0 xs (λ k. let e : 0 + k ≡ k = omega arith in rw e refl)) member in
+              at ∙ sym (is_first (λ x. holds (range_of x) a) z 0 xs None member kept.1
+              (back (λ d. holds (range_of d.1) a ≡ true → ranked_before d z ≡ false) least) tt)
+        ] (first_is_first ranked_before (ranks_by index_total (λ (x : ℕ × X). x)) (filter p cs))
+
     -- what a sort of all statements with their indexes, and the boundaries of their ranges, tell
     pub tells_first : (bs : List Boundary)
         → IsSortedBy ranked_before cs → AreBoundaries (map (λ (c : ℕ × X). range_of c.1) cs) bs
@@ -337,6 +400,12 @@ module _ {X : Type 0} (order : X → X → Ordering) (total : IsTotalOrder order
     -- what holds of all statements, from the same with their indexes
     pub all_kept : (P : X → Type 0) → AllByRecursion (λ c. P c.1) cs → All P xs
     all_kept P h = All-from_recursion P xs (each_of P 0 xs (back (λ c. P c.1) h))
+
+-- boundaries with indexes stand where they stood
+pub stands_indexes : (indexes : List ℕ) (bs : List Boundary) (c : ℕ)
+    → stands_at (map (with_index indexes) bs) c ≡ stands_at bs c
+stands_indexes indexes [] c = refl
+stands_indexes indexes (b ∷ bs) c = ap (λ v. eqb b.at c || v) (stands_indexes indexes bs c)
 
 -- a sort of what is seen as statements with their indexes
 module _ {Y Z : Type 0} (seen : Y → Z) where

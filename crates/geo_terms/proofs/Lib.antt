@@ -1,4 +1,3 @@
-pub mod ApartLemmas
 pub mod BoundaryLemmas
 pub mod Constancy
 pub mod FirstLemmas
@@ -6,7 +5,10 @@ pub mod IndexLemmas
 pub mod LineOrder
 pub mod MarkLemmas
 pub mod Members
+pub mod NearLemmas
+pub mod NestedLemmas
 pub mod NumberLemmas
 pub mod PlaceLemmas
 pub mod RankLemmas
 pub mod SlotLemmas
+pub mod StandLemmas

@@ -35,7 +35,7 @@ none_below low r (k ∷ ks) up lt =
     grind (arith, nat_tests)
 
 -- cases of an order of numbers
-nat_cases : (k x : ℕ) (P : Ordering → Type 0) → (k < x → P Ordering.Less)
+pub nat_cases : (k x : ℕ) (P : Ordering → Type 0) → (k < x → P Ordering.Less)
     → (k ≡ x → P Ordering.Equal) → (x < k → P Ordering.Greater) → P (nat_cmp k x)
 nat_cases k x P less same more =
     elim (ltb k x) as (λ b. ltb k x ≡ b

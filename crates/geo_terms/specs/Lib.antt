@@ -1,6 +1,5 @@
 pub mod Alias
 pub mod AllSources
-pub mod Apart
 pub mod Boundaries
 pub mod Covering
 pub mod Cuts
@@ -9,6 +8,7 @@ pub mod Edges
 pub mod First
 pub mod FirstIndex
 pub mod MarkHash
+pub mod Nested
 pub mod NoteText
 pub mod Numbers
 pub mod Orders

@@ -4,6 +4,7 @@ ghost use Rattle.std.specs.List.Sorted.{IsNonDecreasingBy};
 ghost use Rattle.geo_addr.specs.Ranges.{IsRange};
 ghost use Rattle.geo_terms.specs.Boundaries.{told, AreBoundaries};
 ghost use Rattle.geo_terms.specs.Edges.{edges_of, edges_from, after_edge, sweep};
+ghost use Rattle.geo_terms.specs.Nested.{StandAtEdges};
 
 use geo_addr::{Memory, Range};
 use std::alloc::Global;
@@ -27,7 +28,8 @@ struct Edge {
 
 // The boundaries of ranges of which an earlier one goes before a later one.
 pub fn boundaries_of(alloc: Global, ranges: &[Range]) -> Result<Vec<Boundary>, Memory>
-    ensures { IfOk result (λ boundaries. AreBoundaries ranges.now boundaries.items) }
+    ensures tell { IfOk result (λ boundaries. AreBoundaries ranges.now boundaries.items) }
+    ensures stand { IfOk result (λ boundaries. StandAtEdges ranges.now boundaries.items) }
 {
     let mut edges = edges_of(alloc, ranges)?;
     edges.sort_unstable_by_key(|edge| edge.at);

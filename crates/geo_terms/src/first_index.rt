@@ -1,18 +1,19 @@
 //! The first of several statements that holds an address, by halving.
-ghost use Rattle.std.specs.Prelude.{◌≡◌, ◌++◌, [], ◌∷◌, All, IfOk, IfSome, OnOk, None, Some, map};
-ghost use Rattle.std.specs.Prelude.{option_and_then, option_map, slice_get};
+ghost use Rattle.std.specs.Prelude.{◌≡◌, ◌↔◌, ◌-◌, ◌^◌, [], ℕ, All, Contains, IfOk, IfSome, OnOk};
+ghost use Rattle.std.specs.Prelude.{None, map, option_and_then, slice_get};
+ghost use Rattle.geo_addr.specs.Ranges.{ground_first};
 ghost use Rattle.std.specs.List.{enumerate_from};
-ghost use Rattle.std.specs.List.Sorted.{IsPermutation};
-ghost use Rattle.geo_addr.specs.Ranges.{IsRange};
-ghost use Rattle.geo_terms.specs.Apart.{boundaries_apart, gap};
+ghost use Rattle.std.specs.List.Sorted.{IsPermutation, IsStrictlyIncreasing};
 ghost use Rattle.geo_terms.specs.Boundaries.{told};
-ghost use Rattle.geo_terms.specs.FirstIndex.{TellsFirst, index_cmp, with_index};
+ghost use Rattle.geo_terms.specs.FirstIndex.{StandAtCuts, TellsFirst, with_index};
+ghost use Rattle.geo_terms.specs.Nested.{AreBoundariesOf};
 
 use crate::boundaries::{Boundary, boundaries_of, told};
+use crate::near::told_near;
+use crate::nested::{nested_of, order};
 use crate::order::Statement;
 use geo_addr::{Addr, Memory, Range};
 use std::alloc::Global;
-use std::cmp::Ordering;
 use std::marker::Model;
 
 /// Tells for each address which of several statements is the first in their order that holds it.
@@ -49,16 +50,18 @@ impl FirstIndex {
 
     /// The index of these statements.
     ///
-    /// Where no address lies in the grounds of two of them, that is one pass over them, behind a
-    /// sort by where grounds begin if they do not ascend. Else it is a sort by their order, and one
-    /// pass over the ends of their grounds.
+    /// Where of any two grounds that share an address one lies in the other, that is one pass over
+    /// them, behind a sort by where grounds begin if they do not ascend. Else it is a sort by their
+    /// order, and one pass over the ends of their grounds.
     pub fn of<S: Statement>(alloc: Global, statements: &[&S]) -> Result<FirstIndex, Memory>
         ensures told { IfOk result
             (λ index. TellsFirst S.order S.range (map (λ s. s.now) statements.entry.now) index) }
+        ensures cuts { IfOk result
+            (λ index. StandAtCuts S.range (map (λ s. s.now) statements.entry.now) index) }
         ensures kept { OnOk result (All S.kept (map (λ s. s.now) statements.entry.now)) }
     {
         let mut ranked = indexed(alloc, statements)?;
-        if let Some(boundaries) = apart_in_some_order(alloc, &mut ranked)? {
+        if let Some(boundaries) = nested_in_some_order(alloc, &mut ranked)? {
             return Ok(FirstIndex { boundaries });
         }
         ranked.sort_unstable_by(|x, y| order(x, y));
@@ -69,12 +72,43 @@ impl FirstIndex {
         Ok(FirstIndex { boundaries })
     }
 
+    /// The addresses at which the boundaries stand, ascending, each once.
+    pub fn cut_points(&self, alloc: Global) -> Result<Vec<u128>, Memory>
+        ensures same { IfOk result (λ points. (c : ℕ)
+            → Contains points.items c ↔ Contains (map (λ b. b.at) self.now) c) }
+        ensures ascending { IfOk result (λ points. IsStrictlyIncreasing points.items) }
+    {
+        let mut points = points_of(alloc, self.boundaries.as_slice())?;
+        points.dedup();
+        Ok(points)
+    }
+
     /// The index of the first statement that holds an address.
     pub fn index_at(&self, at: Addr) -> Option<usize>
         ensures { result ≡ told None self.now at.0 }
     {
         told(self.boundaries.as_slice(), at.0)
     }
+
+    /// The index of the first statement that holds an address, as `index_at` gives it.
+    ///
+    /// It is looked for first where `near` says, which is then where it was found: that spares
+    /// halvings where addresses ascend. Any number serves, as 0 at first.
+    pub fn index_near(&self, at: Addr, near: &mut usize) -> Option<usize>
+        ensures { result ≡ told None self.now at.0 }
+    {
+        told_near(self.boundaries.as_slice(), at.0, near)
+    }
+}
+
+fn points_of(alloc: Global, boundaries: &[Boundary]) -> Result<Vec<u128>, Memory>
+    ensures { IfOk result (λ points. points.items ≡ map (λ b. b.at) boundaries.now) }
+{
+    let points = boundaries
+        .iter()
+        .map(|boundary| boundary.at)
+        .collect(alloc)?;
+    Ok(points)
 }
 
 // The statements with their indexes.
@@ -92,96 +126,32 @@ fn indexed<'a, S: Statement>(
     Ok(ranked)
 }
 
-// The boundaries of grounds that lie apart, in the order that they are put in; `None` where two
-// overlap.
-fn apart_in_some_order<S: Statement>(
+// The boundaries of grounds that nest, in the order that the statements are put in; `None` where two
+// cross.
+fn nested_in_some_order<S: Statement>(
     alloc: Global,
     indexed: &mut Vec<(usize, &S)>,
 ) -> Result<Option<Vec<Boundary>>, Memory>
     ensures moved { IsPermutation indexed.old.items indexed.new.items }
-    ensures found { IfOk result (λ found. option_map (λ v. v.items) found
-        ≡ boundaries_apart (map (λ x. (x.0, S.range x.1.now)) indexed.new.items)) }
-    ensures ranges { IfOk result (λ found. IfSome found
-        (λ _. All (λ x. IsRange (S.range x.1.now)) indexed.new.items)) }
+    ensures found { IfOk result (λ found. IfSome found (λ boundaries. AreBoundariesOf
+        (λ x y. S.order x.now y.now) (λ x. S.range x.now) indexed.new.items boundaries.items)) }
     ensures kept { IfOk result (λ found. IfSome found
         (λ _. All (λ x. S.kept x.1.now) indexed.new.items)) }
 {
-    let found = apart_of(alloc, indexed.as_slice())?;
+    let found = nested_of(alloc, indexed.as_slice())?;
     if found.is_some() {
         return Ok(found);
     }
     // Statements of a file come in a few runs that ascend, and this sort only joins runs.
-    indexed.sort_by_key(|(_, statement)| statement.range().ground_first())?;
-    apart_of(alloc, indexed.as_slice())
+    indexed.sort_by_key(|(_, statement)| outer_first(statement.range()))?;
+    nested_of(alloc, indexed.as_slice())
 }
 
-// The boundaries of grounds that lie apart in this order, by one pass; `None` where they do not.
-fn apart_of<S: Statement>(
-    alloc: Global,
-    indexed: &[(usize, &S)],
-) -> Result<Option<Vec<Boundary>>, Memory>
-    ensures found { IfOk result (λ found. option_map (λ v. v.items) found
-        ≡ boundaries_apart (map (λ x. (x.0, S.range x.1.now)) indexed.entry.now)) }
-    ensures ranges { IfOk result (λ found. IfSome found
-        (λ _. All (λ x. IsRange (S.range x.1.now)) indexed.entry.now)) }
-    ensures kept { IfOk result (λ found. IfSome found
-        (λ _. All (λ x. S.kept x.1.now) indexed.entry.now)) }
+// Grounds ascend by it, and of those that begin at one address the largest comes first.
+fn outer_first(range: Range) -> (u128, u128)
+    ensures { result ≡ (ground_first range, 2 ^ 128 - 1 - range.last) }
 {
-    let mut boundaries = Vec::with_capacity(alloc, indexed.len().saturating_add(2))?;
-    // the first address behind all grounds so far, where there is one
-    let mut behind = Some(0);
-    for (index, statement) in indexed {
-        let range = statement.range();
-        let first = range.ground_first();
-        let Some(from) = behind.filter(|from| *from <= first) else {
-            return Ok(None);
-        };
-        push_ground(&mut boundaries, from, first, *index)?;
-        behind = range.last.checked_add(1);
-    }
-    if let Some(from) = behind {
-        push_gap(&mut boundaries, from)?;
-    }
-    Ok(Some(boundaries))
-}
-
-// The boundary of a ground, and before it that of the gap behind the ground before.
-fn push_ground(
-    boundaries: &mut Vec<Boundary>,
-    from: u128,
-    first: u128,
-    index: usize,
-) -> Result<(), Memory>
-    ensures { OnOk result (boundaries.new.items ≡
-        boundaries.old.items ++ gap from first ++ record { at = first; first = Some index } ∷ []) }
-{
-    if from < first {
-        push_gap(boundaries, from)?;
-    }
-    boundaries.push(Boundary {
-        at: first,
-        first: Some(index),
-    })?;
-    Ok(())
-}
-
-fn push_gap(boundaries: &mut Vec<Boundary>, from: u128) -> Result<(), Memory>
-    ensures { OnOk result (boundaries.new.items
-        ≡ boundaries.old.items ++ record { at = from; first = None } ∷ []) }
-{
-    boundaries.push(Boundary {
-        at: from,
-        first: None,
-    })?;
-    Ok(())
-}
-
-// How two statements stand: those that tie go by their indexes.
-fn order<S: Statement>(x: &(usize, &S), y: &(usize, &S)) -> Ordering
-    ensures { result
-        ≡ index_cmp S.order (x.entry.now.0, x.entry.now.1.now) (y.entry.now.0, y.entry.now.1.now) }
-{
-    x.1.order(y.1).then(x.0.cmp(&y.0))
+    (range.ground_first(), u128::MAX - range.last)
 }
 
 fn ranges_of<S: Statement>(alloc: Global, ranked: &[(usize, &S)]) -> Result<Vec<Range>, Memory>

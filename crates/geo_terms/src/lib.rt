@@ -7,6 +7,8 @@ mod boundaries;
 mod fields;
 mod first_index;
 pub mod laws;
+mod near;
+mod nested;
 mod note;
 mod order;
 mod place;

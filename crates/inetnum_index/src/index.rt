@@ -82,6 +82,17 @@ impl Index {
         self.refs.as_slice().get(index)
     }
 
+    /// The first reference in the order of references that holds an address, as `best_at` gives it.
+    ///
+    /// It is looked for first where `near` says, which is then where it was found: that spares a
+    /// halving where addresses ascend. Any number serves, as 0 at first.
+    pub fn best_near(&self, at: Addr, near: &mut usize) -> Option<&Reference>
+        ensures { option_copied result ≡ first_at reference_before (λ r. r.range) self.now at.0 }
+    {
+        let index = self.firsts.index_near(at, near)?;
+        self.refs.as_slice().get(index)
+    }
+
     /// The first reference of this URL, in the order of references, whose range is of the block's
     /// family and contains the block.
     ///

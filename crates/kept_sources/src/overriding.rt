@@ -104,6 +104,17 @@ impl Overriding {
         held.overrides.rows.as_slice().get(index)
     }
 
+    /// The first override that holds an address, as `first_at` gives it. It is looked for first
+    /// where `near` says, which is then where it was found; any number serves.
+    pub fn first_near(&self, at: Addr, near: &mut usize) -> Option<&Override>
+        ensures { option_copied result
+            ≡ first_at override_before (λ o. o.range) (rows_in self.now) at.0 }
+    {
+        let held = self.held.as_ref()?;
+        let index = held.index.firsts.index_near(at, near)?;
+        held.overrides.rows.as_slice().get(index)
+    }
+
     /// Appends the ranges of all rows.
     pub fn push_ranges(&self, ranges: &mut Vec<Range>) -> Result<(), Memory>
         ensures { OnOk result

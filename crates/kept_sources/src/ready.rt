@@ -1,16 +1,12 @@
 //! A feed with what is kept of it.
-ghost use Rattle.std.specs.Prelude.{map, IfOk};
+ghost use Rattle.std.specs.Prelude.{◌≡◌, IfOk};
 ghost use Rattle.std.specs.Arc.{arc_value};
-ghost use Rattle.geo_addr.specs.Ranges.{range_of_block};
-ghost use Rattle.cut_segments.specs.CutPoints.{AreCutsOf};
 ghost use Rattle.kept_sources.specs.FeedCuts.{HasCutsOf};
 
-use crate::kind_index::cuts_of;
 use crate::shelf::Named;
 use authority::IndexedFeed;
 use geo_addr::{Memory, Text};
-use geo_terms::{Entry, Feed};
-use source_changes::push_borrows;
+use geo_terms::Feed;
 use std::alloc::Global;
 use std::marker::Model;
 use std::sync::Arc;
@@ -62,8 +58,8 @@ impl ReadyFeed {
     pub fn of(alloc: Global, feed: Feed) -> Result<ReadyFeed, Memory>
         ensures { IfOk result (λ ready. ready ≡ feed) }
     {
-        let cuts = cuts_of_feed(alloc, &feed)?;
         let feed = IndexedFeed::of(alloc, feed)?;
+        let cuts = cuts_of_feed(alloc, &feed)?;
         Ok(ReadyFeed { feed, cuts })
     }
 
@@ -85,20 +81,17 @@ impl ReadyFeed {
 }
 
 // The cut points of the entries of a feed, under its URL, to be shared.
-fn cuts_of_feed(alloc: Global, feed: &Feed) -> Result<Arc<FeedCuts>, Memory>
+fn cuts_of_feed(alloc: Global, feed: &IndexedFeed) -> Result<Arc<FeedCuts>, Memory>
     ensures { IfOk result (λ kept. HasCutsOf feed.now (arc_value kept)) }
 {
-    let cuts = entry_cuts(alloc, feed.entries.as_slice())?;
-    let url = feed.url.copied()?;
+    let cuts = feed.cut_points(alloc)?;
+    let url = url_of(feed.feed())?;
     let kept = Arc::new(alloc, FeedCuts { url, cuts })?;
     Ok(kept)
 }
 
-fn entry_cuts(alloc: Global, entries: &[Entry]) -> Result<Vec<u128>, Memory>
-    ensures { IfOk result
-        (λ cuts. AreCutsOf (map (λ e. range_of_block e.block) entries.now) cuts.items) }
+fn url_of(feed: &Feed) -> Result<Text, Memory>
+    ensures { IfOk result (λ url. url ≡ feed.now.url) }
 {
-    let mut borrowed = Vec::new(alloc);
-    push_borrows(&mut borrowed, entries)?;
-    cuts_of(alloc, borrowed.as_slice())
+    feed.url.copied()
 }

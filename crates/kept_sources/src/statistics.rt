@@ -116,6 +116,17 @@ impl Statistics {
         delegation_at(self.files.as_slice(), offset)
     }
 
+    /// The first delegation that holds an address, as `first_at` gives it. It is looked for first
+    /// where `near` says, which is then where it was found; any number serves.
+    pub fn first_near(&self, at: Addr, near: &mut usize) -> Option<&Delegation>
+        ensures { option_copied result
+            ≡ first_at delegation_before (λ d. d.range) (flat_map (λ t. t.rows) self.now) at.0 }
+    {
+        let index = self.index.as_ref()?;
+        let offset = index.firsts.index_near(at, near)?;
+        delegation_at(self.files.as_slice(), offset)
+    }
+
     /// Appends the ranges of all delegations, file by file.
     pub fn push_ranges(&self, ranges: &mut Vec<Range>) -> Result<(), Memory>
         ensures { OnOk result (ranges.new.items

@@ -2,6 +2,7 @@ ghost use Rattle.std.specs.Prelude.{◌≡◌};
 ghost use Rattle.std.specs.Option.{option_copied};
 ghost use Rattle.geo_terms.specs.Precedence.{said_place};
 
+use crate::near::Near;
 use crate::why::Why;
 use authority::DropFault;
 use cut_segments::{push_inside, segments_between, whole};
@@ -254,6 +255,20 @@ impl Sources {
         self.statistics.first_at(at)
     }
 
+    #[tactic(auto, unfolding(geo_terms::specs::Precedence::first_override))]
+    fn override_near(&self, at: Addr, near: &mut Near) -> Option<&Override>
+        ensures { option_copied result ≡ first_override self.now at.0 }
+    {
+        self.overriding.first_near(at, &mut near.over)
+    }
+
+    #[tactic(auto, unfolding(geo_terms::specs::Precedence::first_delegation))]
+    fn delegation_near(&self, at: Addr, near: &mut Near) -> Option<&Delegation>
+        ensures { option_copied result ≡ first_delegation self.now at.0 }
+    {
+        self.statistics.first_near(at, &mut near.delegation)
+    }
+
     #[tactic(auto, unfolding(geo_terms::specs::Precedence::speaker))]
     fn speaker_at(&self, at: Addr) -> Option<&Reference>
         ensures { option_copied result ≡ speaker self.now at.0 }
@@ -269,10 +284,10 @@ impl Sources {
     }
 
     #[tactic(auto, unfolding(geo_terms::specs::Precedence::speaking_entry))]
-    fn entry_near(&self, at: Addr, near: &mut usize) -> Option<&Entry>
+    fn entry_near(&self, at: Addr, near: &mut Near) -> Option<&Entry>
         ensures { option_copied result ≡ speaking_entry self.now at.0 }
     {
-        self.speaking.authority().entry_near(at, near)
+        self.speaking.authority().entry_near(at, &mut near.entry)
     }
 
     /// What the sources say of an address. The two blocks of IPv6 addresses that carry IPv4
@@ -280,23 +295,23 @@ impl Sources {
     pub fn spoken_at(&self, at: Addr) -> Option<&Place>
         ensures { option_copied result ≡ spoken_at self.now at.0 }
     {
-        let mut near = 0;
+        let mut near = Near::default();
         self.spoken_near(at, &mut near)
     }
 
-    // What the sources say of an address. The speaker's feed is looked for first at the index where
-    // the last one was found.
+    // What the sources say of an address. It is looked for first where the last look-up found what
+    // it looked for.
     #[tactic(auto, unfolding(geo_terms::specs::Precedence::spoken_at))]
-    fn spoken_near(&self, at: Addr, near: &mut usize) -> Option<&Place>
+    fn spoken_near(&self, at: Addr, near: &mut Near) -> Option<&Place>
         ensures { option_copied result ≡ spoken_at self.now at.0 }
     {
-        if let Some(row) = self.override_at(at) {
+        if let Some(row) = self.override_near(at, near) {
             return said_place(&row.said);
         }
         if let Some(entry) = self.entry_near(at, near) {
             return said_place(&entry.said);
         }
-        let delegation = self.delegation_at(at)?;
+        let delegation = self.delegation_near(at, near)?;
         Some(&delegation.place)
     }
 
@@ -330,9 +345,9 @@ impl Sources {
         self.spoken_at(Addr(segment.first))
     }
 
-    /// The record of a segment, as `choice` gives it. The speaker's feed is looked for first at the
-    /// index where the last one was found, which spares a halving where segments ascend.
-    pub fn choice_near(&self, segment: Range, near: &mut usize) -> Option<&Place>
+    /// The record of a segment, as `choice` gives it. It is looked for first where the last look-up
+    /// found what it looked for, which spares up to five halvings where segments ascend.
+    pub fn choice_near(&self, segment: Range, near: &mut Near) -> Option<&Place>
         ensures { option_copied result ≡ spoken_at self.now segment.first }
     {
         self.spoken_near(Addr(segment.first), near)
@@ -344,7 +359,7 @@ impl Sources {
             ≡ map (λ r. spoken_at self.now r.first) segments.now) }
     {
         let mut choices = Vec::with_capacity(self.alloc, segments.len())?;
-        let mut near = 0;
+        let mut near = Near::default();
         for segment in segments {
             choices.push(self.choice_near(*segment, &mut near))?;
         }

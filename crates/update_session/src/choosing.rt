@@ -8,7 +8,7 @@ use fan_work::{Forks, Work, map_pieces};
 use geo_addr::{Memory, Range};
 use geo_outside::Gate;
 use geo_terms::Places;
-use precedence::Sources;
+use precedence::{Near, Sources};
 use std::alloc::Global;
 use std::marker::Sync;
 use std::thread::Threads;
@@ -86,7 +86,7 @@ fn chosen_in(alloc: Global, sources: &Sources, run: &[Range]) -> Result<Chosen, 
 {
     let mut places = Places::new(alloc);
     let mut leaves = Vec::with_capacity(alloc, run.len())?;
-    let mut near = 0;
+    let mut near = Near::default();
     for segment in run {
         // A table of a run is full only where no memory holds the run.
         let Ok(leaf) = leaf_of(&mut places, sources.choice_near(*segment, &mut near)) else {
