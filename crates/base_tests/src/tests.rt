@@ -3,6 +3,7 @@ mod addresses;
 mod cuts;
 mod made;
 mod outside;
+mod parts;
 mod pieces;
 mod small;
 mod steps;

@@ -1,6 +1,7 @@
 //! The cases `fill` and `order`: a store of many nodes, and a root in it that has few.
 ghost use Rattle.std.specs.Prelude.{◌≡◌, ◌<◌};
 ghost use Rattle.trie_core.specs.Paint.{IsAscending};
+ghost use Rattle.trie_core.specs.Store.{IsRootOf};
 
 use crate::fault::Fault;
 use crate::ranges::{MOST, scattered};
@@ -9,7 +10,7 @@ use std::alloc::Global;
 use std::io::Print;
 use std::marker::Brand;
 use std::sync::ledger::{Blank, Ledger};
-use trie_core::{Part, Store};
+use trie_core::{Part, Root, Store};
 
 /// Fills a store from so many ranges with leaves of their own, orders a root of one range in it so
 /// many times, and prints how many nodes the store has, and how many of them that root has.
@@ -45,10 +46,24 @@ fn ordered<L: Ledger>(
     let empty = store.empty();
     let _large = store.paint_all(empty, many, &mut steps)?;
     let small = store.paint_all(empty, few, &mut steps)?;
+    let nodes = nodes_under(alloc, &store, small, times)?;
+    Ok((store.len(), nodes))
+}
+
+// The number of nodes under a root, which is ordered so many times.
+fn nodes_under(alloc: Global, store: &Store, root: Root, times: u32) -> Result<usize, Fault>
+    requires of { IsRootOf store.now root }
+{
     let mut nodes = 0;
     for _ in 0..times {
-        let layout = least_nodes::order(alloc, &store, small)?;
-        nodes = layout.nodes.as_slice().len();
+        nodes = ordered_nodes(alloc, store, root)?;
     }
-    Ok((store.len(), nodes))
+    Ok(nodes)
+}
+
+fn ordered_nodes(alloc: Global, store: &Store, root: Root) -> Result<usize, Fault>
+    requires of { IsRootOf store.now root }
+{
+    let layout = least_nodes::order(alloc, store, root)?;
+    Ok(layout.nodes.as_slice().len())
 }

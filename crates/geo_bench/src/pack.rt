@@ -41,21 +41,37 @@ fn add_place(
     places: &mut Places,
     index: u32,
 ) -> Result<(), Fault> {
-    let city = index % CITIES;
-    let (country, region) = (country_text(alloc, city)?, region_text(alloc, city)?);
-    let name = format!(in alloc; "City {city}")?;
-    let postal = format!(in alloc; "{:05}", index / CITIES)?;
+    let words = words_of(alloc, index)?;
     let said = place_in(
         texts,
-        country.as_str(),
-        region.as_str(),
-        name.as_str(),
-        postal.as_str(),
+        words.country.as_str(),
+        words.region.as_str(),
+        words.city.as_str(),
+        words.postal.as_str(),
     )?;
     if let Said::At(place) = said {
         places.intern(&place)?;
     }
     Ok(())
+}
+
+/// The four texts of a place.
+#[derive(Drop)]
+struct Words {
+    country: String,
+    region: String,
+    city: String,
+    postal: String,
+}
+
+fn words_of(alloc: Global, index: u32) -> Result<Words, AllocError> {
+    let city = index % CITIES;
+    Ok(Words {
+        country: country_text(alloc, city)?,
+        region: region_text(alloc, city)?,
+        city: format!(in alloc; "City {city}")?,
+        postal: format!(in alloc; "{:05}", index / CITIES)?,
+    })
 }
 
 // The code of the country of a city, AA to JP.

@@ -29,14 +29,19 @@ pub(crate) enum Stage {
 /// Makes a dump of so many references to one feed and a feed of so many lines, goes as far as is
 /// wanted, and prints the counts.
 pub(crate) fn run(alloc: Global, rt: &impl Print, size: u32, stage: Stage) -> Result<(), Fault> {
-    let dump = made_dump(alloc, size)?;
-    let feed = made_feed(alloc, size)?;
-    tell_gathered(rt, &dump, &feed)?;
+    let (dump, feed) = gathered(alloc, rt, size)?;
     if matches!(stage, Stage::Gathered) {
         return Ok(());
     }
     let sources = both(alloc, dump, feed)?;
     tell(rt, &sources, stage)
+}
+
+fn gathered(alloc: Global, rt: &impl Print, size: u32) -> Result<(Dump, Feed), Fault> {
+    let dump = made_dump(alloc, size)?;
+    let feed = made_feed(alloc, size)?;
+    tell_gathered(rt, &dump, &feed)?;
+    Ok((dump, feed))
 }
 
 fn tell_gathered(rt: &impl Print, dump: &Dump, feed: &Feed) -> Result<(), Fault> {
@@ -92,11 +97,16 @@ fn made_feed(alloc: Global, size: u32) -> Result<Feed, Fault> {
 // A dump of objects of 16 IPv4 addresses that follow one another, each with one of 8 inside it.
 fn made_dump(alloc: Global, size: u32) -> Result<Dump, Fault> {
     let mut reader = DumpReader::new(alloc, "made")?;
+    feed_objects(alloc, &mut reader, size)?;
+    Ok(reader.finish()?)
+}
+
+fn feed_objects(alloc: Global, reader: &mut DumpReader, size: u32) -> Result<(), Fault> {
     for index in 0..size {
         let object = object_at(alloc, index)?;
         reader.feed(object.as_bytes())?;
     }
-    Ok(reader.finish()?)
+    Ok(())
 }
 
 fn object_at(alloc: Global, index: u32) -> Result<String, Memory> {

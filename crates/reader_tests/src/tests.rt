@@ -5,4 +5,5 @@ mod indexes;
 mod objects;
 mod overrides;
 mod rests;
+mod shown;
 mod statistics;

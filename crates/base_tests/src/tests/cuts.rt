@@ -12,6 +12,11 @@ fn parts(alloc: Global, range: Range) -> Result<Vec<(u128, u8)>, Memory> {
     Ok(parts)
 }
 
+// The cut points, without what is promised of them, which would burden each later line.
+fn cuts_in(alloc: Global, ranges: &[Range], within: Range) -> Result<Vec<u128>, Memory> {
+    cuts(alloc, ranges, within)
+}
+
 /// 192.0.2.0 is 0xC000_0200.
 #[test]
 fn blocks_of_ranges(rt: HostRuntime) -> Result<(), Memory> {
@@ -64,22 +69,29 @@ fn cut_points_within_a_range(rt: HostRuntime) -> Result<(), Memory> {
         },
         whole,
     ];
-    assert_eq!(rt;
-        cuts(alloc, &ranges, whole)?.as_slice(),
-        [8, 16, 20, 1 << 32].as_slice()
-    );
-    assert_eq!(rt;
-        cuts(alloc, &ranges, Range { first: 9, last: 20 })?.as_slice(),
-        [16, 20].as_slice()
-    );
+    assert!(rt; cuts_in(alloc, &ranges, whole)?.as_slice() == [8, 16, 20, 1 << 32].as_slice());
+    let inner = Range { first: 9, last: 20 };
+    assert!(rt; cuts_in(alloc, &ranges, inner)?.as_slice() == [16, 20].as_slice());
     Ok(())
+}
+
+// The edges of ranges within another, one range after the other.
+fn edges(alloc: Global, ranges: &[Range], within: Range) -> Result<Vec<u128>, Memory> {
+    let mut points = Vec::new(alloc);
+    for range in ranges {
+        push_edges(&mut points, *range, within)?;
+    }
+    Ok(points)
+}
+
+fn in_order(mut points: Vec<u128>) -> Vec<u128> {
+    put_in_order(&mut points);
+    points
 }
 
 /// A point that two neighbours share is appended once.
 #[test]
 fn edges_range_by_range(rt: HostRuntime) -> Result<(), Memory> {
-    let alloc = rt.alloc();
-    let within = Range { first: 0, last: 30 };
     let ranges = [
         Range { first: 8, last: 15 },
         Range {
@@ -88,12 +100,8 @@ fn edges_range_by_range(rt: HostRuntime) -> Result<(), Memory> {
         },
         Range { first: 4, last: 15 },
     ];
-    let mut points = Vec::new(alloc);
-    for range in ranges {
-        push_edges(&mut points, range, within)?;
-    }
-    assert_eq!(rt; points.as_slice(), [8, 16, 4, 16].as_slice());
-    put_in_order(&mut points);
-    assert_eq!(rt; points.as_slice(), [4, 8, 16].as_slice());
+    let points = edges(rt.alloc(), &ranges, Range { first: 0, last: 30 })?;
+    assert!(rt; points.as_slice() == [8, 16, 4, 16].as_slice());
+    assert!(rt; in_order(points).as_slice() == [4, 8, 16].as_slice());
     Ok(())
 }

@@ -1,26 +1,38 @@
 //! Feeds made by a rule.
 use generated::gen_feed;
+use std::alloc::Global;
 use std::test::Fail;
+
+type Row = (u16, bool, &'static str);
+
+static ROWS: [Row; 4] = [
+    (1, false, "10.0.0.0/28,DE,,City 0,\n"),
+    (1, true, "10.0.0.0/28,CH,,City 0,\n"),
+    (
+        4,
+        false,
+        "10.0.0.0/28,DE,,City 0,\n10.0.0.16/28,FR,,City 1,\n10.0.0.32/28,IT,,City 2,\n10.0.0.48/28,DE,,City 3,\n",
+    ),
+    (
+        2,
+        true,
+        "10.0.0.0/28,CH,,City 0,\n10.0.0.16/28,FR,,City 1,\n",
+    ),
+];
+
+fn rows() -> &'static [Row] {
+    &ROWS
+}
+
+fn is_made(alloc: Global, row: &Row) -> Result<bool, Fail> {
+    let bytes = gen_feed(alloc, u32::from(row.0), row.1)?;
+    Ok(bytes.as_slice() == row.2.as_bytes())
+}
 
 #[test]
 fn feeds_of_few_lines(rt: HostRuntime) -> Result<(), Fail> {
-    let rows: [(u32, bool, &str); 4] = [
-        (1, false, "10.0.0.0/28,DE,,City 0,\n"),
-        (1, true, "10.0.0.0/28,CH,,City 0,\n"),
-        (
-            4,
-            false,
-            "10.0.0.0/28,DE,,City 0,\n10.0.0.16/28,FR,,City 1,\n10.0.0.32/28,IT,,City 2,\n10.0.0.48/28,DE,,City 3,\n",
-        ),
-        (
-            2,
-            true,
-            "10.0.0.0/28,CH,,City 0,\n10.0.0.16/28,FR,,City 1,\n",
-        ),
-    ];
-    for (lines, second, text) in rows {
-        let bytes = gen_feed(rt.alloc(), lines, second)?;
-        assert!(rt; bytes.as_slice() == text.as_bytes());
+    for (at, row) in rows().iter().enumerate() {
+        assert!(rt; is_made(rt.alloc(), row)?, "row {at}");
     }
     Ok(())
 }

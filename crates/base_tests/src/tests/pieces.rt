@@ -1,10 +1,14 @@
 //! The parallel map: its results, and what its gates see.
+ghost use Rattle.std.specs.Prelude.{◌<◌, ◌≤◌};
+
 use fan_work::{Forks, Work, map_pieces};
 use geo_addr::Memory;
 use geo_outside::{Gate, OpenGate};
 use std::alloc::Global;
+use std::marker::Sync;
 use std::sync::atomic::{AtomicU64, Ordering};
 use std::thread;
+use std::thread::Threads;
 
 /// Work that adds one.
 #[derive(Drop)]
@@ -33,6 +37,11 @@ impl Register {
             came: AtomicU64::new(0),
             calls: AtomicU64::new(0),
         }
+    }
+
+    // How many pieces came, by a function of its own, so that no other proof counts bits.
+    fn count(&self) -> u32 {
+        self.came.load(Ordering::SeqCst).count_ones()
     }
 }
 
@@ -89,44 +98,85 @@ impl Gate for Meeting {
     }
 }
 
+// The numbers after these, by so many pieces.
+fn added<R: Threads + Sync>(
+    rt: &R,
+    alloc: Global,
+    pieces: u32,
+    items: &[u32],
+) -> Result<Vec<u64>, Memory>
+    requires some { 0 < pieces }
+    requires few { pieces ≤ 64 }
+{
+    let forks = Forks {
+        rt,
+        alloc,
+        gate: &OpenGate,
+        pieces,
+    };
+    map_pieces(&forks, items, &AddOne)
+}
+
 #[test]
 fn results_stand_in_the_items_order(rt: HostRuntime) -> Result<(), Memory> {
     let alloc = rt.alloc();
     for pieces in [1u32, 3, 64] {
-        let results = map_pieces(
-            &Forks {
-                rt: &rt,
-                alloc,
-                gate: &OpenGate,
-                pieces,
-            },
-            &[1, 2, 3, 4, 5],
-            &AddOne,
-        )?;
-        assert_eq!(rt;
-            results.as_slice(),
-            [2, 3, 4, 5, 6].as_slice(),
+        let results = added(&rt, alloc, pieces, &[1, 2, 3, 4, 5])?;
+        let is_right = results.as_slice() == [2, 3, 4, 5, 6].as_slice();
+        assert!(rt; is_right, "{pieces} pieces");
+        assert!(rt;
+            added(&rt, alloc, pieces, &[])?.is_empty(),
             "{pieces} pieces"
         );
-        let none = map_pieces(
-            &Forks {
-                rt: &rt,
-                alloc,
-                gate: &OpenGate,
-                pieces,
-            },
-            &[],
-            &AddOne,
-        )?;
-        assert_eq!(rt; none.len(), 0, "{pieces} pieces");
     }
     Ok(())
+}
+
+// For each of five items, whether its piece had entered before it.
+fn seen<R: Threads + Sync>(
+    rt: &R,
+    alloc: Global,
+    gate: &Register,
+    pieces: u32,
+    of_items: [u32; 5],
+) -> Result<Vec<bool>, Memory>
+    requires some { 0 < pieces }
+    requires few { pieces ≤ 64 }
+{
+    let work = Witness {
+        gate,
+        pieces: of_items,
+    };
+    let forks = Forks {
+        rt,
+        alloc,
+        gate,
+        pieces,
+    };
+    map_pieces(&forks, &[0, 1, 2, 3, 4], &work)
+}
+
+// Whether each piece with items enters once, before its first item.
+fn enters_once<R: Threads + Sync>(
+    rt: &R,
+    alloc: Global,
+    pieces: u32,
+    of_items: [u32; 5],
+) -> Result<bool, Memory>
+    requires some { 0 < pieces }
+    requires few { pieces ≤ 64 }
+{
+    let gate = Register::new();
+    let seen = seen(rt, alloc, &gate, pieces, of_items)?;
+    let came = gate.count();
+    let calls = gate.calls.load(Ordering::SeqCst);
+    let wanted = pieces.min(5);
+    Ok(seen.as_slice() == [true; 5].as_slice() && came == wanted && calls == u64::from(wanted))
 }
 
 // The numbers of the pieces of 5 items, reckoned by hand.
 #[test]
 fn each_piece_with_items_enters_once_before_its_first(rt: HostRuntime) -> Result<(), Memory> {
-    let alloc = rt.alloc();
     let cases: [(u32, [u32; 5]); 4] = [
         (1, [0, 0, 0, 0, 0]),
         (3, [0, 1, 1, 2, 2]),
@@ -134,26 +184,10 @@ fn each_piece_with_items_enters_once_before_its_first(rt: HostRuntime) -> Result
         (64, [12, 25, 38, 51, 63]),
     ];
     for (pieces, of_items) in cases {
-        let gate = Register::new();
-        let work = Witness {
-            gate: &gate,
-            pieces: of_items,
-        };
-        let seen = map_pieces(
-            &Forks {
-                rt: &rt,
-                alloc,
-                gate: &gate,
-                pieces,
-            },
-            &[0, 1, 2, 3, 4],
-            &work,
-        )?;
-        assert_eq!(rt; seen.as_slice(), [true; 5].as_slice(), "{pieces} pieces");
-        let came = gate.came.load(Ordering::SeqCst);
-        let calls = gate.calls.load(Ordering::SeqCst);
-        assert_eq!(rt; came.count_ones(), pieces.min(5), "{pieces} pieces");
-        assert_eq!(rt; calls, u64::from(pieces.min(5)), "{pieces} pieces");
+        assert!(rt;
+            enters_once(&rt, rt.alloc(), pieces, of_items)?,
+            "{pieces} pieces"
+        );
     }
     Ok(())
 }

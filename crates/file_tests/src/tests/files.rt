@@ -31,37 +31,46 @@ fn the_file_of_no_data(rt: HostRuntime) -> Result<(), Fail> {
     Ok(())
 }
 
-#[test]
-fn faults_of_a_file(rt: HostRuntime) -> Result<(), Fail> {
-    let whole: &[u8] = NO_DATA;
-    let opened = Mmdb::adopt(rt.alloc(), whole)?;
-    assert_eq!(rt; opened.find(Addr(0)), Ok(None));
-    assert_eq!(rt; opened.section().len(), 0);
+// What a file has for an address, where it can be opened.
+fn found(alloc: Global, file: &[u8], at: u128) -> Result<Result<Option<u64>, WalkFault>, Fail> {
+    let opened = Mmdb::adopt(alloc, file)?;
+    Ok(opened.find(Addr(at)))
+}
+
+fn section_len(alloc: Global, file: &[u8]) -> Result<usize, Fail> {
+    let opened = Mmdb::adopt(alloc, file)?;
+    Ok(opened.section().len())
+}
+
+fn open_fault(alloc: Global, file: &[u8]) -> Option<OpenFault> {
+    Mmdb::adopt(alloc, file).err()
+}
+
+// The file of no data, whose node has these records.
+fn with_records(left: u8, right: u8) -> [u8; 225] {
     let mut bytes = *NO_DATA;
-    bytes[2] = 0;
-    bytes[5] = 0;
-    assert_eq!(rt;
-        Mmdb::adopt(rt.alloc(), &bytes)?.find(Addr(7)),
-        Err(WalkFault::NotEnded)
-    );
-    bytes[2] = 2;
-    assert_eq!(rt;
-        Mmdb::adopt(rt.alloc(), &bytes)?.find(Addr(7)),
-        Err(WalkFault::OutOfSection)
-    );
-    assert_eq!(rt;
-        Mmdb::adopt(rt.alloc(), b"").err(),
-        Some(OpenFault::NoMarker)
-    );
-    assert_eq!(rt;
-        Mmdb::adopt(rt.alloc(), &whole[..60]).err(),
-        Some(OpenFault::Metadata)
-    );
-    assert_eq!(rt;
-        Mmdb::adopt(rt.alloc(), &whole[1..]).err(),
-        Some(OpenFault::TreeCut)
-    );
+    bytes[2] = left;
+    bytes[5] = right;
+    bytes
+}
+
+#[test]
+fn faults_of_a_walk(rt: HostRuntime) -> Result<(), Fail> {
+    let alloc = rt.alloc();
+    assert!(rt; found(alloc, &with_records(1, 1), 0)? == Ok(None));
+    assert!(rt; section_len(alloc, &with_records(1, 1))? == 0);
+    assert!(rt; found(alloc, &with_records(0, 0), 7)? == Err(WalkFault::NotEnded));
+    assert!(rt; found(alloc, &with_records(2, 0), 7)? == Err(WalkFault::OutOfSection));
     Ok(())
+}
+
+#[test]
+fn faults_of_a_file(rt: HostRuntime) {
+    let alloc = rt.alloc();
+    let whole: &[u8] = NO_DATA;
+    assert!(rt; open_fault(alloc, b"") == Some(OpenFault::NoMarker));
+    assert!(rt; open_fault(alloc, &whole[..60]) == Some(OpenFault::Metadata));
+    assert!(rt; open_fault(alloc, &whole[1..]) == Some(OpenFault::TreeCut));
 }
 
 /// A first and a last address.
@@ -148,34 +157,46 @@ fn file_of<L: Ledger>(
     written(alloc, &store, root, &places)
 }
 
+// Ranges, and the nodes and the length of their file.
+type SizeRow = (&'static [Ends], u64, usize);
+
+static SIZES: [SizeRow; 6] = [
+    // 128.0.0.0/1
+    (&[(0x8000_0000, 0xffff_ffff)], 97, 823),
+    // 768 addresses from 192.0.2.0
+    (&[(0xc000_0200, 0xc000_04ff)], 121, 967),
+    // 128 addresses from 10.0.0.0 and from 10.0.1.0
+    (
+        &[(0x0a00_0000, 0x0a00_007f), (0x0a00_0100, 0x0a00_017f)],
+        121,
+        967,
+    ),
+    // 128 addresses from 192.0.2.0 and from 192.0.2.128
+    (
+        &[(0xc000_0200, 0xc000_027f), (0xc000_0280, 0xc000_02ff)],
+        120,
+        961,
+    ),
+    // 256 addresses from 192.0.2.0
+    (&[(0xc000_0200, 0xc000_02ff)], 120, 961),
+    // 0.0.0.0/0 and all other addresses
+    (&[(0, 0xffff_ffff), (1 << 32, u128::MAX)], 1, 247),
+];
+
+fn sizes() -> &'static [SizeRow] {
+    &SIZES
+}
+
+fn has_sizes(file: &Emitted, row: &SizeRow) -> bool {
+    let is_small = (file.nodes, file.section, file.bits) == (row.1, 22, 24);
+    is_small && file.bytes.len() == row.2
+}
+
 #[test]
 fn sizes_of_files(rt: HostRuntime) -> Result<(), Fail> {
-    let rows: [(&[Ends], u64, usize); 6] = [
-        // 128.0.0.0/1
-        (&[(0x8000_0000, 0xffff_ffff)], 97, 823),
-        // 768 addresses from 192.0.2.0
-        (&[(0xc000_0200, 0xc000_04ff)], 121, 967),
-        // 128 addresses from 10.0.0.0 and from 10.0.1.0
-        (
-            &[(0x0a00_0000, 0x0a00_007f), (0x0a00_0100, 0x0a00_017f)],
-            121,
-            967,
-        ),
-        // 128 addresses from 192.0.2.0 and from 192.0.2.128
-        (
-            &[(0xc000_0200, 0xc000_027f), (0xc000_0280, 0xc000_02ff)],
-            120,
-            961,
-        ),
-        // 256 addresses from 192.0.2.0
-        (&[(0xc000_0200, 0xc000_02ff)], 120, 961),
-        // 0.0.0.0/0 and all other addresses
-        (&[(0, 0xffff_ffff), (1 << 32, u128::MAX)], 1, 247),
-    ];
-    for (ranges, nodes, len) in rows {
-        let file = file_of::<Brand>(&rt, rt.alloc(), b"DE", ranges, Blank::new(1))?;
-        assert_eq!(rt; (file.nodes, file.section, file.bits), (nodes, 22, 24));
-        assert_eq!(rt; file.bytes.len(), len);
+    for (at, row) in sizes().iter().enumerate() {
+        let file = file_of::<Brand>(&rt, rt.alloc(), b"DE", row.0, Blank::new(1))?;
+        assert!(rt; has_sizes(&file, row), "row {at}");
     }
     Ok(())
 }
@@ -199,27 +220,40 @@ fn put_rest(bytes: &mut Vec<u8>, country: &[u8], nodes: u8) -> Result<(), Fail> 
     Ok(())
 }
 
-#[test]
-fn bytes_of_files(rt: HostRuntime) -> Result<(), Fail> {
-    let alloc = rt.alloc();
-    // 128.0.0.0/1: a node for each of the first 96 bits, which are 0, and for the last one,
-    // which is 1
-    let half = [(0x8000_0000, 0xffff_ffff)];
-    let file = file_of::<Brand>(&rt, alloc, b"DE", &half, Blank::new(1))?;
+// 128.0.0.0/1: a node for each of the first 96 bits, which are 0, and for the last one, which is 1.
+fn bytes_of_half(alloc: Global) -> Result<Vec<u8>, Fail> {
     let mut wanted = Vec::new(alloc);
     for node in 0..96 {
         put_node(&mut wanted, node + 1, 97)?;
     }
     put_node(&mut wanted, 97, 97 + 16)?;
     put_rest(&mut wanted, b"DE", 97)?;
-    assert_eq!(rt; file.bytes.as_slice(), wanted.as_slice());
-    // all addresses: one node, whose records are the one place
-    let all = [(0, 0xffff_ffff), (1 << 32, u128::MAX)];
-    let file = file_of::<Brand>(&rt, alloc, b"FR", &all, Blank::new(1))?;
+    Ok(wanted)
+}
+
+// All addresses: one node, whose records are the one place.
+fn bytes_of_all(alloc: Global) -> Result<Vec<u8>, Fail> {
     let mut wanted = Vec::new(alloc);
     put_node(&mut wanted, 1 + 16, 1 + 16)?;
     put_rest(&mut wanted, b"FR", 1)?;
-    assert_eq!(rt; file.bytes.as_slice(), wanted.as_slice());
+    Ok(wanted)
+}
+
+#[test]
+fn bytes_of_files(rt: HostRuntime) -> Result<(), Fail> {
+    let alloc = rt.alloc();
+    let half = [(0x8000_0000, 0xffff_ffff)];
+    let file = file_of::<Brand>(&rt, alloc, b"DE", &half, Blank::new(1))?;
+    assert!(rt; file.bytes.as_slice() == bytes_of_half(alloc)?.as_slice());
+    Ok(())
+}
+
+#[test]
+fn bytes_of_a_whole_tree(rt: HostRuntime) -> Result<(), Fail> {
+    let alloc = rt.alloc();
+    let all = [(0, 0xffff_ffff), (1 << 32, u128::MAX)];
+    let file = file_of::<Brand>(&rt, alloc, b"FR", &all, Blank::new(1))?;
+    assert!(rt; file.bytes.as_slice() == bytes_of_all(alloc)?.as_slice());
     Ok(())
 }
 
@@ -238,14 +272,10 @@ fn places_in_a_file(rt: HostRuntime) -> Result<(), Fail> {
     let half = [(0x8000_0000, 0xffff_ffff)];
     let file = file_of::<Brand>(&rt, rt.alloc(), b"DE", &half, Blank::new(1))?;
     let bytes = file.bytes.as_slice();
-    let opened = Mmdb::adopt(rt.alloc(), bytes)?;
-    assert_eq!(rt; opened.find(Addr(0x8000_0001)), Ok(Some(0)));
-    assert_eq!(rt; opened.find(Addr(0x7fff_ffff)), Ok(None));
+    assert!(rt; found(rt.alloc(), bytes, 0x8000_0001)? == Ok(Some(0)));
+    assert!(rt; found(rt.alloc(), bytes, 0x7fff_ffff)? == Ok(None));
     // without its first byte the left record of the first node is 256
     assert!(rt; !bytes.is_empty());
-    assert_eq!(rt;
-        Mmdb::adopt(rt.alloc(), &bytes[1..])?.find(Addr(0x8000_0001)),
-        Err(WalkFault::OutOfSection)
-    );
+    assert!(rt; found(rt.alloc(), &bytes[1..], 0x8000_0001)? == Err(WalkFault::OutOfSection));
     Ok(())
 }

@@ -40,79 +40,100 @@ fn lines_under<L: Ledger>(
     Ok(least_lines(alloc, &store, root, within)?)
 }
 
+fn line_text(alloc: Global, line: &Line) -> Result<String, Fail> {
+    let block = block_text(alloc, line.block)?;
+    Ok(format!(in alloc; "{} {}; ", block.as_str(), line.leaf)?)
+}
+
 /// Blocks and leaves, one behind the other.
 fn text_of(alloc: Global, lines: &[Line]) -> Result<String, Fail> {
     let mut text = String::new(alloc);
     for line in lines {
-        let block = block_text(alloc, line.block)?;
-        let block = block.as_str();
-        let leaf = line.leaf;
-        text.push_str(&format!(in alloc; "{block} {leaf}; ")?)?;
+        text.push_str(line_text(alloc, line)?.as_str())?;
     }
     Ok(text)
 }
 
+// What is painted, a block, and the least lines under it.
+type Row = (&'static [Painted], &'static [u8], &'static str);
+
 // The addresses of 10.0.0.0/24 by halves and quarters, and a block of IPv6.
+static ROWS: [Row; 9] = [
+    (&[], b"10.0.0.0/8", ""),
+    (
+        &[(0x0a00_0000, 0x0a00_00ff, 1), (0x0a00_0080, 0x0a00_00bf, 2)],
+        b"10.0.0.0/8",
+        "10.0.0.0/24 1; 10.0.0.128/26 2; ",
+    ),
+    (
+        &[(0x0a00_0000, 0x0a00_007f, 1), (0x0a00_0080, 0x0a00_00ff, 2)],
+        b"10.0.0.0/8",
+        "10.0.0.0/24 1; 10.0.0.128/25 2; ",
+    ),
+    (
+        &[(0x0a00_0000, 0x0a00_007f, 1), (0x0a00_00c0, 0x0a00_00ff, 1)],
+        b"10.0.0.0/8",
+        "10.0.0.0/24 1; 10.0.0.128/26 0; ",
+    ),
+    (
+        &[(0x0a00_0000, 0x0a00_007f, 1)],
+        b"10.0.0.0/8",
+        "10.0.0.0/25 1; ",
+    ),
+    (
+        &[(0x0a00_0000, 0x0a00_00ff, 1)],
+        b"10.0.0.5",
+        "10.0.0.5/32 1; ",
+    ),
+    (&[(0, u128::MAX, 3)], b"0.0.0.0/0", "0.0.0.0/0 3; "),
+    // the leaf that is met first stands where either would do
+    (
+        &[
+            (0x0a00_0000, 0x0a00_00ff, 2),
+            (0x0a00_0040, 0x0a00_007f, 1),
+            (0x0a00_0080, 0x0a00_00bf, 1),
+        ],
+        b"10.0.0.0/24",
+        "10.0.0.0/24 2; 10.0.0.64/26 1; 10.0.0.128/26 1; ",
+    ),
+    (
+        &[
+            (0x2001_0db8 << 96, (0x2001_0db9 << 96) - 1, 1),
+            (
+                (0x2001_0db8 << 96) + (1 << 80),
+                (0x2001_0db8 << 96) + (2 << 80) - 1,
+                2,
+            ),
+        ],
+        b"2000::/3",
+        "2001:db8::/32 1; 2001:db8:1::/48 2; ",
+    ),
+];
+
+fn rows() -> &'static [Row] {
+    &ROWS
+}
+
 #[test]
 fn fewest_lines_in_order(rt: HostRuntime) -> Result<(), Fail> {
     let alloc = rt.alloc();
-    let cases: [(&[Painted], &[u8], &str); 9] = [
-        (&[], b"10.0.0.0/8", ""),
-        (
-            &[(0x0a00_0000, 0x0a00_00ff, 1), (0x0a00_0080, 0x0a00_00bf, 2)],
-            b"10.0.0.0/8",
-            "10.0.0.0/24 1; 10.0.0.128/26 2; ",
-        ),
-        (
-            &[(0x0a00_0000, 0x0a00_007f, 1), (0x0a00_0080, 0x0a00_00ff, 2)],
-            b"10.0.0.0/8",
-            "10.0.0.0/24 1; 10.0.0.128/25 2; ",
-        ),
-        (
-            &[(0x0a00_0000, 0x0a00_007f, 1), (0x0a00_00c0, 0x0a00_00ff, 1)],
-            b"10.0.0.0/8",
-            "10.0.0.0/24 1; 10.0.0.128/26 0; ",
-        ),
-        (
-            &[(0x0a00_0000, 0x0a00_007f, 1)],
-            b"10.0.0.0/8",
-            "10.0.0.0/25 1; ",
-        ),
-        (
-            &[(0x0a00_0000, 0x0a00_00ff, 1)],
-            b"10.0.0.5",
-            "10.0.0.5/32 1; ",
-        ),
-        (&[(0, u128::MAX, 3)], b"0.0.0.0/0", "0.0.0.0/0 3; "),
-        // the leaf that is met first stands where either would do
-        (
-            &[
-                (0x0a00_0000, 0x0a00_00ff, 2),
-                (0x0a00_0040, 0x0a00_007f, 1),
-                (0x0a00_0080, 0x0a00_00bf, 1),
-            ],
-            b"10.0.0.0/24",
-            "10.0.0.0/24 2; 10.0.0.64/26 1; 10.0.0.128/26 1; ",
-        ),
-        (
-            &[
-                (0x2001_0db8 << 96, (0x2001_0db9 << 96) - 1, 1),
-                (
-                    (0x2001_0db8 << 96) + (1 << 80),
-                    (0x2001_0db8 << 96) + (2 << 80) - 1,
-                    2,
-                ),
-            ],
-            b"2000::/3",
-            "2001:db8::/32 1; 2001:db8:1::/48 2; ",
-        ),
-    ];
-    for (painted, within, wanted) in cases {
-        let lines = lines_under::<Brand>(&rt, alloc, painted, within, Blank::new(1))?;
-        let text = text_of(alloc, &lines)?;
-        assert_eq!(rt; text.as_str(), wanted);
+    for (at, row) in rows().iter().enumerate() {
+        let lines = lines_under::<Brand>(&rt, alloc, row.0, row.1, Blank::new(1))?;
+        assert!(rt; text_of(alloc, &lines)?.as_str() == row.2, "row {at}");
     }
     Ok(())
+}
+
+// Sixty-four addresses with so many leaves in turn.
+fn chequered(alloc: Global, different: u32) -> Result<Vec<Painted>, Fail>
+    requires { 0 < different }
+{
+    let mut painted = Vec::new(alloc);
+    for address in 0..64u32 {
+        let at = 0xc000_0200 + u128::from(address);
+        painted.push((at, at, 1 + address % different))?;
+    }
+    Ok(painted)
 }
 
 // 64 addresses with two leaves in turn need one line for the block and one for every other address;
@@ -121,13 +142,9 @@ fn fewest_lines_in_order(rt: HostRuntime) -> Result<(), Fail> {
 fn chequered_block(rt: HostRuntime) -> Result<(), Fail> {
     let alloc = rt.alloc();
     for (different, wanted) in [(2u32, 33), (64, 64)] {
-        let mut painted = Vec::new(alloc);
-        for address in 0..64u32 {
-            let at = 0xc000_0200 + u128::from(address);
-            painted.push((at, at, 1 + address % different))?;
-        }
+        let painted = chequered(alloc, different)?;
         let lines = lines_under::<Brand>(&rt, alloc, &painted, b"192.0.2.0/26", Blank::new(1))?;
-        assert_eq!(rt; lines.len(), wanted, "{different} leaves");
+        assert!(rt; lines.len() == wanted, "{different} leaves");
     }
     Ok(())
 }

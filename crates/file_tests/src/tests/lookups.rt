@@ -61,7 +61,15 @@ fn prints(alloc: Global, file: &[u8], at: u128, want: &str) -> bool {
 const UPPER: u128 = 1 << 127;
 
 /// Tree, data section, metadata, address, and what is printed.
-const RECORDS: [(&[u8], &[u8], &[u8], u128, &str); 14] = [
+type RecordRow = (
+    &'static [u8],
+    &'static [u8],
+    &'static [u8],
+    u128,
+    &'static str,
+);
+
+static RECORDS: [RecordRow; 14] = [
     (
         LOWER,
         GERMANY,
@@ -132,17 +140,23 @@ const RECORDS: [(&[u8], &[u8], &[u8], u128, &str); 14] = [
     (LOWER, b"\xE1\x20\x04\xA0\x41a", BITS_24, 0, "{\"a\":0}\n"),
 ];
 
+fn records() -> &'static [RecordRow] {
+    &RECORDS
+}
+
 #[test]
 fn records_and_values(rt: HostRuntime) -> Result<(), Fail> {
-    for (i, (tree, section, metadata, at, want)) in RECORDS.iter().enumerate() {
-        let file = file_of(rt.alloc(), tree, section, metadata)?;
-        assert!(rt; prints(rt.alloc(), &file, *at, want), "row {i}");
+    for (at, row) in records().iter().enumerate() {
+        let file = file_of(rt.alloc(), row.0, row.1, row.2)?;
+        assert!(rt; prints(rt.alloc(), &file, row.3, row.4), "row {at}");
     }
     Ok(())
 }
 
 /// Tree, data section, metadata, and what is printed of the address 0.
-const FAULTS: [(&[u8], &[u8], &[u8], &str); 16] = [
+type FaultRow = (&'static [u8], &'static [u8], &'static [u8], &'static str);
+
+static FAULTS: [FaultRow; 16] = [
     (LOWER, b"", b"", "stop file Metadata\n"),
     (LOWER, b"", NO_SIZE, "stop file Metadata\n"),
     (LOWER, b"\xA0", OF_IPV4, "stop file Version\n"),
@@ -178,44 +192,57 @@ const FAULTS: [(&[u8], &[u8], &[u8], &str); 16] = [
     (LOWER, b"\xE1\xE1", BITS_24, "stop file Key 1\n"),
 ];
 
+fn fault_rows() -> &'static [FaultRow] {
+    &FAULTS
+}
+
 #[test]
 fn faults(rt: HostRuntime) -> Result<(), Fail> {
-    for (i, (tree, section, metadata, want)) in FAULTS.iter().enumerate() {
-        let file = file_of(rt.alloc(), tree, section, metadata)?;
-        assert!(rt; prints(rt.alloc(), &file, 0, want), "row {i}");
+    for (at, row) in fault_rows().iter().enumerate() {
+        let file = file_of(rt.alloc(), row.0, row.1, row.2)?;
+        assert!(rt; prints(rt.alloc(), &file, 0, row.3), "row {at}");
     }
     assert!(rt; prints(rt.alloc(), b"", 0, "stop file NoMarker\n"));
     Ok(())
 }
 
 /// The upper half of IPv4 has a record.
-#[test]
-fn half_of_ipv4(rt: HostRuntime) -> Result<(), Fail> {
-    let alloc = rt.alloc();
+fn file_of_half(alloc: Global) -> Result<Vec<u8>, Fail> {
     let mut tree = Vec::new(alloc);
     for node in 0..96u8 {
         tree.extend_from_slice(&[0, 0, node + 1, 0, 0, 97])?;
     }
     tree.extend_from_slice(&[0, 0, 97, 0, 0, 113])?;
-    let file = file_of(alloc, &tree, GERMANY, NODES_97)?;
-    let last_lower = parse_addr(b"127.255.255.255".as_slice())?;
-    let upper = parse_addr(b"128.0.0.1".as_slice())?;
-    assert!(rt;
-        prints(
-            alloc,
-            &file,
-            upper.0,
-            "{\"country\":{\"iso_code\":\"DE\"}}\n"
-        )
-    );
-    assert!(rt; prints(alloc, &file, last_lower.0, "none\n"));
+    file_of(alloc, &tree, GERMANY, NODES_97)
+}
+
+fn number_of(address: &[u8]) -> Result<u128, Fail> {
+    Ok(parse_addr(address)?.0)
+}
+
+#[test]
+fn half_of_ipv4(rt: HostRuntime) -> Result<(), Fail> {
+    let alloc = rt.alloc();
+    let file = file_of_half(alloc)?;
+    let last_lower = number_of(b"127.255.255.255")?;
+    let upper = number_of(b"128.0.0.1")?;
+    let germany = "{\"country\":{\"iso_code\":\"DE\"}}\n";
+    assert!(rt; prints(alloc, &file, upper, germany));
+    assert!(rt; prints(alloc, &file, last_lower, "none\n"));
     // Without its first byte the left record of the first node is 256.
     let (_, behind) = file.split_first().ok_or("no file")?;
-    assert!(rt; prints(alloc, behind, upper.0, "stop file OutOfSection\n"));
+    assert!(rt; prints(alloc, behind, upper, "stop file OutOfSection\n"));
     Ok(())
 }
 
 /// A pointer stands at offset 0, and a number where it leads.
+fn file_of_pointer(alloc: Global, pointer: &[u8], target: usize) -> Result<Vec<u8>, Fail> {
+    let mut section = Vec::from_slice(alloc, pointer)?;
+    section.resize(target, 0)?;
+    section.extend_from_slice(b"\xA1\x07")?;
+    file_of(alloc, LOWER, &section, BITS_24)
+}
+
 #[test]
 fn pointers_of_all_sizes(rt: HostRuntime) -> Result<(), Fail> {
     let rows: [(&[u8], usize); 4] = [
@@ -225,10 +252,7 @@ fn pointers_of_all_sizes(rt: HostRuntime) -> Result<(), Fail> {
         (b"\x38\0\0\0\x06", 6),
     ];
     for (pointer, target) in rows {
-        let mut section = Vec::from_slice(rt.alloc(), pointer)?;
-        section.resize(target, 0)?;
-        section.extend_from_slice(b"\xA1\x07")?;
-        let file = file_of(rt.alloc(), LOWER, &section, BITS_24)?;
+        let file = file_of_pointer(rt.alloc(), pointer, target)?;
         assert!(rt; prints(rt.alloc(), &file, 0, "7\n"), "{target}");
     }
     Ok(())

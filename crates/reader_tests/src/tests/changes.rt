@@ -49,46 +49,64 @@ fn references(alloc: Global, rows: &[Row]) -> Result<Vec<Reference>, Fail> {
     Ok(references)
 }
 
-// The ends of the grounds that changed, in order.
-fn changes<S: Compared>(alloc: Global, old: &[S], new: &[S]) -> Result<Vec<(u128, u128)>, Fail> {
+fn ends_of(alloc: Global, grounds: &[Range]) -> Result<Vec<(u128, u128)>, Fail> {
     let mut ends = Vec::new(alloc);
-    for ground in &changed_grounds(alloc, old, new)? {
+    for ground in grounds {
         ends.push((ground.first, ground.last))?;
     }
     ends.sort_unstable();
     Ok(ends)
 }
 
+// The ends of the grounds that changed, in order.
+fn changes<S: Compared>(alloc: Global, old: &[S], new: &[S]) -> Result<Vec<(u128, u128)>, Fail> {
+    let grounds = changed_grounds(alloc, old, new)?;
+    ends_of(alloc, grounds.as_slice())
+}
+
+type PartnerRow = (&'static [Row], &'static [Row], &'static [(u128, u128)]);
+
+static PARTNERS: [PartnerRow; 12] = [
+    (&[], &[], &[]),
+    (&[A, B], &[A, B], &[]),
+    (&[A, B], &[B_ON_LINE_1, A_ON_LINE_9], &[]),
+    (&[A, C, B], &[A_ON_LINE_9, B], &[(15, 24)]),
+    (&[A, B], &[A, A_LATER, B], &[(10, 19)]),
+    (&[A, A, B], &[B, A], &[(10, 19)]),
+    (
+        &[A, A_LATER],
+        &[A_LATER, A_LATER, A_LATER],
+        &[(10, 19), (10, 19), (10, 19)],
+    ),
+    (&[A, C], &[A_ELSEWHERE, C], &[(10, 19), (10, 19)]),
+    (&[], &[B, A], &[(10, 19), (20, 29)]),
+    (&[C, A], &[], &[(10, 19), (15, 24)]),
+    (
+        &[A, C, B],
+        &[A_LATER, C, B, B],
+        &[(10, 19), (10, 19), (20, 29)],
+    ),
+    (&[A, BOTH_FAMILIES], &[A], &[(1 << 32, 1 << 33)]),
+];
+
+fn partners() -> &'static [PartnerRow] {
+    &PARTNERS
+}
+
+fn reference_changes(alloc: Global, old: &[Row], new: &[Row]) -> Result<Vec<(u128, u128)>, Fail> {
+    let old = references(alloc, old)?;
+    let new = references(alloc, new)?;
+    changes(alloc, old.as_slice(), new.as_slice())
+}
+
 #[test]
 fn references_without_a_partner(rt: HostRuntime) -> Result<(), Fail> {
     let alloc = rt.alloc();
-    let table: [(&[Row], &[Row], &[(u128, u128)]); 12] = [
-        (&[], &[], &[]),
-        (&[A, B], &[A, B], &[]),
-        (&[A, B], &[B_ON_LINE_1, A_ON_LINE_9], &[]),
-        (&[A, C, B], &[A_ON_LINE_9, B], &[(15, 24)]),
-        (&[A, B], &[A, A_LATER, B], &[(10, 19)]),
-        (&[A, A, B], &[B, A], &[(10, 19)]),
-        (
-            &[A, A_LATER],
-            &[A_LATER, A_LATER, A_LATER],
-            &[(10, 19), (10, 19), (10, 19)],
-        ),
-        (&[A, C], &[A_ELSEWHERE, C], &[(10, 19), (10, 19)]),
-        (&[], &[B, A], &[(10, 19), (20, 29)]),
-        (&[C, A], &[], &[(10, 19), (15, 24)]),
-        (
-            &[A, C, B],
-            &[A_LATER, C, B, B],
-            &[(10, 19), (10, 19), (20, 29)],
-        ),
-        (&[A, BOTH_FAMILIES], &[A], &[(1 << 32, 1 << 33)]),
-    ];
-    for (old, new, wanted) in table {
-        let old = references(alloc, old)?;
-        let new = references(alloc, new)?;
-        let found = changes(alloc, old.as_slice(), new.as_slice())?;
-        assert!(rt; found.as_slice() == wanted);
+    for (at, row) in partners().iter().enumerate() {
+        assert!(rt;
+            reference_changes(alloc, row.0, row.1)?.as_slice() == row.2,
+            "row {at}"
+        );
     }
     Ok(())
 }
@@ -99,6 +117,13 @@ fn override_of(alloc: Global, line: u64, city: &str) -> Result<Override, Fail> {
         range: Range { first: 1, last: 2 },
         said: place_of(alloc, "", "", city, "")?,
     })
+}
+
+// How many grounds change between two overrides of these cities.
+fn override_changes(alloc: Global, old: &str, new: &str) -> Result<usize, Fail> {
+    let old = [override_of(alloc, 1, old)?];
+    let new = [override_of(alloc, 2, new)?];
+    Ok(changes(alloc, &old, &new)?.len())
 }
 
 #[test]
@@ -112,10 +137,7 @@ fn overrides_by_what_they_say(rt: HostRuntime) -> Result<(), Fail> {
         ("Ulm", "", 2),
     ];
     for (old, new, wanted) in table {
-        let old = [override_of(alloc, 1, old)?];
-        let new = [override_of(alloc, 2, new)?];
-        let found = changes(alloc, &old, &new)?;
-        assert!(rt; found.len() == wanted);
+        assert!(rt; override_changes(alloc, old, new)? == wanted);
     }
     Ok(())
 }
@@ -131,28 +153,46 @@ fn entry_of(alloc: Global, line: u64, block: &str, country: &str) -> Result<Entr
     })
 }
 
+// Entries on lines from 1 on.
+fn entries(alloc: Global, rows: &[(&str, &str)]) -> Result<Vec<Entry>, Fail> {
+    let mut entries = Vec::new(alloc);
+    for (at, (block, country)) in rows.iter().enumerate() {
+        entries.push(entry_of(alloc, at as u64 + 1, block, country)?)?;
+    }
+    Ok(entries)
+}
+
 #[test]
 fn entries_by_block_and_place(rt: HostRuntime) -> Result<(), Fail> {
     let alloc = rt.alloc();
     let old = [
-        entry_of(alloc, 1, "10.0.0.0/8", "DE")?,
-        entry_of(alloc, 2, "10.0.0.0/24", "DE")?,
-        entry_of(alloc, 3, "10.0.1.0/24", "FR")?,
+        ("10.0.0.0/8", "DE"),
+        ("10.0.0.0/24", "DE"),
+        ("10.0.1.0/24", "FR"),
     ];
     let new = [
-        entry_of(alloc, 1, "10.0.1.0/24", "FR")?,
-        entry_of(alloc, 2, "10.0.0.0/25", "DE")?,
-        entry_of(alloc, 3, "10.0.0.0/8", "DE")?,
+        ("10.0.1.0/24", "FR"),
+        ("10.0.0.0/25", "DE"),
+        ("10.0.0.0/8", "DE"),
     ];
     let wanted = [(0x0A00_0000, 0x0A00_007F), (0x0A00_0000, 0x0A00_00FF)];
-    let found = changes(alloc, &old, &new)?;
+    let old = entries(alloc, &old)?;
+    let new = entries(alloc, &new)?;
+    let found = changes(alloc, old.as_slice(), new.as_slice())?;
     assert!(rt; found.as_slice() == wanted.as_slice());
     Ok(())
 }
 
+fn place_of_code(alloc: Global, code: &[u8]) -> Result<Option<Place>, Fail> {
+    let mut texts = Texts::new(alloc);
+    Ok(country_place(&mut texts, code)?)
+}
+
 fn country(alloc: Global, code: &[u8]) -> Result<Place, Fail> {
-    let place = country_place(&mut Texts::new(alloc), code)?.ok_or("a country")?;
-    Ok(place)
+    match place_of_code(alloc, code)? {
+        Some(place) => Ok(place),
+        None => Err(Fail::from("no country")),
+    }
 }
 
 fn delegation_of(alloc: Global, line: u64, slot: &str, code: &[u8]) -> Result<Delegation, Fail> {
@@ -176,20 +216,23 @@ fn delegation_of(alloc: Global, line: u64, slot: &str, code: &[u8]) -> Result<De
     })
 }
 
+// How many grounds change between a delegation of the slot `ripe` to `DE` and this one.
+fn delegation_changes(alloc: Global, slot: &str, code: &[u8]) -> Result<usize, Fail> {
+    let old = [delegation_of(alloc, 1, "ripe", b"DE")?];
+    let new = [delegation_of(alloc, 2, slot, code)?];
+    keep_all(&new);
+    Ok(changes(alloc, &old, &new)?.len())
+}
+
 #[test]
 fn delegations_by_country_and_slot(rt: HostRuntime) -> Result<(), Fail> {
-    let alloc = rt.alloc();
     let table: [(&str, &[u8], usize); 3] = [
         ("ripe", b"DE", 0),
         ("ripe", b"FR", 2),
         ("arin", b"DE", 2),
     ];
     for (slot, code, wanted) in table {
-        let old = [delegation_of(alloc, 1, "ripe", b"DE")?];
-        let new = [delegation_of(alloc, 2, slot, code)?];
-        keep_all(&new);
-        let found = changes(alloc, &old, &new)?;
-        assert!(rt; found.len() == wanted);
+        assert!(rt; delegation_changes(rt.alloc(), slot, code)? == wanted);
     }
     Ok(())
 }

@@ -34,28 +34,40 @@ fn reference(
     })
 }
 
+// A slot, a line, the first and the last address, a date and a URL.
+type ReferenceRow = (&'static str, u64, u128, u128, u64, &'static str);
+
 // Lines 1 and 2 nest, 3 and 4 overlap, 5 and 6 are of one range and one date in two slots, 7 is
 // older than these; the others touch the ends of both families.
+static REFERENCES: [ReferenceRow; 12] = [
+    ("a", 1, 0xC000_0000, 0xC000_FFFF, 0, FEED),
+    ("a", 2, 0xC000_0200, 0xC000_02FF, 0, FEED),
+    ("a", 3, 0x0A00_0000, 0x0A00_0009, 0, OTHER),
+    ("a", 4, 0x0A00_0005, 0x0A00_0014, 0, OTHER),
+    ("b", 5, 0x0B00_0000, 0x0B00_00FF, 20, FEED),
+    ("a", 6, 0x0B00_0000, 0x0B00_00FF, 20, FEED),
+    ("a", 7, 0x0B00_0000, 0x0B00_00FF, 10, FEED),
+    ("a", 8, 0, 0, 0, OTHER),
+    ("a", 9, TOP_V4, TOP_V4, 0, OTHER),
+    ("a", 10, 0, u128::MAX, 0, OTHER),
+    ("a", 11, 1 << 32, 1 << 32, 0, OTHER),
+    ("a", 12, u128::MAX, u128::MAX, 0, OTHER),
+];
+
+fn reference_rows() -> &'static [ReferenceRow] {
+    &REFERENCES
+}
+
 fn references(alloc: Global) -> Result<Vec<Reference>, Fail> {
-    let table: [(&str, u64, u128, u128, u64, &str); 12] = [
-        ("a", 1, 0xC000_0000, 0xC000_FFFF, 0, FEED),
-        ("a", 2, 0xC000_0200, 0xC000_02FF, 0, FEED),
-        ("a", 3, 0x0A00_0000, 0x0A00_0009, 0, OTHER),
-        ("a", 4, 0x0A00_0005, 0x0A00_0014, 0, OTHER),
-        ("b", 5, 0x0B00_0000, 0x0B00_00FF, 20, FEED),
-        ("a", 6, 0x0B00_0000, 0x0B00_00FF, 20, FEED),
-        ("a", 7, 0x0B00_0000, 0x0B00_00FF, 10, FEED),
-        ("a", 8, 0, 0, 0, OTHER),
-        ("a", 9, TOP_V4, TOP_V4, 0, OTHER),
-        ("a", 10, 0, u128::MAX, 0, OTHER),
-        ("a", 11, 1 << 32, 1 << 32, 0, OTHER),
-        ("a", 12, u128::MAX, u128::MAX, 0, OTHER),
-    ];
     let mut refs = Vec::new(alloc);
-    for (slot, line, first, last, modified, url) in table {
-        refs.push(reference(alloc, (slot, line), (first, last), modified, url)?)?;
+    for row in reference_rows() {
+        refs.push(reference(alloc, (row.0, row.1), (row.2, row.3), row.4, row.5)?)?;
     }
     Ok(refs)
+}
+
+fn index(alloc: Global) -> Result<Index, Fail> {
+    Ok(Index::build(alloc, references(alloc)?)?)
 }
 
 fn line_of(found: Option<&Reference>) -> u64 {
@@ -65,27 +77,38 @@ fn line_of(found: Option<&Reference>) -> u64 {
     }
 }
 
+fn best_line(index: &Index, number: u128) -> u64 {
+    line_of(index.best_at(Addr(number)))
+}
+
+type SmallestRow = (u128, u64);
+
+static SMALLEST: [SmallestRow; 13] = [
+    (0xC000_0301, 1),
+    (0xC000_02FF, 2),
+    (0xC001_0000, 0),
+    (0x0A00_0007, 3),
+    (0x0A00_000A, 4),
+    (0x0B00_00FF, 6),
+    (0, 8),
+    (1, 0),
+    (TOP_V4, 9),
+    (1 << 32, 11),
+    ((1 << 32) + 1, 10),
+    (u128::MAX - 1, 10),
+    (u128::MAX, 12),
+];
+
+fn smallest() -> &'static [SmallestRow] {
+    &SMALLEST
+}
+
 #[test]
 fn smallest_then_latest_then_slot(rt: HostRuntime) -> Result<(), Fail> {
     let alloc = rt.alloc();
-    let index = Index::build(alloc, references(alloc)?)?;
-    let table: [(u128, u64); 13] = [
-        (0xC000_0301, 1),
-        (0xC000_02FF, 2),
-        (0xC001_0000, 0),
-        (0x0A00_0007, 3),
-        (0x0A00_000A, 4),
-        (0x0B00_00FF, 6),
-        (0, 8),
-        (1, 0),
-        (TOP_V4, 9),
-        (1 << 32, 11),
-        ((1 << 32) + 1, 10),
-        (u128::MAX - 1, 10),
-        (u128::MAX, 12),
-    ];
-    for (number, line) in table {
-        assert!(rt; line_of(index.best_at(Addr(number))) == line);
+    let index = index(alloc)?;
+    for (at, row) in smallest().iter().enumerate() {
+        assert!(rt; best_line(&index, row.0) == row.1, "row {at}");
     }
     Ok(())
 }
@@ -101,26 +124,32 @@ fn covering_line(index: &Index, url: &str, text: &str) -> Result<u64, Fail> {
     }
 }
 
+type CoveredRow = (&'static str, &'static str, u64);
+
+static COVERED: [CoveredRow; 11] = [
+    (FEED, "192.0.2.0/25", 2),
+    (FEED, "192.0.3.0/24", 1),
+    (FEED, "192.0.0.0/15", 0),
+    (FEED, "192.0.2.0/24", 2),
+    (FEED, "11.0.0.0/28", 6),
+    (OTHER, "11.0.0.0/28", 0),
+    (OTHER, "10.0.0.8/32", 3),
+    (OTHER, "10.0.0.8/30", 4),
+    (OTHER, "0.0.0.1/32", 0),
+    (OTHER, "::/0", 10),
+    ("https://e.example/h.csv", "192.0.2.0/25", 0),
+];
+
+fn covered() -> &'static [CoveredRow] {
+    &COVERED
+}
+
 #[test]
 fn covered_by_the_first_that_contains(rt: HostRuntime) -> Result<(), Fail> {
     let alloc = rt.alloc();
-    let index = Index::build(alloc, references(alloc)?)?;
-    let table: [(&str, &str, u64); 11] = [
-        (FEED, "192.0.2.0/25", 2),
-        (FEED, "192.0.3.0/24", 1),
-        (FEED, "192.0.0.0/15", 0),
-        (FEED, "192.0.2.0/24", 2),
-        (FEED, "11.0.0.0/28", 6),
-        (OTHER, "11.0.0.0/28", 0),
-        (OTHER, "10.0.0.8/32", 3),
-        (OTHER, "10.0.0.8/30", 4),
-        (OTHER, "0.0.0.1/32", 0),
-        (OTHER, "::/0", 10),
-        ("https://e.example/h.csv", "192.0.2.0/25", 0),
-    ];
-    for (url, text, line) in table {
-        let found = covering_line(&index, url, text)?;
-        assert!(rt; found == line);
+    let index = index(alloc)?;
+    for (at, row) in covered().iter().enumerate() {
+        assert!(rt; covering_line(&index, row.0, row.1)? == row.2, "row {at}");
     }
     Ok(())
 }
@@ -149,15 +178,18 @@ fn made(alloc: Global, count: u64) -> Result<Vec<Reference>, Fail> {
     Ok(refs)
 }
 
+fn plain_line(refs: &[Reference], number: u128) -> u64 {
+    line_of(first_at(refs, Addr(number), None))
+}
+
 #[test]
 fn as_the_plain_look_up(rt: HostRuntime) -> Result<(), Fail> {
     let alloc = rt.alloc();
     let refs = made(alloc, 2000)?;
     let index = Index::build(alloc, made(alloc, 2000)?)?;
     for step in 0..600 {
-        let at = Addr((TOP_V4 - 0x900) + u128::from(step * 8u32));
-        let plain = first_at(refs.as_slice(), at, None);
-        assert!(rt; line_of(index.best_at(at)) == line_of(plain));
+        let at = (TOP_V4 - 0x900) + u128::from(step * 8u32);
+        assert!(rt; best_line(&index, at) == plain_line(refs.as_slice(), at));
     }
     Ok(())
 }

@@ -126,8 +126,8 @@ fn stands(alloc: Global, session: &mut Session, act: Act) -> Result<bool, Fail> 
         Absent(kind, name) => Ok(drop_one(session, kind, name) == Err(DropFault::NotThere)),
         Unmarked(name) => Ok(session.back(name) == Err(BackFault::NotThere)),
         Compact(count) => Ok(session.compact()? == count),
-        Nodes(count) => Ok(session.store().len() == count),
-        Touched(count) => Ok(session.touched().len() == count),
+        Nodes(count) => Ok(nodes(session) == count),
+        Touched(count) => Ok(touched(session) == count),
         Edges(count) => Ok(edges(session)? == count),
         Report(text) => Ok(printed(alloc, session)?.as_str() == text),
         _ => change(alloc, session, act).map(|()| true),
@@ -175,6 +175,25 @@ fn alike<R: Threads + Sync>(
     emits(rt, alloc, other, file.bytes.as_slice())
 }
 
+fn touched(session: &Session) -> usize {
+    session.touched().len()
+}
+
+fn nodes(session: &Session) -> u32 {
+    session.store().len()
+}
+
+// Whether an emit gives what a new session gives after the first so many acts.
+fn gives_the_new_file<R: Threads + Sync>(
+    rt: &R,
+    alloc: Global,
+    session: &mut Session,
+    acts: (&[Act], usize),
+) -> Result<bool, Fail> {
+    let mut new = after(alloc, acts.0, acts.1)?;
+    alike(rt, alloc, session, &mut new)
+}
+
 // Whether so many grounds are touched, and an emit gives what a new session gives after the first
 // so many acts.
 fn is_as_new<R: Threads + Sync>(
@@ -184,12 +203,11 @@ fn is_as_new<R: Threads + Sync>(
     acts: (&[Act], usize),
     wanted: usize,
 ) -> Result<bool, Fail> {
-    let touched = session.touched().len();
-    let nodes = session.store().len();
-    let mut new = after(alloc, acts.0, acts.1)?;
-    let is_alike = alike(rt, alloc, session, &mut new)?;
-    let stays = touched > 0 || session.store().len() == nodes;
-    Ok(is_alike && stays && touched == wanted)
+    let count = touched(session);
+    let before = nodes(session);
+    let is_alike = gives_the_new_file(rt, alloc, session, acts)?;
+    let stays = count > 0 || nodes(session) == before;
+    Ok(is_alike && stays && count == wanted)
 }
 
 fn counts(file: &Option<Emitted>) -> (u64, u64, u8) {
@@ -219,18 +237,32 @@ fn comes_out<R: Threads + Sync>(
     }
 }
 
-// The number of the first act that does not come out so, and how many there are where each does.
-fn first_wrong<R: Threads + Sync>(rt: &R, alloc: Global, acts: &[Act]) -> Result<usize, Fail> {
-    let mut course = Course {
+fn begun_course(alloc: Global) -> Result<Course, Fail> {
+    Ok(Course {
         session: begun(alloc)?,
         file: None,
-    };
+    })
+}
+
+// The number of the first act that does not come out so, and how many there are where each does.
+fn first_wrong_in<R: Threads + Sync>(
+    rt: &R,
+    alloc: Global,
+    course: &mut Course,
+    acts: &[Act],
+) -> Result<usize, Fail> {
     for (at, act) in acts.iter().enumerate() {
-        if !comes_out(rt, alloc, &mut course, (acts, at), *act)? {
+        if !comes_out(rt, alloc, course, (acts, at), *act)? {
             return Ok(at);
         }
     }
     Ok(acts.len())
+}
+
+// The same, on a session that has begun.
+fn first_wrong<R: Threads + Sync>(rt: &R, alloc: Global, acts: &[Act]) -> Result<usize, Fail> {
+    let mut course = begun_course(alloc)?;
+    first_wrong_in(rt, alloc, &mut course, acts)
 }
 
 /// The first job that does not come out so, and its first act that does not.

@@ -1,5 +1,5 @@
 //! A session, and the files of its emits.
-ghost use Rattle.std.specs.Prelude.{◌≡◌, ◌<◌};
+ghost use Rattle.std.specs.Prelude.{◌≡◌, ◌<◌, ◌≤◌, length, IfOk};
 
 use fan_work::Forks;
 use geo_addr::Text;
@@ -12,16 +12,23 @@ use std::test::Fail;
 use std::thread::Threads;
 use update_session::{EmitFault, Session};
 
-/// A session with the name and the epoch of the worked files.
-pub fn begun(alloc: Global) -> Result<Session, Fail> {
+// The epoch and the name of the worked files.
+fn meta(alloc: Global) -> Result<Meta, Fail>
+    ensures { IfOk result (λ meta. length meta.name ≤ 64) }
+{
     let name = Text::of(alloc, "Geofeed-City")?;
     if name.as_str().len() > 64 {
         return Err(Fail::from("a long name"));
     }
-    let meta = Meta {
+    Ok(Meta {
         epoch: 1_700_000_000,
         name,
-    };
+    })
+}
+
+/// A session with the name and the epoch of the worked files.
+pub fn begun(alloc: Global) -> Result<Session, Fail> {
+    let meta = meta(alloc)?;
     Ok(Session::new(alloc, meta)?)
 }
 

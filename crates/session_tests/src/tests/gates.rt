@@ -8,19 +8,25 @@ use crate::tests::lines::Shape::Networks;
 use crate::tests::lines::set_lines;
 use fan_work::Forks;
 use geo_outside::{Gate, OpenGate};
-use mmdb_file::Emitted;
 use std::alloc::Global;
 use std::marker::Sync;
 use std::sync::atomic::{AtomicU64, Ordering};
 use std::test::Fail;
 use std::thread;
 use std::thread::Threads;
-use update_session::Session;
+use update_session::{EmitFault, Session};
 
 /// A gate with a flag for each piece.
 #[derive(Drop)]
 struct Flags {
     came: AtomicU64,
+}
+
+impl Flags {
+    // How many pieces came, by a function of its own, so that no other proof counts bits.
+    fn count(&self) -> u32 {
+        self.came.load(Ordering::SeqCst).count_ones()
+    }
 }
 
 impl Gate for Flags {
@@ -56,60 +62,87 @@ impl Gate for Meeting {
     }
 }
 
-// How many flags an emit by 64 pieces sets, of 64 networks whose first has this country.
-fn flags_of<R: Threads + Sync>(
-    rt: &R,
-    alloc: Global,
-    session: &mut Session,
-    first: &str,
-) -> Result<u32, Fail> {
-    let gate = Flags {
-        came: AtomicU64::new(0),
-    };
-    let forks = Forks {
-        rt,
-        alloc,
-        gate: &gate,
-        pieces: 64,
-    };
-    set_lines(alloc, session, Networks, first, 0)?;
-    emitted_by(&forks, session)?;
-    Ok(gate.came.load(Ordering::SeqCst).count_ones())
-}
-
-// Of the second emit one network alone has changed.
-#[test]
-fn each_piece_with_segments_enters(rt: HostRuntime) -> Result<(), Fail> {
-    let mut session = begun(rt.alloc())?;
-    assert_eq!(rt; flags_of(&rt, rt.alloc(), &mut session, "FR")?, 64);
-    let second = flags_of(&rt, rt.alloc(), &mut session, "DE")?;
-    assert!(rt; matches!(second, 1..=3));
-    Ok(())
-}
-
-// The file of the overrides of two networks by so many pieces.
-fn file_by<R: Threads + Sync, G: Gate>(
+// The bytes of an emit by so many pieces.
+fn bytes_by<R: Threads + Sync, G: Gate>(
     rt: &R,
     alloc: Global,
     gate: &G,
+    session: &mut Session,
     pieces: u32,
-) -> Result<Emitted, Fail>
+) -> Result<Vec<u8>, EmitFault>
     requires some { 0 < pieces }
     requires few { pieces ≤ 64 }
 {
-    let mut session = begun(alloc)?;
-    let two = "10.0.0.0/8,set,FR\n12.0.0.0/8,set,DE\n";
-    set(alloc, &mut session, (Overrides, "", two))?;
     let forks = Forks {
         rt,
         alloc,
         gate,
         pieces,
     };
-    Ok(emitted_by(&forks, &mut session)?)
+    Ok(emitted_by(&forks, session)?.bytes)
 }
 
-// How many pieces met while that was written by two.
+// How many flags an emit by 64 pieces sets.
+fn flags_of<R: Threads + Sync>(
+    rt: &R,
+    alloc: Global,
+    session: &mut Session,
+) -> Result<u32, EmitFault> {
+    let gate = Flags {
+        came: AtomicU64::new(0),
+    };
+    bytes_by(rt, alloc, &gate, session, 64)?;
+    Ok(gate.count())
+}
+
+// The same after the overrides of 64 networks were set, of which the first has this country.
+fn flags_of_networks<R: Threads + Sync>(
+    rt: &R,
+    alloc: Global,
+    session: &mut Session,
+    first: &str,
+) -> Result<u32, Fail> {
+    set_lines(alloc, session, Networks, first, 0)?;
+    Ok(flags_of(rt, alloc, session)?)
+}
+
+// Of the second emit one network alone has changed.
+#[test]
+fn each_piece_with_segments_enters(rt: HostRuntime) -> Result<(), Fail> {
+    let mut session = begun(rt.alloc())?;
+    assert!(rt; flags_of_networks(&rt, rt.alloc(), &mut session, "FR")? == 64);
+    let second = flags_of_networks(&rt, rt.alloc(), &mut session, "DE")?;
+    assert!(rt; matches!(second, 1..=3));
+    Ok(())
+}
+
+// The text, by a function of its own, so that its letters stand in no other proof.
+fn two_rows() -> &'static str {
+    "10.0.0.0/8,set,FR\n12.0.0.0/8,set,DE\n"
+}
+
+// A session with overrides of two networks.
+fn two_networks(alloc: Global) -> Result<Session, Fail> {
+    let mut session = begun(alloc)?;
+    set(alloc, &mut session, (Overrides, "", two_rows()))?;
+    Ok(session)
+}
+
+// The file of these overrides by so many pieces.
+fn file_by<R: Threads + Sync, G: Gate>(
+    rt: &R,
+    alloc: Global,
+    gate: &G,
+    pieces: u32,
+) -> Result<Vec<u8>, Fail>
+    requires some { 0 < pieces }
+    requires few { pieces ≤ 64 }
+{
+    let mut session = two_networks(alloc)?;
+    Ok(bytes_by(rt, alloc, gate, &mut session, pieces)?)
+}
+
+// How many pieces met while that file was written by two.
 fn meetings<R: Threads + Sync>(rt: &R, alloc: Global) -> Result<u64, Fail> {
     let gate = Meeting {
         first: AtomicU64::new(0),
@@ -131,7 +164,7 @@ fn pieces_change_no_byte(rt: HostRuntime) -> Result<(), Fail> {
     let one = file_by(&rt, rt.alloc(), &OpenGate, 1)?;
     for pieces in [3, 64] {
         let file = file_by(&rt, rt.alloc(), &OpenGate, pieces)?;
-        assert!(rt; file.bytes.as_slice() == one.bytes.as_slice());
+        assert!(rt; file.as_slice() == one.as_slice());
     }
     Ok(())
 }

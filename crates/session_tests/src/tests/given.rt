@@ -23,9 +23,14 @@ pub enum Kind {
 /// A source: its kind, its slot or URL, and its text.
 pub type Given<'a> = (Kind, &'a str, &'a str);
 
-fn dump(alloc: Global, slot: &str, text: &str) -> Result<Dump, SourceFault> {
+fn fed(alloc: Global, slot: &str, text: &str) -> Result<DumpReader, SourceFault> {
     let mut reader = DumpReader::new(alloc, slot)?;
     reader.feed(text.as_bytes())?;
+    Ok(reader)
+}
+
+fn dump(alloc: Global, slot: &str, text: &str) -> Result<Dump, SourceFault> {
+    let reader = fed(alloc, slot, text)?;
     reader.finish()
 }
 

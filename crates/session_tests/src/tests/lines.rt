@@ -1,6 +1,6 @@
 //! Sources of many lines, which may go round.
 use crate::tests::given::{FEED, Kind, set};
-use std::alloc::Global;
+use std::alloc::{AllocError, Global};
 use std::test::Fail;
 use update_session::Session;
 
@@ -16,21 +16,13 @@ pub enum Shape {
 }
 
 // The line of a number.
-fn push_line(
-    alloc: Global,
-    text: &mut String,
-    shape: Shape,
-    at: u64,
-    code: &str,
-) -> Result<(), Fail> {
+fn line(alloc: Global, shape: Shape, at: u64, code: &str) -> Result<String, AllocError> {
     let (next, third, fourth) = (at % 64 + 1, at / 16, at % 16 * 16);
-    let line = match shape {
-        Shape::Networks => format!(in alloc; "{next}.0.0.0/8,set,{code}\n")?,
-        Shape::References => { format!(in alloc; "inetnum: {next}.0.0.0/8\ngeofeed: {FEED}\n\n")? }
-        Shape::Blocks => format!(in alloc; "10.0.{third}.{fourth}/28,{code},,,\n")?,
-    };
-    text.push_str(line.as_str())?;
-    Ok(())
+    match shape {
+        Shape::Networks => format!(in alloc; "{next}.0.0.0/8,set,{code}\n"),
+        Shape::References => format!(in alloc; "inetnum: {next}.0.0.0/8\ngeofeed: {FEED}\n\n"),
+        Shape::Blocks => format!(in alloc; "10.0.{third}.{fourth}/28,{code},,,\n"),
+    }
 }
 
 // So many lines from a number on, going round. All are of one country but that of the number 0.
@@ -39,7 +31,7 @@ fn lines(alloc: Global, shape: Shape, count: u32, first: &str, round: u32) -> Re
     for n in 0..u64::from(count) {
         let at = (n + u64::from(round)) % u64::from(count);
         let code = if at == 0 { first } else { "FR" };
-        push_line(alloc, &mut text, shape, at, code)?;
+        text.push_str(line(alloc, shape, at, code)?.as_str())?;
     }
     Ok(text)
 }

@@ -21,9 +21,16 @@ fn range(ends: Ends) -> Result<Range, Fail> {
     Ok(Range { first, last })
 }
 
+fn place_of_code(alloc: Global, code: &str) -> Result<Option<Place>, Fail> {
+    let mut texts = Texts::new(alloc);
+    Ok(country_place(&mut texts, code.as_bytes())?)
+}
+
 fn country(alloc: Global, code: &str) -> Result<Place, Fail> {
-    let place = country_place(&mut Texts::new(alloc), code.as_bytes())?.ok_or("a country")?;
-    Ok(place)
+    match place_of_code(alloc, code)? {
+        Some(place) => Ok(place),
+        None => Err(Fail::from("no country")),
+    }
 }
 
 fn row(alloc: Global, slot: &str, range: Range, code: &str) -> Result<Delegation, Fail>

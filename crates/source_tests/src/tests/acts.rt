@@ -75,14 +75,20 @@ fn agrees(sources: &mut Sources, alloc: Global, act: &Act) -> Result<bool, Fail>
 }
 
 // The number of the first act that comes out wrong, or how many there are.
-fn first_wrong(alloc: Global) -> Result<usize, Fail> {
-    let mut sources = Sources::new(alloc);
+fn first_wrong_in(sources: &mut Sources, alloc: Global) -> Result<usize, Fail> {
     for (at, act) in acts().iter().enumerate() {
-        if !agrees(&mut sources, alloc, act)? {
+        if !agrees(sources, alloc, act)? {
             return Ok(at);
         }
     }
     Ok(acts().len())
+}
+
+// The same, from no source on. It keeps the sources, and the loop above only borrows them, so that
+// no step of the loop has to say how they are given up.
+fn first_wrong(alloc: Global) -> Result<usize, Fail> {
+    let mut sources = Sources::new(alloc);
+    first_wrong_in(&mut sources, alloc)
 }
 
 #[test]

@@ -20,9 +20,14 @@ pub enum Kind {
 /// A source: its kind, its slot or URL, and its text.
 pub type Given = (Kind, &'static str, &'static str);
 
-fn dump(alloc: Global, slot: &str, text: &str) -> Result<Dump, SourceFault> {
+fn fed(alloc: Global, slot: &str, text: &str) -> Result<DumpReader, SourceFault> {
     let mut reader = DumpReader::new(alloc, slot)?;
     reader.feed(text.as_bytes())?;
+    Ok(reader)
+}
+
+fn dump(alloc: Global, slot: &str, text: &str) -> Result<Dump, SourceFault> {
+    let reader = fed(alloc, slot, text)?;
     reader.finish()
 }
 
@@ -67,11 +72,16 @@ pub fn drop_one(sources: &mut Sources, kind: Kind, name: &str) -> Result<(), Dro
     }
 }
 
+fn set_all(sources: &mut Sources, alloc: Global, given: &[Given]) -> Result<(), Fail> {
+    for source in given {
+        set(sources, alloc, *source)?;
+    }
+    Ok(())
+}
+
 /// All of these, set in this order.
 pub fn all(alloc: Global, given: &[Given]) -> Result<Sources, Fail> {
     let mut sources = Sources::new(alloc);
-    for source in given {
-        set(&mut sources, alloc, *source)?;
-    }
+    set_all(&mut sources, alloc, given)?;
     Ok(sources)
 }

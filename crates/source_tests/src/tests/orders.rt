@@ -86,11 +86,15 @@ fn agrees(alloc: Global, sources: &Sources) -> Result<bool, Fail> {
     )
 }
 
+fn order_agrees(alloc: Global, order: &[Given]) -> Result<bool, Fail> {
+    let sources = all(alloc, order)?;
+    agrees(alloc, &sources)
+}
+
 // The number of the first order that comes out wrong, or how many there are.
 fn first_wrong(alloc: Global) -> Result<usize, Fail> {
     for (at, order) in orders().iter().enumerate() {
-        let sources = all(alloc, order)?;
-        if !agrees(alloc, &sources)? {
+        if !order_agrees(alloc, order)? {
             return Ok(at);
         }
     }

@@ -71,14 +71,24 @@ fn made_feeds(alloc: Global) -> Result<Vec<Feed>, Fail> {
     Ok(feeds)
 }
 
-fn made_sources(alloc: Global) -> Result<Authority, Fail> {
-    let mut sources = Authority::new(alloc);
-    for dump in made_dumps(alloc, 2000)? {
+fn set_dumps(sources: &mut Authority, dumps: Vec<Dump>) -> Result<(), Fail> {
+    for dump in dumps {
         sources.set_dump(dump)?;
     }
-    for feed in made_feeds(alloc)? {
+    Ok(())
+}
+
+fn set_feeds(alloc: Global, sources: &mut Authority, feeds: Vec<Feed>) -> Result<(), Fail> {
+    for feed in feeds {
         sources.set_feed(IndexedFeed::of(alloc, feed)?)?;
     }
+    Ok(())
+}
+
+fn made_sources(alloc: Global) -> Result<Authority, Fail> {
+    let mut sources = Authority::new(alloc);
+    set_dumps(&mut sources, made_dumps(alloc, 2000)?)?;
+    set_feeds(alloc, &mut sources, made_feeds(alloc)?)?;
     Ok(sources)
 }
 

@@ -84,24 +84,28 @@ const ADDRESSES: [&str; 13] = [
 const RECORDS: &str = "DE,DE-BY,München,;AT,,Wien,;DE,DE-BE,Berlin,10115;-;FR,,,;\
     CH,CH-ZH,Zürich,;US,,,;US,,,;-;-;-;NL,NL-NH,Amsterdam,;JP,,Tokyo,;";
 
+fn has_report_and_records(alloc: Global, sources: &Sources) -> Result<bool, Fail> {
+    let report = printed(alloc, sources)?;
+    let found = records(alloc, sources, &ADDRESSES)?;
+    Ok(report.as_str() == REPORT && found.as_str() == RECORDS)
+}
+
 #[test]
 fn report_and_records(rt: HostRuntime) -> Result<(), Fail> {
-    let alloc = rt.alloc();
-    let sources = job(alloc)?;
-    let report = printed(alloc, &sources)?;
-    assert!(rt; report.as_str() == REPORT);
-    let found = records(alloc, &sources, &ADDRESSES)?;
-    assert!(rt; found.as_str() == RECORDS);
+    let sources = job(rt.alloc())?;
+    assert!(rt; has_report_and_records(rt.alloc(), &sources)?);
     Ok(())
+}
+
+fn has_reasons(alloc: Global, sources: &Sources, address: &str) -> Result<bool, Fail> {
+    Ok(reasons(alloc, sources, address)?.as_str() == "1; ripe 6; 2; nro 6; AT,,Wien,")
 }
 
 #[test]
 fn reasons_where_an_override_decides(rt: HostRuntime) -> Result<(), Fail> {
-    let alloc = rt.alloc();
-    let sources = job(alloc)?;
+    let sources = job(rt.alloc())?;
     for address in ["192.0.2.12", "::ffff:192.0.2.12", "2002:c000:20c::"] {
-        let found = reasons(alloc, &sources, address)?;
-        assert!(rt; found.as_str() == "1; ripe 6; 2; nro 6; AT,,Wien,");
+        assert!(rt; has_reasons(rt.alloc(), &sources, address)?, "{address}");
     }
     Ok(())
 }

@@ -1,4 +1,6 @@
 //! What objects and dumps say of feeds, however a dump is cut.
+ghost use Rattle.std.specs.Prelude.{◌≤◌, length};
+
 use crate::tests::realistic::DUMP as REALISTIC;
 use feed_refs::{DumpReader, UrlRead, What, read_url, reference_of};
 use geo_addr::{Bytes, List, Text, range_text};
@@ -8,13 +10,17 @@ use std::alloc::Global;
 use std::test::Fail;
 
 // A reference, as a line of its fields but the slot.
-fn push_reference(alloc: Global, reference: &Reference, text: &mut String) -> Result<(), Fail> {
+fn reference_text(alloc: Global, reference: &Reference) -> Result<String, Fail> {
     let line = reference.line;
     let range = range_text(alloc, reference.range)?;
     let range = range.as_str();
     let modified = reference.modified;
     let url = reference.url.as_str();
-    text.push_str(format!(in alloc; "{line} {range} {modified} {url}\n")?.as_str())?;
+    Ok(format!(in alloc; "{line} {range} {modified} {url}\n")?)
+}
+
+fn push_reference(alloc: Global, reference: &Reference, text: &mut String) -> Result<(), Fail> {
+    text.push_str(reference_text(alloc, reference)?.as_str())?;
     Ok(())
 }
 
@@ -70,13 +76,17 @@ fn said(alloc: Global, object: &Object) -> Result<String, Fail> {
 /// An object, and what it says with the notes on it.
 type Row = (&'static str, &'static str);
 
+fn says_as(alloc: Global, front: &str, row: &Row) -> Result<bool, Fail> {
+    let text = format!(in alloc; "{front}{}", row.0)?;
+    let object = object(alloc, text.as_str())?;
+    Ok(said(alloc, &object)?.as_str() == row.1)
+}
+
 // The number of the first row that comes out wrong, or how many there are. The attributes of a row
 // stand behind those that come first in each.
 fn first_wrong(alloc: Global, front: &str, rows: &[Row]) -> Result<usize, Fail> {
-    for (at, (attributes, wanted)) in rows.iter().enumerate() {
-        let text = format!(in alloc; "{front}{attributes}")?;
-        let object = object(alloc, text.as_str())?;
-        if said(alloc, &object)?.as_str() != *wanted {
+    for (at, row) in rows.iter().enumerate() {
+        if !says_as(alloc, front, row)? {
             return Ok(at);
         }
     }
@@ -278,28 +288,56 @@ fn says(alloc: Global, dump: &Dump, wanted: &str) -> Result<bool, Fail> {
     Ok(dump.slot.as_str() == "x" && dump_text(alloc, dump)?.as_str() == wanted)
 }
 
+// A reader that was given the pieces of a text.
+fn fed(alloc: Global, pieces: &[&[u8]]) -> Result<DumpReader, SourceFault> {
+    let mut reader = DumpReader::new(alloc, "x")?;
+    feed_all(&mut reader, pieces)?;
+    Ok(reader)
+}
+
+fn feed_all(reader: &mut DumpReader, pieces: &[&[u8]]) -> Result<(), SourceFault> {
+    for piece in pieces {
+        reader.feed(piece)?;
+    }
+    Ok(())
+}
+
 // The dump of a text that is cut once.
 fn read_in_two(alloc: Global, first: &[u8], second: &[u8]) -> Result<Dump, SourceFault> {
-    let mut reader = DumpReader::new(alloc, "x")?;
-    reader.feed(first)?;
-    reader.feed(second)?;
+    let reader = fed(alloc, &[first, second])?;
     reader.finish()
+}
+
+fn feed_bytes(reader: &mut DumpReader, text: &[u8]) -> Result<(), SourceFault> {
+    for byte in text {
+        reader.feed(&[*byte])?;
+    }
+    Ok(())
+}
+
+fn fed_bytes(alloc: Global, text: &[u8]) -> Result<DumpReader, SourceFault> {
+    let mut reader = DumpReader::new(alloc, "x")?;
+    feed_bytes(&mut reader, text)?;
+    Ok(reader)
 }
 
 // The dump of a text that is given byte by byte.
 fn read_bytes(alloc: Global, text: &[u8]) -> Result<Dump, SourceFault> {
-    let mut reader = DumpReader::new(alloc, "x")?;
-    for byte in text {
-        reader.feed(&[*byte])?;
-    }
+    let reader = fed_bytes(alloc, text)?;
     reader.finish()
+}
+
+fn says_in_two(alloc: Global, text: &[u8], cut: usize, wanted: &str) -> Result<bool, Fail>
+    requires { cut ≤ length text.now }
+{
+    let dump = read_in_two(alloc, &text[..cut], &text[cut..])?;
+    says(alloc, &dump, wanted)
 }
 
 // Whether a text says so however it is cut.
 fn says_however_cut(alloc: Global, text: &[u8], wanted: &str) -> Result<bool, Fail> {
     for cut in 0..text.len() {
-        let dump = read_in_two(alloc, &text[..cut], &text[cut..])?;
-        if !says(alloc, &dump, wanted)? {
+        if !says_in_two(alloc, text, cut, wanted)? {
             return Ok(false);
         }
     }
@@ -310,9 +348,7 @@ fn says_however_cut(alloc: Global, text: &[u8], wanted: &str) -> Result<bool, Fa
 // Whether a text says so, cut in its middle.
 fn says_in_halves(alloc: Global, text: &str, wanted: &str) -> Result<bool, Fail> {
     let text = text.as_bytes();
-    let half = text.len() / 2;
-    let dump = read_in_two(alloc, &text[..half], &text[half..])?;
-    says(alloc, &dump, wanted)
+    says_in_two(alloc, text, text.len() / 2, wanted)
 }
 
 /// Dumps, and what they say.

@@ -264,11 +264,15 @@ fn agrees(alloc: Global, sources: &Sources, row: &Row) -> Result<bool, Fail> {
     Ok(told.as_str() == report && found.as_str() == wanted)
 }
 
+fn row_agrees(alloc: Global, row: &Row) -> Result<bool, Fail> {
+    let sources = all(alloc, row.0)?;
+    agrees(alloc, &sources, row)
+}
+
 // The number of the first row that comes out wrong, or how many there are.
 fn first_wrong(alloc: Global) -> Result<usize, Fail> {
     for (at, row) in rows().iter().enumerate() {
-        let sources = all(alloc, row.0)?;
-        if !agrees(alloc, &sources, row)? {
+        if !row_agrees(alloc, row)? {
             return Ok(at);
         }
     }
@@ -297,14 +301,18 @@ static ALIASES: [(&str, &str); 3] = [
 ];
 
 // Whether these addresses have their records for these reasons.
-fn have_reasons(alloc: Global, given: &[Given], wanted: &[(&str, &str)]) -> Result<bool, Fail> {
-    let sources = all(alloc, given)?;
+fn are_reasons(alloc: Global, sources: &Sources, wanted: &[(&str, &str)]) -> Result<bool, Fail> {
     for (address, why) in wanted {
-        if reasons(alloc, &sources, address)?.as_str() != *why {
+        if reasons(alloc, sources, address)?.as_str() != *why {
             return Ok(false);
         }
     }
     Ok(true)
+}
+
+fn have_reasons(alloc: Global, given: &[Given], wanted: &[(&str, &str)]) -> Result<bool, Fail> {
+    let sources = all(alloc, given)?;
+    are_reasons(alloc, &sources, wanted)
 }
 
 #[test]

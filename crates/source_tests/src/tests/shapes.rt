@@ -70,11 +70,23 @@ fn text(alloc: Global, text: &str) -> Result<Text, Fail>
     Ok(text)
 }
 
+fn place_of_code(alloc: Global, code: &str) -> Result<Option<Place>, Fail> {
+    let mut texts = Texts::new(alloc);
+    Ok(country_place(&mut texts, code.as_bytes())?)
+}
+
+fn country(alloc: Global, code: &str) -> Result<Place, Fail> {
+    match place_of_code(alloc, code)? {
+        Some(place) => Ok(place),
+        None => Err(Fail::from("no country")),
+    }
+}
+
 fn row(alloc: Global, slot: &str, range: Range, code: &str) -> Result<Delegation, Fail>
     ensures slot { IfOk result (λ row. row.slot ≡ slot.now) }
     ensures line { IfOk result (λ row. row.line ≡ 1) }
 {
-    let place = country_place(&mut Texts::new(alloc), code.as_bytes())?.ok_or("a country")?;
+    let place = country(alloc, code)?;
     if !is_country_alone(&place) {
         return Err(Fail::from("more than a country"));
     }
@@ -116,11 +128,16 @@ fn set_file(sources: &mut Sources, file: Stats) -> Result<(), Fail> {
     Ok(())
 }
 
+fn set_files(sources: &mut Sources, files: Vec<Stats>) -> Result<(), Fail> {
+    for file in files {
+        set_file(sources, file)?;
+    }
+    Ok(())
+}
+
 fn all_sources(alloc: Global) -> Result<Sources, Fail> {
     let mut sources = Sources::new(alloc);
-    for file in all_files(alloc)? {
-        set_file(&mut sources, file)?;
-    }
+    set_files(&mut sources, all_files(alloc)?)?;
     Ok(sources)
 }
 
@@ -134,18 +151,25 @@ fn plainly_spoken<'a>(files: &'a [Stats], at: Addr) -> &'a str {
     country_of(spoken_at(&plain, at))
 }
 
+fn is_said(files: &[Stats], sources: &Sources, number: u128, code: &str) -> bool {
+    let at = Addr(number);
+    country_of(sources.spoken_at(at)) == code && plainly_spoken(files, at) == code
+}
+
 // The number of the first address at which something else is said, or how many there are.
+fn first_wrong_in(files: &[Stats], sources: &Sources) -> usize {
+    for (at, (number, code)) in spoken().iter().enumerate() {
+        if !is_said(files, sources, *number, code) {
+            return at;
+        }
+    }
+    spoken().len()
+}
+
 fn first_wrong(alloc: Global) -> Result<usize, Fail> {
     let files = all_files(alloc)?;
     let sources = all_sources(alloc)?;
-    for (at, (number, code)) in spoken().iter().enumerate() {
-        let found = country_of(sources.spoken_at(Addr(*number)));
-        let plain = plainly_spoken(files.as_slice(), Addr(*number));
-        if found != *code || plain != *code {
-            return Ok(at);
-        }
-    }
-    Ok(spoken().len())
+    Ok(first_wrong_in(files.as_slice(), &sources))
 }
 
 #[test]

@@ -1,7 +1,7 @@
 //! Objects and feeds: who speaks at an address, by which entry, and the notes on both.
 use authority::{Authority, DropFault, IndexedFeed};
 use geo_addr::{List, Range, Text, parse_addr, parse_block};
-use geo_terms::{Dump, Entry, Feed, Reference, Said, note_text};
+use geo_terms::{Dump, Entry, Feed, Note, Reference, Said, note_text};
 use std::alloc::Global;
 use std::test::Fail;
 
@@ -94,34 +94,47 @@ fn dumps() -> &'static [Row<'static>] {
     &DUMPS
 }
 
+fn set_dumps(sources: &mut Authority, alloc: Global, rows: &[Row<'_>]) -> Result<(), Fail> {
+    for row in rows {
+        set_dump(sources, alloc, *row)?;
+    }
+    Ok(())
+}
+
 fn sources(alloc: Global) -> Result<Authority, Fail> {
     let mut sources = Authority::new(alloc);
-    for row in dumps() {
-        set_dump(&mut sources, alloc, *row)?;
-    }
+    set_dumps(&mut sources, alloc, dumps())?;
     set_feed(&mut sources, alloc, A, 9, "192.0.0.0/16")?;
     Ok(sources)
+}
+
+fn lines_at_one(alloc: Global, sources: &Authority, address: &str) -> Result<String, Fail> {
+    let at = parse_addr(address.as_bytes())?;
+    let speaker = reference_line(sources.speaker_at(at));
+    let entry = entry_line(sources.entry_at(at));
+    Ok(format!(in alloc; "{speaker} {entry};")?)
 }
 
 // The lines of the speaker and of the entry at each of several addresses.
 fn lines_at(alloc: Global, sources: &Authority, addresses: &[&str]) -> Result<String, Fail> {
     let mut text = String::new(alloc);
     for address in addresses {
-        let at = parse_addr(address.as_bytes())?;
-        let speaker = reference_line(sources.speaker_at(at));
-        let entry = entry_line(sources.entry_at(at));
-        let lines = format!(in alloc; "{speaker} {entry};")?;
-        text.push_str(lines.as_str())?;
+        text.push_str(lines_at_one(alloc, sources, address)?.as_str())?;
     }
     Ok(text)
 }
 
-fn notes_text(alloc: Global, sources: &Authority) -> Result<String, Fail> {
+fn notes_text(alloc: Global, notes: &[Note]) -> Result<String, Fail> {
     let mut text = String::new(alloc);
-    for note in &sources.notes()? {
+    for note in notes {
         text.push_str(note_text(alloc, note)?.as_str())?;
     }
     Ok(text)
+}
+
+fn noted_by(alloc: Global, sources: &Authority) -> Result<String, Fail> {
+    let notes = sources.notes()?;
+    notes_text(alloc, notes.as_slice())
 }
 
 const FIVE: &[&str] = &["192.0.3.1", "192.0.2.1", "10.0.0.1", "11.0.0.1", "12.0.0.1"];
@@ -133,15 +146,29 @@ fn the_speaker_then_its_feed(rt: HostRuntime) -> Result<(), Fail> {
     Ok(())
 }
 
+// Adds a feed that no object covers.
+fn set_uncovered(alloc: Global, sources: &mut Authority) -> Result<(), Fail> {
+    set_dump(sources, alloc, ("g", 7, 0, u128::MAX, 0, B))?;
+    set_feed(sources, alloc, B, 8, "12.0.0.0/8")?;
+    Ok(())
+}
+
+fn notes_without_b(alloc: Global, sources: &mut Authority) -> Result<String, Fail> {
+    sources.drop_feed(B)?;
+    noted_by(alloc, sources)
+}
+
 // The notes with a feed that no object covers, and without it.
+fn both_noted(alloc: Global, sources: &mut Authority) -> Result<(String, String), Fail> {
+    set_uncovered(alloc, sources)?;
+    let with = noted_by(alloc, sources)?;
+    let without = notes_without_b(alloc, sources)?;
+    Ok((with, without))
+}
+
 fn noted(alloc: Global) -> Result<(String, String), Fail> {
     let mut sources = sources(alloc)?;
-    set_dump(&mut sources, alloc, ("g", 7, 0, u128::MAX, 0, B))?;
-    set_feed(&mut sources, alloc, B, 8, "12.0.0.0/8")?;
-    let with = notes_text(alloc, &sources)?;
-    sources.drop_feed(B)?;
-    let without = notes_text(alloc, &sources)?;
-    Ok((with, without))
+    both_noted(alloc, &mut sources)
 }
 
 #[test]
@@ -167,7 +194,7 @@ static BLOCKS: [(&str, &str, bool); 4] = [
     ("::/0", "1 0;", true),
 ];
 
-fn entry_of_block(alloc: Global, block: &str) -> Result<(String, bool), Fail> {
+fn sources_of_block(alloc: Global, block: &str) -> Result<Authority, Fail> {
     let mut sources = Authority::new(alloc);
     set_dump(
         &mut sources,
@@ -175,9 +202,18 @@ fn entry_of_block(alloc: Global, block: &str) -> Result<(String, bool), Fail> {
         ("a", 1, 0xC000_0200, 0xC000_02FF, 0, A),
     )?;
     set_feed(&mut sources, alloc, A, 2, block)?;
-    let lines = lines_at(alloc, &sources, &["192.0.2.1"])?;
+    Ok(sources)
+}
+
+fn lines_and_note(alloc: Global, sources: &Authority) -> Result<(String, bool), Fail> {
     let is_noted = !sources.notes()?.is_empty();
+    let lines = lines_at(alloc, sources, &["192.0.2.1"])?;
     Ok((lines, is_noted))
+}
+
+fn entry_of_block(alloc: Global, block: &str) -> Result<(String, bool), Fail> {
+    let sources = sources_of_block(alloc, block)?;
+    lines_and_note(alloc, &sources)
 }
 
 #[test]
@@ -218,26 +254,34 @@ fn shape(alloc: Global, sources: &Authority) -> Result<String, Fail> {
     Ok(format!(in alloc; "{dumps} {feeds} {has} {by_a} {by_b} {lines}")?)
 }
 
-// What is said of each act and of the shape before and after them.
-fn changed(alloc: Global) -> Result<String, Fail> {
-    let mut sources = sources(alloc)?;
+// What is said of each act.
+fn acts(alloc: Global, sources: &mut Authority) -> Result<String, Fail> {
+    let replaced = set_feed(sources, alloc, A, 10, "192.0.3.0/24")?;
+    let first = drop_dump(sources, "b");
+    let again = drop_dump(sources, "b");
+    let other = drop_feed(sources, B);
+    Ok(format!(in alloc; "{replaced} {first} {again} {other}")?)
+}
+
+fn before_and_acts(alloc: Global, sources: &mut Authority) -> Result<(Authority, String), Fail> {
     let before = sources.snapshot()?;
-    let replaced = set_feed(&mut sources, alloc, A, 10, "192.0.3.0/24")?;
-    let first = drop_dump(&mut sources, "b");
-    let again = drop_dump(&mut sources, "b");
-    let other = drop_feed(&mut sources, B);
+    let acts = acts(alloc, sources)?;
+    Ok((before, acts))
+}
+
+// What is said of each act, and the shape after and before them.
+fn changed(alloc: Global) -> Result<(String, String, String), Fail> {
+    let mut sources = sources(alloc)?;
+    let (before, acts) = before_and_acts(alloc, &mut sources)?;
     let after = shape(alloc, &sources)?;
-    let before = shape(alloc, &before)?;
-    let (after, before) = (after.as_str(), before.as_str());
-    Ok(format!(in alloc; "{replaced} {first} {again} {other}\n{after}\n{before}")?)
+    Ok((acts, after, shape(alloc, &before)?))
 }
 
 #[test]
 fn set_drop_and_share(rt: HostRuntime) -> Result<(), Fail> {
-    let told = changed(rt.alloc())?;
-    assert_eq!(rt;
-        told.as_str(),
-        "true dropped absent absent\n5 1 true 1 0 1 0;1 10;\n6 1 true 1 2 2 0;1 9;"
-    );
+    let (acts, after, before) = changed(rt.alloc())?;
+    assert!(rt; acts.as_str() == "true dropped absent absent");
+    assert!(rt; after.as_str() == "5 1 true 1 0 1 0;1 10;");
+    assert!(rt; before.as_str() == "6 1 true 1 2 2 0;1 9;");
     Ok(())
 }

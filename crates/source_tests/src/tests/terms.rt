@@ -85,26 +85,39 @@ fn country_at(places: &Places, number: u32) -> &str {
     }
 }
 
-// The numbers of countries one after another, and the countries of the numbers 2, 0 and 3.
-fn numbers(alloc: Global, countries: &[&str]) -> Result<String, Fail> {
+// The numbers of countries one after another.
+fn numbered(alloc: Global, places: &mut Places, countries: &[&str]) -> Result<String, Fail> {
     let mut texts = Texts::new(alloc);
-    let mut places = Places::new(alloc);
     let mut text = String::new(alloc);
     for country in countries {
-        let number = number(&mut texts, &mut places, country.as_bytes())?;
+        let number = number(&mut texts, places, country.as_bytes())?;
         text.push_str(format!(in alloc; "{number} ")?.as_str())?;
-    }
-    for number in [2, 0, 3] {
-        text.push_str(country_at(&places, number))?;
-        text.push_str(";")?;
     }
     Ok(text)
 }
 
+// The countries of these numbers.
+fn countries_of(alloc: Global, places: &Places, numbers: [u32; 3]) -> Result<String, Fail> {
+    let mut text = String::new(alloc);
+    for number in numbers {
+        text.push_str(country_at(places, number))?;
+        text.push(';')?;
+    }
+    Ok(text)
+}
+
+// The numbers of countries one after another, and the countries of the numbers 2, 0 and 3.
+fn numbers(alloc: Global, countries: &[&str]) -> Result<(String, String), Fail> {
+    let mut places = Places::new(alloc);
+    let numbers = numbered(alloc, &mut places, countries)?;
+    let back = countries_of(alloc, &places, [2, 0, 3])?;
+    Ok((numbers, back))
+}
+
 #[test]
 fn equal_places_have_one_number(rt: HostRuntime) -> Result<(), Fail> {
-    let found = numbers(rt.alloc(), &["de", "AT", "DE"])?;
-    assert!(rt; found.as_str() == "1 2 1 AT;;;");
+    let (numbers, back) = numbers(rt.alloc(), &["de", "AT", "DE"])?;
+    assert!(rt; numbers.as_str() == "1 2 1 " && back.as_str() == "AT;;;");
     Ok(())
 }
 
@@ -243,6 +256,37 @@ fn firsts(alloc: Global, ranges: &str, addresses: &str) -> Result<String, Fail> 
 fn first_statements_at_addresses(rt: HostRuntime) -> Result<(), Fail> {
     for (ranges, addresses, wanted) in &FIRSTS {
         assert!(rt; firsts(rt.alloc(), ranges, addresses)?.as_str() == *wanted);
+    }
+    Ok(())
+}
+
+// Ranges, and the points at which their grounds begin or have ended.
+const CUTS: [(&str, &str); 3] = [
+    (
+        "1.0.0.0/16 1.0.1.0/24 1.0.2.0/24",
+        "1.0.0.0 1.0.1.0 1.0.2.0 1.0.3.0 1.1.0.0",
+    ),
+    (
+        "1.0.0.0-1.0.0.9 1.0.0.5-1.0.0.20 1.0.0.5-1.0.0.9",
+        "1.0.0.0 1.0.0.5 1.0.0.10 1.0.0.21",
+    ),
+    ("ffff::/16 1.0.0.0/32", "1.0.0.0 1.0.0.1 ffff::"),
+];
+
+fn cuts_are(alloc: Global, ranges: &str, points: &str) -> Result<bool, Fail> {
+    let rows = rows_of(alloc, ranges)?;
+    let found = index_of(alloc, rows.as_slice())?.cut_points(alloc)?;
+    let mut wanted = Vec::new(alloc);
+    for point in points.split(' ') {
+        wanted.push(parse_addr(point.as_bytes())?.0)?;
+    }
+    Ok(found == wanted)
+}
+
+#[test]
+fn cut_points_of_statements(rt: HostRuntime) -> Result<(), Fail> {
+    for (ranges, points) in &CUTS {
+        assert!(rt; cuts_are(rt.alloc(), ranges, points)?);
     }
     Ok(())
 }
