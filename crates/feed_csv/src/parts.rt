@@ -14,7 +14,7 @@ use std::alloc::Global;
 use std::marker::Sync;
 use std::thread::Threads;
 
-/// The least bytes of a part before others: a shorter feed is one part.
+/// The least bytes of a part before others: a feed of at most so many is one part.
 pub const FEED_PART: usize = 262_144;
 
 /// Work that reads the lines of a part of a feed, which has `size` bytes.
@@ -43,6 +43,9 @@ impl<'a> Work<LinePart<'a>, Found> for PartReading {
 }
 
 /// Reads a geofeed as `read_feed` does, by parts of it side by side.
+///
+/// Each part but the last has at least `FEED_PART` bytes. Whether too many lines pass the line
+/// rules is asked once all are read.
 pub fn read_feed_by_parts<R: Threads + Sync, G: Gate>(
     forks: &Forks<R, G>,
     url: &str,

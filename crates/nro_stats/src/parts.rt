@@ -46,6 +46,9 @@ impl<'a, 'b> Work<LinePart<'b>, Found> for PartReading<'a> {
 }
 
 /// Reads a statistics file as `read_stats` does, by parts of it side by side.
+///
+/// A file of at most 262,144 bytes is read on the calling thread. Whether a longer one has too many
+/// delegations is asked once all are read.
 pub fn read_stats_by_parts<R: Threads + Sync, G: Gate>(
     forks: &Forks<R, G>,
     slot: &str,
