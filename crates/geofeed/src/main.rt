@@ -23,6 +23,7 @@ use crate::sink::StdSink;
 use crate::told::{OUT_OF_MEMORY, say, tell};
 use geo_outside::{OpenGate, Sink, Steps};
 use geofeed_cmd::{Status, run};
+use std::alloc::{AllocError, Global};
 use std::env::Env;
 use std::fs::{File, Files};
 use std::io::{Eprint, ErrorKind, Print};
@@ -33,7 +34,7 @@ use std::thread::Threads;
 use std::{env, io};
 
 /// What `--version` prints: the program, and the toolchain that it is proved and built with.
-const VERSION: &str = "geofeed 0.1.0 (rattle-kit-13b logic dac8208d650f15bf)";
+const VERSION: &str = "geofeed 0.1.0 (rattle-kit-13f logic dac8208d650f15bf)";
 
 const HELP: &str = "\
 geofeed compiles the location of IP addresses into MaxMind DB files.
@@ -54,7 +55,11 @@ The exit status is 0 where all was done. Each other one has a line on standard e
 docs/stops.md and geofeed(1) have them all.
 ";
 
+/// A little less than the 32 MiB up to which the C library learns from a block that is let go.
+const LARGEST_KEPT: usize = 33_488_896;
+
 fn main(rt: HostRuntime) -> ExitCode {
+    keep_memory(rt.alloc());
     let status = match words_of(&rt) {
         Ok(words) => answer::<HostRuntime, Brand>(&rt, words.as_slice(), Blank::new(1)),
         Err(why) if why.kind() == ErrorKind::OutOfMemory => {
@@ -67,6 +72,12 @@ fn main(rt: HostRuntime) -> ExitCode {
         }
     };
     ExitCode::from(status as u8)
+}
+
+// Takes a large block and lets it go unused: from then on the C library gives blocks of that size
+// from memory that the program let go before, where it would ask the system for new pages.
+fn keep_memory(alloc: Global) {
+    let _block: Result<Vec<u8>, AllocError> = Vec::with_capacity(alloc, LARGEST_KEPT);
 }
 
 // The words after the program's name.
