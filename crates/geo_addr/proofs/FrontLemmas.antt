@@ -19,17 +19,6 @@ use Rattle.geo_addr.proofs.PartLemmas.{not_separator}
 use Rattle.geo_addr.proofs.PrefixLemmas.{cut_first-at, cut_first-free}
 use Rattle.geo_addr.proofs.V4Lemmas.{AreParts, four_octets}
 
--- the digit in front of a text that has one
-pub first_digit : (byte value : ℕ) (behind : List ℕ) → is_ascii_digit byte ≡ true
-    → value ≡ digit_value byte → value ≤ 9 → BeginsWithDigit (byte ∷ behind) value behind
-first_digit byte value behind is value_is small = record {
-  byte = byte;
-  joined = refl;
-  is_digit = is;
-  value_is = value_is;
-  small = small;
-}
-
 -- one digit is an octet
 pub one_digit : (text : List ℕ) (one : ℕ) (behind : List ℕ) → BeginsWithDigit text one behind
     → BeginsWithOctet text one behind

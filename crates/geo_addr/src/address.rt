@@ -16,7 +16,7 @@ pub fn is_six(text: &[u8]) -> bool
 
 /// Whether a text is read as IPv6, and the number of the address that it spells.
 ///
-/// IPv4 is tried first, since what spells such an address has no colon to look for.
+/// IPv4 is tried first, since what spells such an address is read in one pass.
 pub(crate) fn read_number(text: &[u8]) -> (bool, Result<u128, AddrFault>)
     ensures family { result.0 ≡ is_six text.now }
     ensures number { result.1 ≡ number_in (is_six text.now) text.now }
@@ -27,7 +27,7 @@ pub(crate) fn read_number(text: &[u8]) -> (bool, Result<u128, AddrFault>)
     }
 }
 
-/// The same of a text that is not plainly IPv4: its family is asked for first.
+/// The same of a text that is not plainly IPv4: a colon is looked for first.
 pub(crate) fn read_either(text: &[u8]) -> (bool, Result<u128, AddrFault>)
     ensures family { result.0 ≡ is_six text.now }
     ensures number { result.1 ≡ number_in (is_six text.now) text.now }

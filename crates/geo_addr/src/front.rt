@@ -6,7 +6,7 @@ use crate::digits::digit;
 
 /// The IPv4 address that stands in front of a text, and what stands behind it.
 ///
-/// It is `None` for many texts that are no such address, and for none that begins with one.
+/// `None` tells nothing of the text: whether it is an address, or why not, is read by its parts.
 pub(crate) fn front_address(text: &[u8]) -> Option<(u32, &[u8])>
     ensures { IfSome result (λ read. BeginsWithAddress text.now read.0 read.1.now) }
 {
