@@ -6,6 +6,7 @@ pub mod LineLemmas
 pub mod PrefixLemmas
 mod DottedTexts
 mod FamilyLemmas
+mod FrontLemmas
 mod GroupLemmas
 mod GroupTexts
 mod PartLemmas

@@ -8,7 +8,7 @@ use Rattle.geo_addr.specs.AddressTexts.{is_six, number_in}
 use Rattle.geo_addr.specs.Prefixes.{address_length, block_in, block_of, cut_first, length_in}
 
 -- a text without the separator is not cut
-cut_first-free : (separator : ℕ) (text : List ℕ) → All (λ b. b ≢ separator) text
+pub cut_first-free : (separator : ℕ) (text : List ℕ) → All (λ b. b ≢ separator) text
     → cut_first separator text ≡ (text, None)
 cut_first-free separator [] free = refl
 cut_first-free separator (b ∷ bs) free =

@@ -3,6 +3,7 @@ ghost use Rattle.geo_addr.specs.AddressTexts.{address_in, is_six, number_in};
 
 use crate::addr::Addr;
 use crate::fault::AddrFault;
+use crate::front::front_address;
 use crate::v4::read_v4;
 use crate::v6::read_v6;
 
@@ -15,19 +16,26 @@ pub fn is_six(text: &[u8]) -> bool
 
 /// Whether a text is read as IPv6, and the number of the address that it spells.
 ///
-/// IPv4 is tried first, since what spells such an address has no colon to look for.
+/// IPv4 is tried first, since what spells such an address is read in one pass.
 pub(crate) fn read_number(text: &[u8]) -> (bool, Result<u128, AddrFault>)
     ensures family { result.0 ≡ is_six text.now }
     ensures number { result.1 ≡ number_in (is_six text.now) text.now }
 {
-    let fault = match read_v4(text) {
-        Ok(number) => return (false, Ok(number)),
-        Err(fault) => fault,
-    };
+    match front_address(text) {
+        Some((number, [])) => (false, Ok(u128::from(number))),
+        _ => read_either(text),
+    }
+}
+
+/// The same of a text that is not plainly IPv4: a colon is looked for first.
+pub(crate) fn read_either(text: &[u8]) -> (bool, Result<u128, AddrFault>)
+    ensures family { result.0 ≡ is_six text.now }
+    ensures number { result.1 ≡ number_in (is_six text.now) text.now }
+{
     if is_six(text) {
         (true, read_v6(text))
     } else {
-        (false, Err(fault))
+        (false, read_v4(text))
     }
 }
 

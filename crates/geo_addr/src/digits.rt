@@ -34,8 +34,8 @@ pub(crate) fn short_decimal(text: &[u8]) -> Option<u32>
     }
 }
 
-// The number that a digit writes.
-fn digit(byte: u8) -> Option<u32>
+/// The number that a digit writes.
+pub(crate) fn digit(byte: u8) -> Option<u32>
     ensures { MatchOption result
         (is_ascii_digit byte ≡ false)
         (λ value. (is_ascii_digit byte ≡ true) × (value ≡ digit_value byte) × (value ≤ 9)) }

@@ -8,6 +8,7 @@ mod block;
 mod bytes;
 mod digits;
 mod fault;
+mod front;
 mod line;
 mod list;
 mod memory;

@@ -1,12 +1,14 @@
-ghost use Rattle.std.specs.Prelude.{◌≡◌, ◌≤◌};
+ghost use Rattle.std.specs.Prelude.{◌≡◌, ◌≤◌, ◌^◌, ◌%◌, ◌-◌, ◌==◌};
 ghost use Rattle.std.specs.Option.{ForSome};
 ghost use Rattle.geo_addr.specs.Prefixes.{address_length, aligned_block, block_in, block_of};
+ghost use Rattle.geo_addr.specs.Fronts.{v4_length};
 ghost use Rattle.geo_addr.specs.Prefixes.{length_in};
 
-use crate::address::read_number;
+use crate::address::read_either;
 use crate::block::{Block, is_aligned};
 use crate::digits::short_decimal;
 use crate::fault::{AddrFault, BlockFault};
+use crate::front::front_address;
 use crate::line::cut_near;
 
 /// The block that a prefix text spells: an address, a slash and a length, or an address alone.
@@ -17,11 +19,54 @@ use crate::line::cut_near;
 pub fn parse_block(text: &[u8]) -> Result<Block, BlockFault>
     ensures { result ≡ block_in text.now }
 {
+    let Some((number, behind)) = front_address(text) else {
+        return block_of_sides(text);
+    };
+    let Some(length) = v4_length(behind) else {
+        return block_of_sides(text);
+    };
+    if !is_v4_aligned(number, length) {
+        return block_of_sides(text);
+    }
+    Ok(Block {
+        first: u128::from(number),
+        len: 96 + length,
+    })
+}
+
+/// The length in bits of an IPv4 address that is said behind it, the whole one where nothing is.
+fn v4_length(behind: &[u8]) -> Option<u8>
+    ensures value { result ≡ v4_length behind.now }
+    ensures fits { ForSome result (λ bits. bits ≤ 32) }
+{
+    match behind {
+        [] => Some(32),
+        [b'/', length @ ..] => length_of(false, length),
+        _ => None,
+    }
+}
+
+/// The block of a text that is cut at its first slash: what is not plainly an IPv4 prefix.
+fn block_of_sides(text: &[u8]) -> Result<Block, BlockFault>
+    ensures { result ≡ block_in text.now }
+{
     let (left, after) = cut_near(text, b'/');
-    let (six, first) = read_number(left);
+    let (six, first) = read_either(left);
     match after {
         None => block_of(six, first, Some(address_length(six))),
         Some(right) => block_of(six, first, length_of(six, right)),
+    }
+}
+
+/// Whether a block of this length in bits of an IPv4 address may begin at this address.
+fn is_v4_aligned(number: u32, length: u8) -> bool
+    requires { length ≤ 32 }
+    ensures { result ≡ (number % 2 ^ (32 - length) == 0) }
+{
+    if length == 0 {
+        number == 0
+    } else {
+        number % (1u32 << (32 - length)) == 0
     }
 }
 

@@ -5,7 +5,7 @@ ghost use Rattle.geo_addr.specs.Ipv6Texts.{is_group};
 ghost use Rattle.geo_addr.specs.Sides.{Adds, IsSmall, ReadsMembers, ReadsSide, no_groups};
 
 use crate::fault::AddrFault;
-use crate::line::cut_at;
+use crate::line::cut_near;
 use crate::v4::read_v4;
 
 /// The groups of a list as they are read: how many, counted up to nine,
@@ -76,7 +76,7 @@ pub(crate) fn read_side(text: &[u8], dots: bool) -> Result<Side, AddrFault>
     }
     let mut rest = text;
     'members: loop {
-        let (part, after) = cut_at(rest, b':');
+        let (part, after) = cut_near(rest, b':');
         let Some(next) = after else {
             return read_last(side, part, dots);
         };
