@@ -1,27 +1,22 @@
--- Lemmas on one step of painting: a block that the first part does not have
--- whole is painted by its halves.
+-- Lemmas on one step of painting: a block that the first part cuts
+-- is painted by its halves.
 use Rattle.std.proofs.Common.{◌≡◌, inl, inr, IfOk, Result, Ok, Err, ℕ, zero, suc, ◌+◌, ◌-◌, ◌/◌}
-use Rattle.std.proofs.Common.{◌^◌, ◌<◌, ◌≤◌, nat_eq, Bool, true, false, IsTrue, List, [], ◌∷◌, drop}
-use Rattle.std.proofs.Common.{slice_get, Some, refl, sym, ap, subst, arith}
-use Rattle.std.proofs.lemmas.Bool.{cases_lt, false≢true}
-use Rattle.std.proofs.lemmas.Option.{slice_get_within, get_or_from_slice_get}
+use Rattle.std.proofs.Common.{◌^◌, ◌<◌, ◌≤◌, nat_eq, Bool, true, false, List, [], ◌∷◌, drop}
+use Rattle.std.proofs.Common.{refl, sym, ap, subst, arith}
+use Rattle.std.proofs.lemmas.Bool.{cases_lt}
 use Rattle.std.proofs.Math.Nat.{two-pow-succ}
 use Rattle.geo_addr.proofs.BitsLemmas.{pow-positive}
 use Rattle.trie_core.specs.declared.node.Rec.{Rec}
 use Rattle.trie_core.specs.declared.node.Pair.{Pair}
 use Rattle.trie_core.specs.declared.paint.Part.{Part}
-use Rattle.trie_core.specs.Tree.{Tree, look, join}
-use Rattle.trie_core.specs.Store.{meaning, IsOf, IsSound, NeedsNew}
-use Rattle.trie_core.specs.Paint.{IsPainted, HoldsPainted, IsFront, IsBack, AllTouch, paint_cost}
+use Rattle.trie_core.specs.Tree.{Tree, height, look, join}
+use Rattle.trie_core.specs.Store.{meaning, IsOf, IsSound, NeedsNew, GrowsBy, IsKept, AddedUnder}
+use Rattle.trie_core.specs.Paint.{IsPainted, HoldsPainted, IsCut, AreLeft, IsSettled, paint_cost}
 use Rattle.trie_core.proofs.CostLemmas.{paint_cost_cut}
+use Rattle.trie_core.proofs.PartLemmas.{first_and_rest}
 use Rattle.trie_core.proofs.PaintLemmas.{IsPainted-join, HoldsPainted-left, HoldsPainted-right}
-use Rattle.trie_core.proofs.PaintLemmas.{no_painted_node}
-
--- a list with a first element
-pub first_and_rest : {X : Type 0} (xs : List X) (x : X) → Some x ≡ slice_get xs 0
-    → xs ≡ x ∷ drop 1 xs
-first_and_rest [] x at = absurd (cc)
-first_and_rest (y ∷ xs) x at = ap (λ z. z ∷ xs) (cc)
+use Rattle.trie_core.proofs.PaintLemmas.{no_painted_node, IsOf-settled, IsPainted-settled}
+use Rattle.trie_core.proofs.StoreLemmas.{GrowsBy-same, IsKept-same, AddedUnder-same}
 
 -- a block with a middle has two halves
 pub record AreHalves (first last bits middle : ℕ) : Type 0 where
@@ -45,114 +40,133 @@ AreHalves-of_longer zero first last block longer = absurd (omega arith)
 AreHalves-of_longer (suc n) first last block longer =
     AreHalves-from_middle n first last (first + (last - first) / 2) block refl
 
-module _ (first last bits : ℕ) (parts : List Part) (p : Part) (block : last + 1 ≡ first + 2 ^ bits)
-    (touch : AllTouch first last parts)
-    (head : Some p ≡ slice_get parts 0)
-    (other : (p.range.first ≤ first) × (last ≤ p.range.last) → IsTrue false) where
-  -- the first part has an address of the block
-  touches : (p.range.first ≤ last) × (first ≤ p.range.last)
-  touches =
-      let at : slice_get parts 0 ≡ Some p = sym head in
-      subst (λ (q : Part). (q.range.first ≤ last) × (first ≤ q.range.last))
-      (get_or_from_slice_get parts 0 p p at) (touch 0 p (slice_get_within parts 0 p at))
-
-  not_whole : (p.range.first ≤ first) × (last ≤ p.range.last) → ⊥
-  not_whole whole = absurd (false≢true (other whole))
-
-  -- so the block has more addresses than one
+module _ (first last bits : ℕ) (parts : List Part) (block : last + 1 ≡ first + 2 ^ bits)
+    (cut : IsCut first last parts) where
+  -- a block that is cut has more addresses than one
   longer : first < last
   longer =
-      let t = touches in
       elim (cases_lt first last) [
         | inl less ↦ less
-        | inr no-more ↦ absurd (not_whole (omega (arith, t.0), omega (arith, t.1)))
+        | inr no-more ↦ absurd (cut.other (omega (arith, cut.begins), omega (arith, cut.ends)))
       ]
 
   -- and halves
   pub are_halves : AreHalves first last bits (first + (last - first) / 2)
   are_halves = AreHalves-of_longer bits first last block longer
 
-  module _ (front back : List Part) (is-front : IsFront parts front (first + (last - first) / 2))
-      (is-back : IsBack parts back (first + (last - first) / 2)) where
-    middle : ℕ
-    middle = first + (last - first) / 2
+  -- the halves and their node cost no more than the block
+  pub cost_of_cut : suc (paint_cost (bits - 1) first parts
+      + paint_cost (bits - 1) (first + (last - first) / 2 + 1) parts) ≤ paint_cost bits first parts
+  cost_of_cut =
+      let h = are_halves in
+      let p : Part = cut.part in
+      let whole : parts ≡ p ∷ drop 1 parts = first_and_rest parts p cut.first_is in
+      let n : ℕ = bits - 1 in
+      let power : 2 ^ suc n ≡ 2 ^ n + 2 ^ n = two-pow-succ n in
+      let begins : p.range.first < first + 2 ^ suc n =
+      omega (arith, h.lower, h.upper, cut.begins) in
+      let ends : p.range.first ≤ first → p.range.last + 1 < first + 2 ^ suc n = λ begins.
+      elim (cases_lt p.range.last last) [
+        | inl less ↦ omega (arith, h.lower, h.upper)
+        | inr past ↦ absurd (cut.other (begins, past))
+      ] in
+      let cost : suc
+      (paint_cost n first (p ∷ drop 1 parts) + paint_cost n (first + 2 ^ n) (p ∷ drop 1 parts))
+      ≤ paint_cost (suc n) first (p ∷ drop 1 parts) =
+      paint_cost_cut n first p (drop 1 parts) cut.ends begins ends in
+      let here : suc (paint_cost n first parts + paint_cost n (first + 2 ^ n) parts)
+      ≤ paint_cost (suc n) first parts =
+      subst (λ ps. suc (paint_cost n first ps + paint_cost n (first + 2 ^ n) ps)
+      ≤ paint_cost (suc n) first ps) (sym whole) cost in
+      let upper : paint_cost n (first + (last - first) / 2 + 1) parts
+      ≡ paint_cost n (first + 2 ^ n) parts = ap (λ x. paint_cost n x parts) h.lower in
+      let all : paint_cost (suc n) first parts ≡ paint_cost bits first parts =
+      ap (λ b. paint_cost b first parts) h.some in
+      omega (arith, here, upper, all)
 
-    -- the halves and their node cost no more than the block
-    pub cost_of_halves : suc (paint_cost (bits - 1) first front
+  -- a store that has the block painted has its lower half painted
+  pub left_held : (t l r : Tree ℕ) → ((w : List Bool) → look t (false ∷ w) ≡ look l w)
+      → ((w : List Bool) → look t (true ∷ w) ≡ look r w)
+      → (pairs : List Pair) → IsSound pairs → HoldsPainted pairs t bits first parts
+      → HoldsPainted pairs l (bits - 1) first parts
+  left_held t l r left-look right-look pairs sound held =
+      let h = are_halves in
+      HoldsPainted-left (bits - 1) first (first + (last - first) / 2) parts parts parts h.lower
+      (λ a low. refl) (λ a high. refl) t l r left-look right-look pairs sound
+      (subst (λ b. HoldsPainted pairs t b first parts) (sym h.some) held)
+
+  module _ (back : List Part) (are-left : AreLeft parts back (first + (last - first) / 2)) where
+    -- the parts that are left cost no more
+    pub cost_of_halves : suc (paint_cost (bits - 1) first parts
         + paint_cost (bits - 1) (first + (last - first) / 2 + 1) back) ≤ paint_cost bits first parts
     cost_of_halves =
-        let h = are_halves in
-        let t = touches in
-        let whole : parts ≡ p ∷ drop 1 parts = first_and_rest parts p head in
-        let n : ℕ = bits - 1 in
-        let power : 2 ^ suc n ≡ 2 ^ n + 2 ^ n = two-pow-succ n in
-        let ends : p.range.first ≤ first → p.range.last + 1 < first + 2 ^ suc n = λ begins.
-        elim (cases_lt p.range.last last) [
-          | inl less ↦ omega (arith, h.lower, h.upper)
-          | inr past ↦ absurd (not_whole (begins, past))
-        ] in
-        let cut : suc
-        (paint_cost n first (p ∷ drop 1 parts) + paint_cost n (first + 2 ^ n) (p ∷ drop 1 parts))
-        ≤ paint_cost (suc n) first (p ∷ drop 1 parts) =
-        paint_cost_cut n first p (drop 1 parts) t.1 (omega (arith, h.lower, h.upper, t.0)) ends in
-        let here : suc (paint_cost n first parts + paint_cost n (first + 2 ^ n) parts)
-        ≤ paint_cost (suc n) first parts =
-        subst (λ ps. suc (paint_cost n first ps + paint_cost n (first + 2 ^ n) ps)
-        ≤ paint_cost (suc n) first ps) (sym whole) cut in
-        let upper : paint_cost n (first + (last - first) / 2 + 1) parts
-        ≡ paint_cost n (first + 2 ^ n) parts = ap (λ x. paint_cost n x parts) h.lower in
-        let all : paint_cost (suc n) first parts ≡ paint_cost bits first parts =
-        ap (λ b. paint_cost b first parts) h.some in
-        omega (
-          arith,
-          is-front.cheaper n first,
-          is-back.cheaper n (first + (last - first) / 2 + 1),
-          here,
-          upper,
-          all,
-        )
+        omega (arith, cost_of_cut, are-left.cheaper (bits - 1) (first + (last - first) / 2 + 1))
 
     module _ (t l r : Tree ℕ) (left-look : (w : List Bool) → look t (false ∷ w) ≡ look l w)
         (right-look : (w : List Bool) → look t (true ∷ w) ≡ look r w) where
       -- the block is painted where its halves are
-      pub painted_of_halves : (l' r' : Tree ℕ) → IsPainted l l' (bits - 1) first front
+      pub painted_of_halves : (l' r' : Tree ℕ) → IsPainted l l' (bits - 1) first parts
           → IsPainted r r' (bits - 1) (first + (last - first) / 2 + 1) back
           → IsPainted t (join nat_eq l' r') bits first parts
       painted_of_halves l' r' left right =
           let h = are_halves in
           subst (λ b. IsPainted t (join nat_eq l' r') b first parts) h.some
-          (IsPainted-join (bits - 1) first (first + (last - first) / 2) parts front back h.lower
-          is-front.same is-back.same t l r left-look right-look l' r' left right)
+          (IsPainted-join (bits - 1) first (first + (last - first) / 2) parts parts back h.lower
+          (λ a low. refl) are-left.same t l r left-look right-look l' r' left right)
 
       module _ (pairs : List Pair) (sound : IsSound pairs) where
-        -- a store that has the block painted has the halves painted
-        pub left_held : HoldsPainted pairs t bits first parts
-            → HoldsPainted pairs l (bits - 1) first front
-        left_held held =
-            let h = are_halves in
-            HoldsPainted-left (bits - 1) first (first + (last - first) / 2) parts front back h.lower
-            is-front.same is-back.same t l r left-look right-look pairs sound
-            (subst (λ b. HoldsPainted pairs t b first parts) (sym h.some) held)
-
+        -- and its upper half
         pub right_held : HoldsPainted pairs t bits first parts
             → HoldsPainted pairs r (bits - 1) (first + (last - first) / 2 + 1) back
         right_held held =
             let h = are_halves in
-            HoldsPainted-right (bits - 1) first (first + (last - first) / 2) parts front back
-            h.lower is-front.same is-back.same t l r left-look right-look pairs sound
+            HoldsPainted-right (bits - 1) first (first + (last - first) / 2) parts parts back
+            h.lower (λ a low. refl) are-left.same t l r left-look right-look pairs sound
             (subst (λ b. HoldsPainted pairs t b first parts) (sym h.some) held)
 
         -- and a store that needs their node does not have it
         pub node_missing : (left right : Rec) → IsOf pairs left → IsOf pairs right
-            → IsPainted l (meaning pairs left) (bits - 1) first front
+            → IsPainted l (meaning pairs left) (bits - 1) first parts
             → IsPainted r (meaning pairs right) (bits - 1) (first + (last - first) / 2 + 1) back
             → NeedsNew pairs left right → HoldsPainted pairs t bits first parts → ⊥
         node_missing left right left-of right-of left-painted right-painted needed held =
             let h = are_halves in
-            no_painted_node (bits - 1) first (first + (last - first) / 2) parts front back h.lower
-            is-front.same is-back.same t l r left-look right-look pairs sound left right left-of
+            no_painted_node (bits - 1) first (first + (last - first) / 2) parts parts back h.lower
+            (λ a low. refl) are-left.same t l r left-look right-look pairs sound left right left-of
             right-of left-painted right-painted needed
             (subst (λ b. HoldsPainted pairs t b first parts) (sym h.some) held)
+
+-- what holds once a block is painted, by itself or by its halves
+pub record IsDone (was now : List Pair) (rec made : Rec) (bits first last : ℕ)
+    (parts rest : List Part) (before after : ℕ) : Type 0 where
+  pub of : IsOf now made
+  pub painted : IsPainted (meaning was rec) (meaning now made) bits first parts
+  pub left : AreLeft parts rest last
+  pub ticks : before ≤ after
+  pub cost : after ≤ before + paint_cost bits first parts
+  pub grows : GrowsBy was now (after - before)
+  pub kept : IsKept was now
+  pub under : AddedUnder was now made
+  pub sound : IsSound now
+
+-- a block that no part cuts takes no node and no step
+pub IsDone-settled : (pairs : List Pair) (rec made : Rec) (bits first last : ℕ)
+    (parts left : List Part) (steps : ℕ) → IsSound pairs → IsOf pairs rec
+    → height (meaning pairs rec) ≤ bits → last + 1 ≡ first + 2 ^ bits
+    → IsSettled first last parts rec made → AreLeft parts left last
+    → IsDone pairs pairs rec made bits first last parts left steps steps
+IsDone-settled pairs rec made bits first last parts left steps sound of low block settled are-left =
+    record {
+      of = IsOf-settled pairs rec made first last parts of settled;
+      painted = IsPainted-settled pairs rec made bits first last parts low block settled;
+      left = are-left;
+      ticks = omega arith;
+      cost = omega arith;
+      grows = GrowsBy-same pairs (steps - steps);
+      kept = IsKept-same pairs;
+      under = AddedUnder-same pairs made;
+      sound = sound;
+    }
 
 -- two facts of one Ok
 pub IfOk-both : {T E : Type 0} (r : Result T E) (P Q : T → Type 0) → IfOk r P → IfOk r Q

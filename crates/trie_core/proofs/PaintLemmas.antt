@@ -1,8 +1,8 @@
 -- Lemmas on painting a block by its halves: the lookups, the nodes that are added,
 -- and when no node can be made.
 use Rattle.std.proofs.Common.{◌≡◌, ℕ, suc, ◌+◌, ◌^◌, ◌<◌, ◌≤◌, inl, inr, nat_eq, Bool, true, false}
-use Rattle.std.proofs.Common.{List, [], ◌∷◌, length, slice_get, Contains, Some, refl, sym, ◌∙◌, ap}
-use Rattle.std.proofs.Common.{ap₂, subst, arith}
+use Rattle.std.proofs.Common.{List, [], ◌∷◌, length, slice_get, Contains, Some, None, refl, sym, ◌∙◌}
+use Rattle.std.proofs.Common.{ap, ap₂, subst, arith}
 use Rattle.std.proofs.lemmas.Bool.{cases_lt}
 use Rattle.geo_addr.specs.Bits.{number_of}
 use Rattle.geo_addr.proofs.BitsLemmas.{number_of-lt}
@@ -13,9 +13,8 @@ use Rattle.trie_core.specs.declared.paint.Part.{Part}
 use Rattle.trie_core.specs.Tree.{Tree, leaf, node, height, look, join, IsPartOf}
 use Rattle.trie_core.specs.Store.{meaning, IsOf, IsSound, IsKept, NeedsNew, AddedUnder}
 use Rattle.trie_core.specs.Graft.{half}
-use Rattle.trie_core.specs.Paint.{leaf_in, over, IsPainted, HoldsPainted, IsHalved}
+use Rattle.trie_core.specs.Paint.{leaf_in, over, IsPainted, HoldsPainted, IsHalved, IsSettled}
 use Rattle.trie_core.proofs.TreeLemmas.{look-join, height-join, nat_equality}
-use Rattle.trie_core.proofs.PartLemmas.{leaf_in_first}
 use Rattle.trie_core.proofs.StoreLemmas.{meaning-leaf, meaning_node, pair_at, children_of}
 use Rattle.trie_core.proofs.StoreLemmas.{same_from_lookups_of, Contains-slice_get}
 
@@ -174,27 +173,49 @@ module _ (n first middle : ℕ) (parts front back : List Part)
           λ i. record { left = same.0 i; right = same.1 i } in
           needed.1 (subst (Contains pairs) pair here)
 
--- ---- a block that one part has whole, and one that no part touches
+-- ---- a block that no part cuts
 
-pub IsPainted-none : (t : Tree ℕ) (n first : ℕ) (parts : List Part) → height t ≤ n → parts ≡ []
+IsPainted-none : (t : Tree ℕ) (n first last : ℕ) (parts : List Part) → height t ≤ n
+    → last + 1 ≡ first + 2 ^ n → ((a : ℕ) → first ≤ a → a ≤ last → leaf_in parts a ≡ None)
     → IsPainted t t n first parts
-IsPainted-none t n first parts low none = record {
-  lookups = λ w long. ap (λ ps. over (leaf_in ps (first + number_of w)) (look t w)) (sym none);
+IsPainted-none t n first last parts low block none = record {
+  lookups = λ w long.
+      let power : 2 ^ length w ≡ 2 ^ n = ap (λ x. 2 ^ x) long in
+      let at : leaf_in parts (first + number_of w) ≡ None =
+      none (first + number_of w) (omega arith) (omega (arith, number_of-lt w)) in
+      sym (ap (λ o. over o (look t w)) at);
   low = low;
 }
 
-pub IsPainted-whole : (t u : Tree ℕ) (n first last : ℕ) (parts rest : List Part) (p : Part)
-    → parts ≡ p ∷ rest → last + 1 ≡ first + 2 ^ n → p.range.first ≤ first → last ≤ p.range.last
-    → u ≡ leaf p.leaf → IsPainted t u n first parts
-IsPainted-whole t u n first last parts rest p is block begins ends leaf-is = record {
+IsPainted-leaf : (t u : Tree ℕ) (n first last k : ℕ) (parts : List Part) → u ≡ leaf k
+    → last + 1 ≡ first + 2 ^ n → ((a : ℕ) → first ≤ a → a ≤ last → leaf_in parts a ≡ Some k)
+    → IsPainted t u n first parts
+IsPainted-leaf t u n first last k parts leaf-is block has = record {
   lookups = λ w long.
       let power : 2 ^ length w ≡ 2 ^ n = ap (λ x. 2 ^ x) long in
-      let at : leaf_in (p ∷ rest) (first + number_of w) ≡ Some p.leaf =
-      leaf_in_first p rest (first + number_of w) (omega arith) (omega (arith, number_of-lt w)) in
-      ap (λ v. look v w) leaf-is
-      ∙ sym (ap (λ o. over o (look t w)) (ap (λ ps. leaf_in ps (first + number_of w)) is ∙ at));
+      let at : leaf_in parts (first + number_of w) ≡ Some k =
+      has (first + number_of w) (omega arith) (omega (arith, number_of-lt w)) in
+      ap (λ v. look v w) leaf-is ∙ sym (ap (λ o. over o (look t w)) at);
   low = omega (arith, ap height leaf-is);
 }
+
+-- its record is of the store
+pub IsOf-settled : (pairs : List Pair) (was rec : Rec) (first last : ℕ) (parts : List Part)
+    → IsOf pairs was → IsSettled first last parts was rec → IsOf pairs rec
+IsOf-settled pairs was rec first last parts of (inl same) = subst (IsOf pairs) (sym same.0) of
+IsOf-settled pairs was rec first last parts of (inr made) = subst (IsOf pairs) (sym made.1) tt
+
+-- and means the painted block
+pub IsPainted-settled : (pairs : List Pair) (was rec : Rec) (n first last : ℕ) (parts : List Part)
+    → height (meaning pairs was) ≤ n → last + 1 ≡ first + 2 ^ n
+    → IsSettled first last parts was rec
+    → IsPainted (meaning pairs was) (meaning pairs rec) n first parts
+IsPainted-settled pairs was rec n first last parts low block (inl same) =
+    subst (λ r. IsPainted (meaning pairs was) (meaning pairs r) n first parts) (sym same.0)
+    (IsPainted-none (meaning pairs was) n first last parts low block same.1)
+IsPainted-settled pairs was rec n first last parts low block (inr made) =
+    IsPainted-leaf (meaning pairs was) (meaning pairs rec) n first last made.0 parts
+    (ap (meaning pairs) made.1 ∙ meaning-leaf pairs made.0) block made.2
 
 -- ---- the nodes that are added
 

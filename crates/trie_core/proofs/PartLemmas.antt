@@ -1,29 +1,35 @@
 -- Lemmas on the parts that are painted: which leaf an address has among them,
--- and the front and the back of an ascending list.
+-- and which of an ascending list are left behind a block.
 use Rattle.std.proofs.Common.{◌≡◌, ℕ, ◌+◌, ◌<◌, ◌≤◌, inl, inr, Bool, true, false, ◌&&◌}
-use Rattle.std.proofs.Common.{if◌then◌else◌, nat_le, leb, List, [], ◌∷◌, ◌++◌, length, take, drop}
-use Rattle.std.proofs.Common.{get_or, Some, None, All, refl, sym, ◌∙◌, ap, subst, arith}
-use Rattle.std.proofs.Common.{length-take, length-drop, take-append-drop, leb-true, leb-false}
+use Rattle.std.proofs.Common.{if◌then◌else◌, nat_le, List, [], ◌∷◌, ◌++◌, length, drop, slice_get}
+use Rattle.std.proofs.Common.{get_or, Some, None, All, refl, sym, ◌∙◌, ap, subst, arith, length-drop}
 use Rattle.std.proofs.Common.{rules}
 use Rattle.std.proofs.lemmas.Bool.{cases_lt, lt-leb}
-use Rattle.std.specs.List.{AllWithin}
-use Rattle.std.specs.List.Sorted.{IsPartitionedBy, IsNonDecreasingBy, IsPartitionPoint}
-use Rattle.std.proofs.lemmas.List.{get_or-take, get_or-drop, get_or_append_left, get_or_at}
-use Rattle.std.proofs.lemmas.List.{length_push}
-use Rattle.std.proofs.lemmas.List.Elements.{All-nil, All-push, All-head, All-tail, All-take}
-use Rattle.std.proofs.lemmas.List.Elements.{All-drop}
-use Rattle.std.proofs.lemmas.List.Sums.{sum_by-take-le, sum_by-take-drop}
-use Rattle.std.proofs.lemmas.List.Sorted.{IsPartitionedBy-leb, IsNonDecreasingBy-from_all_adjacent}
+use Rattle.std.proofs.lemmas.Option.{slice_get_within, get_or_from_slice_get}
+use Rattle.std.specs.List.Sorted.{IsNonDecreasingBy}
+use Rattle.std.proofs.lemmas.List.{get_or-drop, get_or_append_left, get_or_at, length_push}
+use Rattle.std.proofs.lemmas.List.Elements.{All-nil, All-push, All-head, All-tail, All-drop}
+use Rattle.std.proofs.lemmas.List.Elements.{All-cons}
+use Rattle.std.proofs.lemmas.List.Sums.{sum_by-take-drop}
+use Rattle.std.proofs.lemmas.List.Sorted.{IsNonDecreasingBy-from_all_adjacent}
 use Rattle.geo_addr.specs.Ranges.{IsRange}
+use Rattle.trie_core.specs.declared.node.Rec.{Rec}
+use Rattle.trie_core.specs.declared.node.Rec.TheVariants.{Leaf}
 use Rattle.trie_core.specs.declared.paint.Part.{Part}
-use Rattle.trie_core.specs.Paint.{IsAscending, leaf_in, cut_blocks, IsFront, IsBack}
+use Rattle.trie_core.specs.Paint.{IsAscending, leaf_in, cut_blocks, AreLeft, IsSettled}
+
+-- a list with a first element
+pub first_and_rest : {X : Type 0} (xs : List X) (x : X) → Some x ≡ slice_get xs 0
+    → xs ≡ x ∷ drop 1 xs
+first_and_rest [] x at = absurd (cc)
+first_and_rest (y ∷ xs) x at = ap (λ z. z ∷ xs) (cc)
 
 and_false : (b : Bool) → (b && false) ≡ false
 and_false true = refl
 and_false false = refl
 
 -- an address before all parts has no leaf among them
-pub leaf_in-before : (parts : List Part) (a : ℕ) → All (λ p. a < p.range.first) parts
+leaf_in-before : (parts : List Part) (a : ℕ) → All (λ p. a < p.range.first) parts
     → leaf_in parts a ≡ None
 leaf_in-before [] a h = refl
 leaf_in-before (p ∷ ps) a h =
@@ -33,16 +39,8 @@ leaf_in-before (p ∷ ps) a h =
     leaf_in-before ps a (All-tail (λ p. a < p.range.first) p ps h) in
     ap (λ (b : Bool). if b && nat_le a p.range.last then Some p.leaf else leaf_in ps a) first ∙ rest
 
--- later parts that begin after the address do not matter
-pub leaf_in-front : (xs ys : List Part) (a : ℕ) → All (λ p. a < p.range.first) ys
-    → leaf_in xs a ≡ leaf_in (xs ++ ys) a
-leaf_in-front [] ys a h = sym (leaf_in-before ys a h)
-leaf_in-front (p ∷ xs) ys a h =
-    ap (λ rest. if nat_le p.range.first a && nat_le a p.range.last then Some p.leaf else rest)
-    (leaf_in-front xs ys a h)
-
 -- earlier parts that end before the address do not matter
-pub leaf_in-back : (xs ys : List Part) (a : ℕ) → All (λ p. p.range.last < a) xs
+leaf_in-back : (xs ys : List Part) (a : ℕ) → All (λ p. p.range.last < a) xs
     → leaf_in ys a ≡ leaf_in (xs ++ ys) a
 leaf_in-back [] ys a h = refl
 leaf_in-back (p ∷ xs) ys a h =
@@ -61,30 +59,7 @@ leaf_in_first p ps a first last =
     let ends : nat_le a p.range.last ≡ true = search rules in
     rw (begins, ends) refl
 
--- ---- fronts and backs
-
--- what holds up to an index holds of the front
-All-take_within : {X : Type 0} (P : X → Type 0) (xs : List X) (i : ℕ) → AllWithin P xs 0 i
-    → All P (take i xs)
-All-take_within P xs i h k d below =
-    let less : k < i = omega (arith, length-take i xs) in
-    subst P (sym (get_or-take i xs k d less)) (h k d (omega arith) less)
-
--- what holds from an index on holds of the back
-All-drop_within : {X : Type 0} (P : X → Type 0) (xs : List X) (i : ℕ)
-    → AllWithin P xs i (length xs) → All P (drop i xs)
-All-drop_within P xs i h k d below =
-    subst P (sym (get_or-drop i xs k d))
-    (h (i + k) d (omega arith) (omega (arith, length-drop i xs)))
-
-IsAscending-take : (parts : List Part) (i : ℕ) → IsAscending parts → IsAscending (take i parts)
-IsAscending-take parts i up = record {
-  ranges = All-take (λ p. IsRange p.range) i parts up.ranges;
-  apart = λ k d below.
-      let less : k + 1 < i = omega (arith, length-take i parts) in
-      rw (get_or-take i parts k d (omega arith), get_or-take i parts (k + 1) d less)
-      (up.apart k d (omega (arith, length-take i parts)));
-}
+-- ---- the parts that are left
 
 IsAscending-drop : (parts : List Part) (i : ℕ) → IsAscending parts → IsAscending (drop i parts)
 IsAscending-drop parts i up = record {
@@ -106,61 +81,121 @@ lasts_rise parts up = IsNonDecreasingBy-from_all_adjacent (λ p. p.range.last) p
     let range : IsRange (get_or parts (k + 1) d).range = up.ranges (k + 1) d below in
     omega (arith, up.apart k d below, range.ordered))
 
--- so a search by halving finds where they pass the middle
-pub firsts_part : (parts : List Part) (middle : ℕ) → IsAscending parts
-    → IsPartitionedBy (λ p. leb p.range.first middle) parts
-firsts_part parts middle up =
-    IsPartitionedBy-leb (λ p. p.range.first) parts middle (firsts_rise parts up)
+module _ (parts : List Part) (p : Part) (head : Some p ≡ slice_get parts 0) (up : IsAscending parts) where
+  -- the first part is one of them
+  whole : parts ≡ p ∷ drop 1 parts
+  whole = first_and_rest parts p head
 
-pub lasts_part : (parts : List Part) (middle : ℕ) → IsAscending parts
-    → IsPartitionedBy (λ p. leb p.range.last middle) parts
-lasts_part parts middle up =
-    IsPartitionedBy-leb (λ p. p.range.last) parts middle (lasts_rise parts up)
+  some : 0 < length parts
+  some = slice_get_within parts 0 p (sym head)
 
-pub IsFront-from_point : (parts : List Part) (middle i : ℕ) → IsAscending parts
-    → IsPartitionPoint (λ p. leb p.range.first middle ≡ true)
-    (λ p. leb p.range.first middle ≡ false) parts i → IsFront parts (take i parts) middle
-IsFront-from_point parts middle i up point = record {
-  touching = λ first last touch k d below.
-      let one : (get_or (take i parts) k d).range.first ≤ middle = leb-true _ _
-      (All-take_within (λ p. leb p.range.first middle ≡ true) parts i point.0 k d below) in
-      let both : ((get_or (take i parts) k d).range.first ≤ last)
-      × (first ≤ (get_or (take i parts) k d).range.last) =
-      All-take (λ p. (p.range.first ≤ last) × (first ≤ p.range.last)) i parts touch k d below in
-      (one, both.1);
-  ascending = IsAscending-take parts i up;
-  same = λ a low.
-      let later : All (λ p. a < p.range.first) (drop i parts) = λ k d below.
-      let out : middle < (get_or (drop i parts) k d).range.first = leb-false _ _
-      (All-drop_within (λ p. leb p.range.first middle ≡ false) parts i point.1 k d below) in
-      omega arith
-      in
-      leaf_in-front (take i parts) (drop i parts) a later
-      ∙ ap (λ l. leaf_in l a) (take-append-drop i parts);
-  cheaper = λ n first. sum_by-take-le (λ p. cut_blocks n first p.range) parts i;
-}
+  head_at : (d : Part) → get_or parts 0 d ≡ p
+  head_at d = get_or_from_slice_get parts 0 p d (sym head)
 
-pub IsBack-from_point : (parts : List Part) (middle i : ℕ) → IsAscending parts
-    → IsPartitionPoint (λ p. leb p.range.last middle ≡ true)
-    (λ p. leb p.range.last middle ≡ false) parts i → IsBack parts (drop i parts) middle
-IsBack-from_point parts middle i up point = record {
-  touching = λ first last touch k d below.
-      let one : middle < (get_or (drop i parts) k d).range.last = leb-false _ _
-      (All-drop_within (λ p. leb p.range.last middle ≡ false) parts i point.1 k d below) in
-      let both : ((get_or (drop i parts) k d).range.first ≤ last)
-      × (first ≤ (get_or (drop i parts) k d).range.last) =
-      All-drop (λ p. (p.range.first ≤ last) × (first ≤ p.range.last)) i parts touch k d below in
-      (both.0, omega arith);
-  ascending = IsAscending-drop parts i up;
-  same = λ a high.
-      let earlier : All (λ p. p.range.last < a) (take i parts) = λ k d below.
-      let out : (get_or (take i parts) k d).range.last ≤ middle = leb-true _ _
-      (All-take_within (λ p. leb p.range.last middle ≡ true) parts i point.0 k d below) in
-      omega arith
-      in
-      leaf_in-back (take i parts) (drop i parts) a earlier
-      ∙ ap (λ l. leaf_in l a) (take-append-drop i parts);
-  cheaper = λ n first. omega (arith, sum_by-take-drop (λ p. cut_blocks n first p.range) parts i);
+  -- no part begins before the first one
+  firsts_from : All (λ q. p.range.first ≤ q.range.first) parts
+  firsts_from k d below =
+      omega (arith, firsts_rise parts up 0 k d (omega arith) below, ap (λ (q : Part). q.range.first) (head_at d))
+
+  -- or ends before it
+  lasts_from : All (λ q. p.range.last ≤ q.range.last) parts
+  lasts_from k d below =
+      omega (arith, lasts_rise parts up 0 k d (omega arith) below, ap (λ (q : Part). q.range.last) (head_at d))
+
+  -- and the others begin after it
+  later_from : All (λ q. p.range.last < q.range.first) (drop 1 parts)
+  later_from k d below =
+      let long = length-drop 1 parts in
+      omega (
+        arith,
+        up.apart 0 d (omega arith),
+        firsts_rise parts up 1 (1 + k) d (omega arith) (omega arith),
+        ap (λ (q : Part). q.range.last) (head_at d),
+        ap (λ (q : Part). q.range.first) (get_or-drop 1 parts k d),
+      )
+
+  -- so all are left of a block that ends before the first one does
+  AreLeft-before : (last : ℕ) → last < p.range.last → AreLeft parts parts last
+  AreLeft-before last before = record {
+    ascending = up;
+    begun = λ k d below. omega (arith, before, lasts_from k d below);
+    same = λ a after. refl;
+    cheaper = λ n first. omega arith;
+  }
+
+  -- and all others of a block that ends where it does
+  AreLeft-at : (last : ℕ) → p.range.last ≡ last → AreLeft parts (drop 1 parts) last
+  AreLeft-at last at = record {
+    ascending = IsAscending-drop parts 1 up;
+    begun = λ k d below.
+        let range : IsRange (get_or (drop 1 parts) k d).range =
+        (IsAscending-drop parts 1 up).ranges k d below in
+        omega (arith, at, later_from k d below, range.ordered);
+    same = λ a after.
+        leaf_in-back (p ∷ []) (drop 1 parts) a (All-cons (λ q. q.range.last < a) p [] (omega arith)
+        (All-nil (λ q. q.range.last < a))) ∙ ap (λ ps. leaf_in ps a) (sym whole);
+    cheaper = λ n first. omega (arith, sum_by-take-drop (λ q. cut_blocks n first q.range) parts 1);
+  }
+
+  -- a block that ends before the first part begins has no address of any
+  none_before : (last : ℕ) → last < p.range.first
+      → (a : ℕ) → a ≤ last → leaf_in parts a ≡ None
+  none_before last before a within =
+      leaf_in-before parts a (λ k d below. omega (arith, firsts_from k d below))
+
+  -- and one that the first part has whole has its leaf
+  leaf_within : (first last : ℕ) → p.range.first ≤ first → last ≤ p.range.last
+      → (a : ℕ) → first ≤ a → a ≤ last → leaf_in parts a ≡ Some p.leaf
+  leaf_within first last begins ends a from to =
+      ap (λ ps. leaf_in ps a) whole
+      ∙ leaf_in_first p (drop 1 parts) a (omega arith) (omega arith)
+
+  -- so a block is settled that ends before the first part begins
+  pub settled_before : (was : Rec) (first last : ℕ) → last < p.range.first
+      → IsSettled first last parts was was × AreLeft parts parts last
+  settled_before was first last before =
+      let begins : p.range.first ≤ p.range.last =
+      subst (λ (q : Part). q.range.first ≤ q.range.last) (head_at p) (up.ranges 0 p some).ordered in
+      (inl (refl, λ a from to. none_before last before a to), AreLeft-before last (omega arith))
+
+  -- and one that it has whole, whether it ends there or goes on
+  pub settled_inside : (was : Rec) (first last : ℕ) → p.range.first ≤ first → last < p.range.last
+      → IsSettled first last parts was (Leaf p.leaf) × AreLeft parts parts last
+  settled_inside was first last begins ends =
+      (inr (p.leaf, refl, leaf_within first last begins (omega arith)), AreLeft-before last ends)
+
+  pub settled_at : (was : Rec) (first last : ℕ) → p.range.first ≤ first → p.range.last ≡ last
+      → IsSettled first last parts was (Leaf p.leaf) × AreLeft parts (drop 1 parts) last
+  settled_at was first last begins ends =
+      (inr (p.leaf, refl, leaf_within first last begins (omega arith)), AreLeft-at last ends)
+
+-- a list with no first element
+nil_from_none : {X : Type 0} (xs : List X) → None ≡ slice_get xs 0 → xs ≡ []
+nil_from_none [] none = refl
+nil_from_none (x ∷ xs) none = absurd (cc)
+
+-- without parts all blocks are settled
+pub settled_none : (parts : List Part) (was : Rec) (first last : ℕ) → None ≡ slice_get parts 0
+    → IsAscending parts → IsSettled first last parts was was × AreLeft parts parts last
+settled_none parts was first last none up =
+    let is : parts ≡ [] = nil_from_none parts none in (
+      inl (refl, λ a from to. ap (λ ps. leaf_in ps a) is),
+      record {
+        ascending = up;
+        begun = λ k d below. absurd (omega (arith, ap length is));
+        same = λ a after. refl;
+        cheaper = λ n first. omega arith;
+      },
+    )
+
+-- what is left of what was left
+pub AreLeft-trans : (parts mid left : List Part) (middle last : ℕ) → middle ≤ last
+    → AreLeft parts mid middle → AreLeft mid left last → AreLeft parts left last
+AreLeft-trans parts mid left middle last le one two = record {
+  ascending = two.ascending;
+  begun = two.begun;
+  same = λ a after. two.same a after ∙ one.same a (omega arith);
+  cheaper = λ n first. omega (arith, one.cheaper n first, two.cheaper n first);
 }
 
 -- ---- a list of parts that grows

@@ -1,11 +1,12 @@
 -- Painting: giving leaves to ranges of addresses.
 use Rattle.std.specs.Prelude.{◌≡◌, ℕ, zero, suc, ◌+◌, ◌-◌, ◌^◌, ◌<◌, ◌≤◌, Bool, ◌&&◌, not, nat_le}
 use Rattle.std.specs.Prelude.{nat_lt, false, true, if◌then◌else◌, List, [], ◌∷◌, length, Option}
-use Rattle.std.specs.Prelude.{Some, None, sum_by, All}
+use Rattle.std.specs.Prelude.{Some, None, sum_by, All, slice_get, ◌⊎◌}
 use Rattle.std.specs.List.{AllAdjacentBelow}
 use Rattle.geo_addr.specs.Bits.{number_of}
 use Rattle.geo_addr.specs.Ranges.{Ends, IsRange}
 use Rattle.trie_core.specs.declared.node.Rec.{Rec}
+use Rattle.trie_core.specs.declared.node.Rec.TheVariants.{Leaf}
 use Rattle.trie_core.specs.declared.node.Root.{Root}
 use Rattle.trie_core.specs.declared.node.Pair.{Pair}
 use Rattle.trie_core.specs.declared.paint.Part.{Part}
@@ -72,24 +73,31 @@ cut_blocks (suc n) first r =
 abbrev pub paint_cost : ℕ → ℕ → List Part → ℕ
 paint_cost n first parts = sum_by (λ p. cut_blocks n first p.range) parts
 
--- each part has an address from `first` to `last`
-abbrev pub AllTouch : ℕ → ℕ → List Part → Type 0
-AllTouch first last parts = All (λ p. (p.range.first ≤ last) × (first ≤ p.range.last)) parts
+-- each part ends at `first` or after it
+abbrev pub AllEndFrom : ℕ → List Part → Type 0
+AllEndFrom first parts = All (λ p. first ≤ p.range.last) parts
 
--- the parts that begin at or before the middle, which are the first ones
-pub record IsFront (parts front : List Part) (middle : ℕ) : Type 0 where
-  pub touching : (first : ℕ) (last : ℕ) → AllTouch first last parts → AllTouch first middle front
-  pub ascending : IsAscending front
-  pub same : (a : ℕ) → a ≤ middle → leaf_in front a ≡ leaf_in parts a
-  pub cheaper : (n first : ℕ) → paint_cost n first front ≤ paint_cost n first parts
+-- the first part has an address of the block from `first` to `last`, and not all of them
+pub record IsCut (first last : ℕ) (parts : List Part) : Type 0 where
+  pub part : Part
+  pub first_is : Some part ≡ slice_get parts 0
+  pub begins : part.range.first ≤ last
+  pub ends : first ≤ part.range.last
+  pub other : (part.range.first ≤ first) × (last ≤ part.range.last) → ⊥
 
--- the parts that end after the middle, which are the last ones
-pub record IsBack (parts back : List Part) (middle : ℕ) : Type 0 where
-  pub touching : (first : ℕ) (last : ℕ) → AllTouch first last parts
-      → AllTouch (middle + 1) last back
-  pub ascending : IsAscending back
-  pub same : (a : ℕ) → middle < a → leaf_in back a ≡ leaf_in parts a
-  pub cheaper : (n first : ℕ) → paint_cost n first back ≤ paint_cost n first parts
+-- the parts that end after the last address of a block, which are the last ones
+pub record AreLeft (parts left : List Part) (last : ℕ) : Type 0 where
+  pub ascending : IsAscending left
+  pub begun : AllEndFrom (last + 1) left
+  pub same : (a : ℕ) → last < a → leaf_in left a ≡ leaf_in parts a
+  pub cheaper : (n first : ℕ) → paint_cost n first left ≤ paint_cost n first parts
+
+-- the record of a block is what it was where no part has an address of the block,
+-- and else the leaf of the part that has all of them
+abbrev pub IsSettled : ℕ → ℕ → List Part → Rec → Rec → Type 0
+IsSettled first last parts was rec =
+    ((rec ≡ was) × ((a : ℕ) → first ≤ a → a ≤ last → leaf_in parts a ≡ None))
+    ⊎ ((k : ℕ) × (rec ≡ Leaf k) × ((a : ℕ) → first ≤ a → a ≤ last → leaf_in parts a ≡ Some k))
 
 -- the two halves of a block under a record
 pub record IsHalved (pairs : List Pair) (rec left right : Rec) : Type 0 where

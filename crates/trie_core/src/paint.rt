@@ -1,13 +1,13 @@
 //! Painting ranges of addresses with leaves.
 ghost use Rattle.std.specs.Prelude.{◌≡◌, ℕ, ◌+◌, ◌-◌, ◌*◌, ◌^◌, ◌<◌, ◌≤◌, ◌↔◌, length, Some, IfOk};
-ghost use Rattle.std.specs.Prelude.{IsErrOf, IsTrue};
+ghost use Rattle.std.specs.Prelude.{OnOk, IsErrOf, MatchOption};
 ghost use Rattle.geo_addr.specs.Ranges.{IsWithin};
 ghost use Rattle.trie_core.specs.Tree.{height};
 ghost use Rattle.trie_core.specs.Store.{meaning, leaf_at, record_of, IsOf, IsRootOf, GrowsBy};
 ghost use Rattle.trie_core.specs.Store.{IsKept, AddedUnder, IsSound};
 ghost use Rattle.trie_core.specs.Paint.{IsAscending, leaf_in, over, IsPainted, HoldsPainted};
-ghost use Rattle.trie_core.specs.Paint.{IsFullWithout, one_part, paint_cost, AllTouch, IsFront};
-ghost use Rattle.trie_core.specs.Paint.{IsBack, IsHalved};
+ghost use Rattle.trie_core.specs.Paint.{IsFullWithout, one_part, paint_cost, AllEndFrom, IsCut};
+ghost use Rattle.trie_core.specs.Paint.{AreLeft, IsSettled, IsHalved};
 
 use crate::fault::StoreFault;
 use crate::node::{Rec, Root};
@@ -77,19 +77,23 @@ impl Store {
         ensures sound { IsSound self.new }
     {
         let rec = self.rec_of(root);
-        let rec = self.paint_block(rec, 0, u128::MAX, 128, parts, steps)?;
+        let mut rest = parts;
+        if let Some(rec) = settled(rec, 0, u128::MAX, &mut rest) {
+            return Ok(Root(rec));
+        }
+        let rec = self.paint_block(rec, 0, u128::MAX, 128, &mut rest, steps)?;
         Ok(Root(rec))
     }
 
-    // The record of the block of 2 ^ bits addresses from first to
-    // last with the parts painted on it.
+    // The record of the block of 2 ^ bits addresses from first to last, which the first part cuts,
+    // with the parts painted on it. Those that end after the block are left.
     fn paint_block<L: Ledger>(
         &mut self,
         rec: Rec,
         first: u128,
         last: u128,
         bits: u32,
-        parts: &[Part],
+        parts: &mut &[Part],
         steps: &mut Steps<L>,
     ) -> Result<Rec, StoreFault>
         requires sound { IsSound self.old }
@@ -97,32 +101,33 @@ impl Store {
         requires low { height (meaning self.old rec) ≤ bits }
         requires bits { bits ≤ 128 }
         requires block { last + 1 ≡ first + 2 ^ bits }
-        requires ascending { IsAscending parts.now }
-        requires touching { AllTouch first last parts.now }
+        requires ascending { IsAscending parts.old.now }
+        requires begun { AllEndFrom first parts.old.now }
+        requires cut { IsCut first last parts.old.now }
         ensures of { IfOk result (IsOf self.new) }
         ensures painted { IfOk result
-            (λ r. IsPainted (meaning self.old rec) (meaning self.new r) bits first parts.now) }
+            (λ r. IsPainted (meaning self.old rec) (meaning self.new r) bits first parts.old.now) }
+        ensures left { OnOk result (AreLeft parts.old.now parts.new.now last) }
         ensures ticks { steps.old ≤ steps.new }
-        ensures cost { steps.new ≤ steps.old + paint_cost bits first parts.now }
+        ensures cost { steps.new ≤ steps.old + paint_cost bits first parts.old.now }
         ensures grows { GrowsBy self.old self.new (steps.new - steps.old) }
         ensures kept { IsKept self.old self.new }
         ensures under { IfOk result (AddedUnder self.old self.new) }
         ensures full { IsErrOf result StoreFault.Full → (length self.new + 1 ≡ 2 ^ 32)
-            × (HoldsPainted self.new (meaning self.old rec) bits first parts.now → ⊥) }
+            × (HoldsPainted self.new (meaning self.old rec) bits first parts.old.now → ⊥) }
         ensures memory { IsErrOf result StoreFault.Memory → length self.new + 1 < 2 ^ 32 }
         ensures sound { IsSound self.new }
     {
-        let Some(part) = parts.first() else {
-            return Ok(rec);
-        };
-        if covers(*part, first, last) {
-            return Ok(Rec::Leaf(part.leaf));
-        }
         let middle = first + (last - first) / 2;
         let (left, right) = self.halves(rec);
-        let (lower, upper) = (front(parts, middle), back(parts, middle));
-        let left = self.paint_block(left, first, middle, bits - 1, lower, steps)?;
-        let right = self.paint_block(right, middle + 1, last, bits - 1, upper, steps)?;
+        let left = match settled(left, first, middle, parts) {
+            Some(left) => left,
+            None => self.paint_block(left, first, middle, bits - 1, parts, steps)?,
+        };
+        let right = match settled(right, middle + 1, last, parts) {
+            Some(right) => right,
+            None => self.paint_block(right, middle + 1, last, bits - 1, parts, steps)?,
+        };
         self.mk(left, right, steps)
     }
 
@@ -138,44 +143,30 @@ impl Store {
     }
 }
 
-// Whether the part has all addresses from first to last.
-fn covers(part: Part, first: u128, last: u128) -> bool
-    ensures { IsTrue result ↔ ((part.range.first ≤ first) × (last ≤ part.range.last)) }
+// The record of a block that no part cuts, which is as it was or a leaf, and which parts are then
+// left. `None` where the first part cuts the block.
+fn settled(rec: Rec, first: u128, last: u128, parts: &mut &[Part]) -> Option<Rec>
+    requires ascending { IsAscending parts.old.now }
+    requires begun { AllEndFrom first parts.old.now }
+    requires block { first ≤ last }
+    ensures { MatchOption result
+        (IsCut first last parts.old.now × (parts.new.now ≡ parts.old.now))
+        (λ r. IsSettled first last parts.old.now rec r
+        × AreLeft parts.old.now parts.new.now last) }
 {
+    let Some(part) = parts.first() else {
+        return Some(rec);
+    };
+    let part = *part;
     let range = part.range;
-    range.first <= first && last <= range.last
-}
-
-// The parts that begin at or before the middle.
-fn front(parts: &[Part], middle: u128) -> &[Part]
-    requires { IsAscending parts.now }
-    ensures { IsFront parts.now result.now middle }
-{
-    let end = parts.partition_point(|p| begin(*p) <= middle);
-    parts.split_at(end).0
-}
-
-// The parts that end after the middle.
-fn back(parts: &[Part], middle: u128) -> &[Part]
-    requires { IsAscending parts.now }
-    ensures { IsBack parts.now result.now middle }
-{
-    let start = parts.partition_point(|p| end(*p) <= middle);
-    parts.split_at(start).1
-}
-
-// The first address of a part.
-fn begin(part: Part) -> u128
-    ensures { result ≡ part.range.first }
-{
-    let range = part.range;
-    range.first
-}
-
-// The last address of a part.
-fn end(part: Part) -> u128
-    ensures { result ≡ part.range.last }
-{
-    let range = part.range;
-    range.last
+    if last < range.first {
+        return Some(rec);
+    }
+    if range.first <= first && last <= range.last {
+        if range.last == last {
+            *parts = parts.split_at(1).1;
+        }
+        return Some(Rec::Leaf(part.leaf));
+    }
+    None
 }

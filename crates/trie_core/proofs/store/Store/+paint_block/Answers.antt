@@ -1,29 +1,26 @@
--- A block that the first part does not have whole is painted by its halves.
-use Rattle.std.proofs.Common.{◌≡◌, ◌+◌, ◌-◌, ◌∙◌, sym, ap, subst, arith, Err, drop, length, refl}
+-- A block that is cut is painted by its halves.
+use Rattle.std.proofs.Common.{◌≡◌, ◌+◌, ◌-◌, ◌/◌, ◌≤◌, ◌<◌, ◌∙◌, sym, ap, subst, arith, Err, length}
 use Rattle.std.proofs.Common.{le_refl}
 use Rattle.std.proofs.lemmas.Result.{IfOk-weaker, IfErr-at_err, err_from_is_err_and}
 use Rattle.trie_core.specs.declared.fault.StoreFault.TheVariants.{Full}
 use Rattle.trie_core.specs.Tree.{look, height}
 use Rattle.trie_core.specs.Store.{meaning, AddedUnder}
-use Rattle.trie_core.specs.Paint.{IsPainted, HoldsPainted}
-use Rattle.trie_core.proofs.StoreLemmas.{meaning-leaf, GrowsBy-trans}
-use Rattle.trie_core.proofs.PaintLemmas.{IsPainted-whole, AddedUnder-join}
-use Rattle.trie_core.proofs.BlockLemmas.{are_halves, cost_of_halves, painted_of_halves, left_held}
-use Rattle.trie_core.proofs.BlockLemmas.{right_held, node_missing, first_and_rest, IfOk-both}
+use Rattle.trie_core.specs.Paint.{IsPainted, HoldsPainted, IsAscending, AllEndFrom, IsCut}
+use Rattle.trie_core.specs.Paint.{paint_cost}
+use Rattle.trie_core.proofs.StoreLemmas.{GrowsBy-trans}
+use Rattle.trie_core.proofs.PaintLemmas.{AddedUnder-join}
+use Rattle.trie_core.proofs.BlockLemmas.{are_halves, cost_of_cut, cost_of_halves, left_held}
+use Rattle.trie_core.proofs.BlockLemmas.{painted_of_halves, right_held, node_missing, IfOk-both}
+use Rattle.trie_core.proofs.BlockLemmas.{IsDone, IsDone-settled}
 use Rattle.trie_core.proofs.store.Store.+paint_block.Goals as goal
-
-pub returns-then-covers-clause-painted : goal.returns-then-covers-clause-painted
-returns-then-covers-clause-painted g t c =
-    let whole = c.if-covers.ensures.0 refl in
-    IsPainted-whole (meaning c.args.self.now c.args.rec) _ c.args.bits c.args.first c.args.last
-    c.args.parts.now (drop 1 c.args.parts.now) c.in-Some.part.now
-    (first_and_rest c.args.parts.now c.in-Some.part.now c.in-Some.ensures.value) c.requires.block
-    whole.0 whole.1 (meaning-leaf c.args.self.now c.in-Some.part.now.leaf)
+use Rattle.trie_core.proofs.store.Store.+paint_block.Goals.{in-Some, in-None+in_ok-left-in-None}
+use Rattle.trie_core.proofs.store.Store.+paint_block.Goals.{in-Some-settled}
+use Rattle.trie_core.proofs.store.Store.+paint_block.Goals.{in-None-settled+in_ok-right-in-None-settled}
 
 pub paint_block-requires : goal.paint_block-requires
 paint_block-requires g t c κs within =
-    let h = are_halves c.args.first c.args.last c.args.bits c.args.parts.now c.in-Some.part.now
-    c.requires.block c.requires.touching c.in-Some.ensures.value c.if-covers.ensures.1 in (
+    let h = are_halves c.args.first c.args.last c.args.bits c.args.parts.now.now c.requires.block c.requires.cut in
+    let same = c.in-None.ensures.1 in (
       omega (arith, h.some, c.decreases),
       (
         within,
@@ -38,8 +35,12 @@ paint_block-requires g t c κs within =
                 (
                   h.lower,
                   (
-                    c.front-lower.ensures.ascending,
-                    c.front-lower.ensures.touching c.args.first c.args.last c.requires.touching,
+                    subst IsAscending (sym same) c.requires.ascending,
+                    (
+                      subst (AllEndFrom c.args.first) (sym same) c.requires.begun,
+                      subst (IsCut c.args.first (c.args.first + (c.args.last - c.args.first) / 2))
+                          (sym same) c.in-None.ensures.0,
+                    ),
                   ),
                 ),
               ),
@@ -49,43 +50,67 @@ paint_block-requires g t c κs within =
       ),
     )
 
-pub returns-in_err-left-clause-cost : goal.returns-in_err-left-clause-cost
-returns-in_err-left-clause-cost g t c =
+pub returns-in_err-left-in-None-clause-cost : goal.returns-in_err-left-in-None-clause-cost
+returns-in_err-left-in-None-clause-cost g t c =
     omega (
       arith,
-      c.in_err-left.ensures.cost,
-      cost_of_halves c.args.first c.args.last c.args.bits c.args.parts.now c.in-Some.part.now
-          c.requires.block c.requires.touching c.in-Some.ensures.value c.if-covers.ensures.1
-          c.front-lower.result.now c.back-upper.result.now c.front-lower.ensures
-          c.back-upper.ensures,
+      c.in_err-left-in-None.ensures.cost,
+      ap (paint_cost (c.args.bits - 1) c.args.first) c.in-None.ensures.1,
+      cost_of_cut c.args.first c.args.last c.args.bits c.args.parts.now.now c.requires.block c.requires.cut,
     )
 
-pub returns-in_err-left-clause-full : goal.returns-in_err-left-clause-full
-returns-in_err-left-clause-full g t c =
+pub returns-in_err-left-in-None-clause-full : goal.returns-in_err-left-in-None-clause-full
+returns-in_err-left-in-None-clause-full g t c =
     let p = err_from_is_err_and c.from_residual.result c.from_residual.ensures.1 in
     λ e.
-    let fault : c.in_err-left.field-0.0 ≡ Full = cc (p.1, p.2, e) in
-    let said = c.in_err-left.ensures.full (ap Err fault) in (
+    let fault : c.in_err-left-in-None.field-0.0 ≡ Full = cc (p.1, p.2, e) in
+    let said = c.in_err-left-in-None.ensures.full (ap Err fault) in (
       said.0,
-      λ held. said.1 (left_held c.args.first
-          c.args.last c.args.bits c.args.parts.now c.in-Some.part.now c.requires.block
-          c.requires.touching c.in-Some.ensures.value c.if-covers.ensures.1 c.front-lower.result.now
-          c.back-upper.result.now c.front-lower.ensures c.back-upper.ensures
+      λ held. said.1 (subst (HoldsPainted c.paint_block.new.self (meaning c.args.self.now
+          c.halves-left.result.0) (c.args.bits - 1) c.args.first) (sym c.in-None.ensures.1)
+          (left_held c.args.first c.args.last c.args.bits c.args.parts.now.now c.requires.block c.requires.cut
           (meaning c.args.self.now c.args.rec) (meaning c.args.self.now c.halves-left.result.0)
           (meaning c.args.self.now c.halves-left.result.1) c.halves-left.ensures.left_look
-          c.halves-left.ensures.right_look c.paint_block.new.self c.in_err-left.ensures.sound held),
+          c.halves-left.ensures.right_look c.paint_block.new.self
+          c.in_err-left-in-None.ensures.sound held)),
     )
 
-pub paint_block-requires-2 : goal.paint_block-requires-2
-paint_block-requires-2 g t c κs within =
-    let h = are_halves c.args.first c.args.last c.args.bits c.args.parts.now c.in-Some.part.now
-    c.requires.block c.requires.touching c.in-Some.ensures.value c.if-covers.ensures.1 in
-    let kept = c.in_ok-left.ensures.kept c.halves-left.result.1 c.halves-left.ensures.right_of in (
+pub paint_block-requires-in-None-settled : goal.paint_block-requires-in-None-settled
+paint_block-requires-in-None-settled g t c κs within =
+    let h = are_halves c.args.first c.args.last c.args.bits c.args.parts.now.now c.requires.block c.requires.cut in
+    let left : IsDone c.args.self.now c.match-settled.self c.halves-left.result.0
+    c.match-settled.left (c.args.bits - 1) c.args.first (c.args.first + (c.args.last - c.args.first) / 2)
+    c.args.parts.now.now c.match-settled.parts.now c.args.steps.now c.match-settled.steps =
+    elim c.match-settled.branch [
+      | in-Some w ↦ rw (w.self-is, w.parts-is, w.steps-is, w.left-is)
+          (IsDone-settled c.args.self.now c.halves-left.result.0 _ (c.args.bits - 1) c.args.first
+          (c.args.first + (c.args.last - c.args.first) / 2) c.args.parts.now.now _ c.args.steps.now
+          c.requires.sound c.halves-left.ensures.left_of
+          (omega (arith, c.halves-left.ensures.left_low, c.requires.low)) h.lower
+          w.in-Some.ensures.0 w.in-Some.ensures.1)
+      | in-None+in_ok-left-in-None w ↦ rw (w.self-is, w.parts-is, w.steps-is, w.left-is)
+          (subst (λ ps. IsDone c.args.self.now w.paint_block.new.self c.halves-left.result.0
+          w.in_ok-left-in-None.left (c.args.bits - 1) c.args.first
+          (c.args.first + (c.args.last - c.args.first) / 2) ps w.paint_block.new.parts.now
+          c.args.steps.now w.paint_block.new.steps) w.in-None.ensures.1 (record {
+            of = w.in_ok-left-in-None.ensures.of;
+            painted = w.in_ok-left-in-None.ensures.painted;
+            left = w.in_ok-left-in-None.ensures.left;
+            ticks = w.in_ok-left-in-None.ensures.ticks;
+            cost = w.in_ok-left-in-None.ensures.cost;
+            grows = w.in_ok-left-in-None.ensures.grows;
+            kept = w.in_ok-left-in-None.ensures.kept;
+            under = w.in_ok-left-in-None.ensures.under;
+            sound = w.in_ok-left-in-None.ensures.sound;
+          }))
+    ] in
+    let kept = left.kept c.halves-left.result.1 c.halves-left.ensures.right_of in
+    let same = c.in-None-settled.ensures.1 in (
       omega (arith, h.some, c.decreases),
       (
         within,
         (
-          c.in_ok-left.ensures.sound,
+          left.sound,
           (
             kept.0,
             (
@@ -95,8 +120,13 @@ paint_block-requires-2 g t c κs within =
                 (
                   h.upper,
                   (
-                    c.back-upper.ensures.ascending,
-                    c.back-upper.ensures.touching c.args.first c.args.last c.requires.touching,
+                    subst IsAscending (sym same) left.left.ascending,
+                    (
+                      subst (AllEndFrom ((c.args.first + (c.args.last - c.args.first) / 2) + 1))
+                          (sym same) left.left.begun,
+                      subst (IsCut ((c.args.first + (c.args.last - c.args.first) / 2) + 1)
+                          c.args.last) (sym same) c.in-None-settled.ensures.0,
+                    ),
                   ),
                 ),
               ),
@@ -106,103 +136,592 @@ paint_block-requires-2 g t c κs within =
       ),
     )
 
-pub returns-in_err-right-clause-cost : goal.returns-in_err-right-clause-cost
-returns-in_err-right-clause-cost g t c =
+pub returns-in_err-right-in-None-settled-clause-cost :
+    goal.returns-in_err-right-in-None-settled-clause-cost
+returns-in_err-right-in-None-settled-clause-cost g t c =
+    let h = are_halves c.args.first c.args.last c.args.bits c.args.parts.now.now c.requires.block c.requires.cut in
+    let left : IsDone c.args.self.now c.match-settled.self c.halves-left.result.0
+    c.match-settled.left (c.args.bits - 1) c.args.first (c.args.first + (c.args.last - c.args.first) / 2)
+    c.args.parts.now.now c.match-settled.parts.now c.args.steps.now c.match-settled.steps =
+    elim c.match-settled.branch [
+      | in-Some w ↦ rw (w.self-is, w.parts-is, w.steps-is, w.left-is)
+          (IsDone-settled c.args.self.now c.halves-left.result.0 _ (c.args.bits - 1) c.args.first
+          (c.args.first + (c.args.last - c.args.first) / 2) c.args.parts.now.now _ c.args.steps.now
+          c.requires.sound c.halves-left.ensures.left_of
+          (omega (arith, c.halves-left.ensures.left_low, c.requires.low)) h.lower
+          w.in-Some.ensures.0 w.in-Some.ensures.1)
+      | in-None+in_ok-left-in-None w ↦ rw (w.self-is, w.parts-is, w.steps-is, w.left-is)
+          (subst (λ ps. IsDone c.args.self.now w.paint_block.new.self c.halves-left.result.0
+          w.in_ok-left-in-None.left (c.args.bits - 1) c.args.first
+          (c.args.first + (c.args.last - c.args.first) / 2) ps w.paint_block.new.parts.now
+          c.args.steps.now w.paint_block.new.steps) w.in-None.ensures.1 (record {
+            of = w.in_ok-left-in-None.ensures.of;
+            painted = w.in_ok-left-in-None.ensures.painted;
+            left = w.in_ok-left-in-None.ensures.left;
+            ticks = w.in_ok-left-in-None.ensures.ticks;
+            cost = w.in_ok-left-in-None.ensures.cost;
+            grows = w.in_ok-left-in-None.ensures.grows;
+            kept = w.in_ok-left-in-None.ensures.kept;
+            under = w.in_ok-left-in-None.ensures.under;
+            sound = w.in_ok-left-in-None.ensures.sound;
+          }))
+    ] in
+    let kept = left.kept c.halves-left.result.1 c.halves-left.ensures.right_of in
     omega (
       arith,
-      c.in_ok-left.ensures.cost,
-      c.in_err-right.ensures.cost,
-      cost_of_halves c.args.first c.args.last c.args.bits c.args.parts.now c.in-Some.part.now
-          c.requires.block c.requires.touching c.in-Some.ensures.value c.if-covers.ensures.1
-          c.front-lower.result.now c.back-upper.result.now c.front-lower.ensures
-          c.back-upper.ensures,
+      left.cost,
+      c.in_err-right-in-None-settled.ensures.cost,
+      ap (paint_cost (c.args.bits - 1) ((c.args.first + (c.args.last - c.args.first) / 2) + 1))
+          c.in-None-settled.ensures.1,
+      cost_of_halves c.args.first c.args.last c.args.bits c.args.parts.now.now c.requires.block c.requires.cut c.match-settled.parts.now left.left,
     )
 
-pub returns-in_err-right-clause-full : goal.returns-in_err-right-clause-full
-returns-in_err-right-clause-full g t c =
-    let p = err_from_is_err_and c.from_residual-in_err-right.result
-    c.from_residual-in_err-right.ensures.1 in
+pub returns-in_err-right-in-None-settled-clause-grows :
+    goal.returns-in_err-right-in-None-settled-clause-grows
+returns-in_err-right-in-None-settled-clause-grows g t c =
+    let h = are_halves c.args.first c.args.last c.args.bits c.args.parts.now.now c.requires.block c.requires.cut in
+    let left : IsDone c.args.self.now c.match-settled.self c.halves-left.result.0
+    c.match-settled.left (c.args.bits - 1) c.args.first (c.args.first + (c.args.last - c.args.first) / 2)
+    c.args.parts.now.now c.match-settled.parts.now c.args.steps.now c.match-settled.steps =
+    elim c.match-settled.branch [
+      | in-Some w ↦ rw (w.self-is, w.parts-is, w.steps-is, w.left-is)
+          (IsDone-settled c.args.self.now c.halves-left.result.0 _ (c.args.bits - 1) c.args.first
+          (c.args.first + (c.args.last - c.args.first) / 2) c.args.parts.now.now _ c.args.steps.now
+          c.requires.sound c.halves-left.ensures.left_of
+          (omega (arith, c.halves-left.ensures.left_low, c.requires.low)) h.lower
+          w.in-Some.ensures.0 w.in-Some.ensures.1)
+      | in-None+in_ok-left-in-None w ↦ rw (w.self-is, w.parts-is, w.steps-is, w.left-is)
+          (subst (λ ps. IsDone c.args.self.now w.paint_block.new.self c.halves-left.result.0
+          w.in_ok-left-in-None.left (c.args.bits - 1) c.args.first
+          (c.args.first + (c.args.last - c.args.first) / 2) ps w.paint_block.new.parts.now
+          c.args.steps.now w.paint_block.new.steps) w.in-None.ensures.1 (record {
+            of = w.in_ok-left-in-None.ensures.of;
+            painted = w.in_ok-left-in-None.ensures.painted;
+            left = w.in_ok-left-in-None.ensures.left;
+            ticks = w.in_ok-left-in-None.ensures.ticks;
+            cost = w.in_ok-left-in-None.ensures.cost;
+            grows = w.in_ok-left-in-None.ensures.grows;
+            kept = w.in_ok-left-in-None.ensures.kept;
+            under = w.in_ok-left-in-None.ensures.under;
+            sound = w.in_ok-left-in-None.ensures.sound;
+          }))
+    ] in
+    let kept = left.kept c.halves-left.result.1 c.halves-left.ensures.right_of in
+    GrowsBy-trans _ _ _ _ _ _ left.grows c.in_err-right-in-None-settled.ensures.grows
+    (omega (arith, left.ticks, c.in_err-right-in-None-settled.ensures.ticks))
+
+pub returns-in_err-right-in-None-settled-clause-full :
+    goal.returns-in_err-right-in-None-settled-clause-full
+returns-in_err-right-in-None-settled-clause-full g t c =
+    let h = are_halves c.args.first c.args.last c.args.bits c.args.parts.now.now c.requires.block c.requires.cut in
+    let left : IsDone c.args.self.now c.match-settled.self c.halves-left.result.0
+    c.match-settled.left (c.args.bits - 1) c.args.first (c.args.first + (c.args.last - c.args.first) / 2)
+    c.args.parts.now.now c.match-settled.parts.now c.args.steps.now c.match-settled.steps =
+    elim c.match-settled.branch [
+      | in-Some w ↦ rw (w.self-is, w.parts-is, w.steps-is, w.left-is)
+          (IsDone-settled c.args.self.now c.halves-left.result.0 _ (c.args.bits - 1) c.args.first
+          (c.args.first + (c.args.last - c.args.first) / 2) c.args.parts.now.now _ c.args.steps.now
+          c.requires.sound c.halves-left.ensures.left_of
+          (omega (arith, c.halves-left.ensures.left_low, c.requires.low)) h.lower
+          w.in-Some.ensures.0 w.in-Some.ensures.1)
+      | in-None+in_ok-left-in-None w ↦ rw (w.self-is, w.parts-is, w.steps-is, w.left-is)
+          (subst (λ ps. IsDone c.args.self.now w.paint_block.new.self c.halves-left.result.0
+          w.in_ok-left-in-None.left (c.args.bits - 1) c.args.first
+          (c.args.first + (c.args.last - c.args.first) / 2) ps w.paint_block.new.parts.now
+          c.args.steps.now w.paint_block.new.steps) w.in-None.ensures.1 (record {
+            of = w.in_ok-left-in-None.ensures.of;
+            painted = w.in_ok-left-in-None.ensures.painted;
+            left = w.in_ok-left-in-None.ensures.left;
+            ticks = w.in_ok-left-in-None.ensures.ticks;
+            cost = w.in_ok-left-in-None.ensures.cost;
+            grows = w.in_ok-left-in-None.ensures.grows;
+            kept = w.in_ok-left-in-None.ensures.kept;
+            under = w.in_ok-left-in-None.ensures.under;
+            sound = w.in_ok-left-in-None.ensures.sound;
+          }))
+    ] in
+    let kept = left.kept c.halves-left.result.1 c.halves-left.ensures.right_of in
+    let p = err_from_is_err_and c.from_residual-in_err-right-in-None-settled.result
+    c.from_residual-in_err-right-in-None-settled.ensures.1 in
     λ e.
-    let fault : c.in_err-right.field-0.0 ≡ Full = cc (p.1, p.2, e) in
-    let said = c.in_err-right.ensures.full (ap Err fault) in (
+    let fault : c.in_err-right-in-None-settled.field-0.0 ≡ Full = cc (p.1, p.2, e) in
+    let said = c.in_err-right-in-None-settled.ensures.full (ap Err fault) in (
       said.0,
-      λ held. said.1 (right_held c.args.first c.args.last
-          c.args.bits c.args.parts.now c.in-Some.part.now c.requires.block
-          c.requires.touching c.in-Some.ensures.value c.if-covers.ensures.1 c.front-lower.result.now
-          c.back-upper.result.now c.front-lower.ensures c.back-upper.ensures
-          (meaning c.args.self.now c.args.rec) (meaning c.args.self.now c.halves-left.result.0)
-          (meaning c.paint_block.new.self c.halves-left.result.1) c.halves-left.ensures.left_look
-          (λ w. c.halves-left.ensures.right_look w ∙ ap (λ u. look u w)
-          (sym (c.in_ok-left.ensures.kept c.halves-left.result.1 c.halves-left.ensures.right_of).1))
-          c.paint_block-2.new.self c.in_err-right.ensures.sound held),
+      λ held. said.1 (subst (HoldsPainted c.paint_block-in-None-settled.new.self
+          (meaning c.match-settled.self c.halves-left.result.1) (c.args.bits - 1)
+          ((c.args.first + (c.args.last - c.args.first) / 2) + 1)) (sym c.in-None-settled.ensures.1)
+          (right_held c.args.first c.args.last c.args.bits c.args.parts.now.now c.requires.block c.requires.cut
+          c.match-settled.parts.now left.left (meaning c.args.self.now c.args.rec) (meaning c.args.self.now c.halves-left.result.0)
+          (meaning c.match-settled.self c.halves-left.result.1) c.halves-left.ensures.left_look
+          (λ w. c.halves-left.ensures.right_look w ∙ ap (λ u. look u w) (sym kept.1))
+          c.paint_block-in-None-settled.new.self c.in_err-right-in-None-settled.ensures.sound
+          held)),
     )
+
+pub mk-requires-clause-left_low : goal.mk-requires-clause-left_low
+mk-requires-clause-left_low g t c =
+    let h = are_halves c.args.first c.args.last c.args.bits c.args.parts.now.now c.requires.block c.requires.cut in
+    let left : IsDone c.args.self.now c.match-settled.self c.halves-left.result.0
+    c.match-settled.left (c.args.bits - 1) c.args.first (c.args.first + (c.args.last - c.args.first) / 2)
+    c.args.parts.now.now c.match-settled.parts.now c.args.steps.now c.match-settled.steps =
+    elim c.match-settled.branch [
+      | in-Some w ↦ rw (w.self-is, w.parts-is, w.steps-is, w.left-is)
+          (IsDone-settled c.args.self.now c.halves-left.result.0 _ (c.args.bits - 1) c.args.first
+          (c.args.first + (c.args.last - c.args.first) / 2) c.args.parts.now.now _ c.args.steps.now
+          c.requires.sound c.halves-left.ensures.left_of
+          (omega (arith, c.halves-left.ensures.left_low, c.requires.low)) h.lower
+          w.in-Some.ensures.0 w.in-Some.ensures.1)
+      | in-None+in_ok-left-in-None w ↦ rw (w.self-is, w.parts-is, w.steps-is, w.left-is)
+          (subst (λ ps. IsDone c.args.self.now w.paint_block.new.self c.halves-left.result.0
+          w.in_ok-left-in-None.left (c.args.bits - 1) c.args.first
+          (c.args.first + (c.args.last - c.args.first) / 2) ps w.paint_block.new.parts.now
+          c.args.steps.now w.paint_block.new.steps) w.in-None.ensures.1 (record {
+            of = w.in_ok-left-in-None.ensures.of;
+            painted = w.in_ok-left-in-None.ensures.painted;
+            left = w.in_ok-left-in-None.ensures.left;
+            ticks = w.in_ok-left-in-None.ensures.ticks;
+            cost = w.in_ok-left-in-None.ensures.cost;
+            grows = w.in_ok-left-in-None.ensures.grows;
+            kept = w.in_ok-left-in-None.ensures.kept;
+            under = w.in_ok-left-in-None.ensures.under;
+            sound = w.in_ok-left-in-None.ensures.sound;
+          }))
+    ] in
+    let kept = left.kept c.halves-left.result.1 c.halves-left.ensures.right_of in
+    let right : IsDone c.match-settled.self c.match-settled-2.self c.halves-left.result.1
+    c.match-settled-2.right (c.args.bits - 1) ((c.args.first + (c.args.last - c.args.first) / 2) + 1)
+    c.args.last c.match-settled.parts.now c.match-settled-2.parts.now c.match-settled.steps
+    c.match-settled-2.steps =
+    elim c.match-settled-2.branch [
+      | in-Some-settled w ↦ rw (w.self-is, w.parts-is, w.steps-is, w.right-is)
+          (IsDone-settled c.match-settled.self c.halves-left.result.1 _ (c.args.bits - 1)
+          ((c.args.first + (c.args.last - c.args.first) / 2) + 1) c.args.last
+          c.match-settled.parts.now _ c.match-settled.steps left.sound kept.0
+          (omega (arith, ap height kept.1, c.halves-left.ensures.right_low, c.requires.low))
+          h.upper w.in-Some-settled.ensures.0 w.in-Some-settled.ensures.1)
+      | in-None-settled+in_ok-right-in-None-settled w ↦
+          rw (w.self-is, w.parts-is, w.steps-is, w.right-is)
+          (subst (λ ps. IsDone c.match-settled.self w.paint_block-in-None-settled.new.self
+          c.halves-left.result.1 w.in_ok-right-in-None-settled.right (c.args.bits - 1)
+          ((c.args.first + (c.args.last - c.args.first) / 2) + 1) c.args.last ps
+          w.paint_block-in-None-settled.new.parts.now c.match-settled.steps
+          w.paint_block-in-None-settled.new.steps) w.in-None-settled.ensures.1 (record {
+            of = w.in_ok-right-in-None-settled.ensures.of;
+            painted = w.in_ok-right-in-None-settled.ensures.painted;
+            left = w.in_ok-right-in-None-settled.ensures.left;
+            ticks = w.in_ok-right-in-None-settled.ensures.ticks;
+            cost = w.in_ok-right-in-None-settled.ensures.cost;
+            grows = w.in_ok-right-in-None-settled.ensures.grows;
+            kept = w.in_ok-right-in-None-settled.ensures.kept;
+            under = w.in_ok-right-in-None-settled.ensures.under;
+            sound = w.in_ok-right-in-None-settled.ensures.sound;
+          }))
+    ] in
+    omega (
+      arith,
+      ap height (right.kept c.match-settled.left left.of).1,
+      left.painted.low,
+      c.requires.bits,
+      h.some,
+    )
+
+pub mk-requires-clause-right_low : goal.mk-requires-clause-right_low
+mk-requires-clause-right_low g t c =
+    let h = are_halves c.args.first c.args.last c.args.bits c.args.parts.now.now c.requires.block c.requires.cut in
+    let left : IsDone c.args.self.now c.match-settled.self c.halves-left.result.0
+    c.match-settled.left (c.args.bits - 1) c.args.first (c.args.first + (c.args.last - c.args.first) / 2)
+    c.args.parts.now.now c.match-settled.parts.now c.args.steps.now c.match-settled.steps =
+    elim c.match-settled.branch [
+      | in-Some w ↦ rw (w.self-is, w.parts-is, w.steps-is, w.left-is)
+          (IsDone-settled c.args.self.now c.halves-left.result.0 _ (c.args.bits - 1) c.args.first
+          (c.args.first + (c.args.last - c.args.first) / 2) c.args.parts.now.now _ c.args.steps.now
+          c.requires.sound c.halves-left.ensures.left_of
+          (omega (arith, c.halves-left.ensures.left_low, c.requires.low)) h.lower
+          w.in-Some.ensures.0 w.in-Some.ensures.1)
+      | in-None+in_ok-left-in-None w ↦ rw (w.self-is, w.parts-is, w.steps-is, w.left-is)
+          (subst (λ ps. IsDone c.args.self.now w.paint_block.new.self c.halves-left.result.0
+          w.in_ok-left-in-None.left (c.args.bits - 1) c.args.first
+          (c.args.first + (c.args.last - c.args.first) / 2) ps w.paint_block.new.parts.now
+          c.args.steps.now w.paint_block.new.steps) w.in-None.ensures.1 (record {
+            of = w.in_ok-left-in-None.ensures.of;
+            painted = w.in_ok-left-in-None.ensures.painted;
+            left = w.in_ok-left-in-None.ensures.left;
+            ticks = w.in_ok-left-in-None.ensures.ticks;
+            cost = w.in_ok-left-in-None.ensures.cost;
+            grows = w.in_ok-left-in-None.ensures.grows;
+            kept = w.in_ok-left-in-None.ensures.kept;
+            under = w.in_ok-left-in-None.ensures.under;
+            sound = w.in_ok-left-in-None.ensures.sound;
+          }))
+    ] in
+    let kept = left.kept c.halves-left.result.1 c.halves-left.ensures.right_of in
+    let right : IsDone c.match-settled.self c.match-settled-2.self c.halves-left.result.1
+    c.match-settled-2.right (c.args.bits - 1) ((c.args.first + (c.args.last - c.args.first) / 2) + 1)
+    c.args.last c.match-settled.parts.now c.match-settled-2.parts.now c.match-settled.steps
+    c.match-settled-2.steps =
+    elim c.match-settled-2.branch [
+      | in-Some-settled w ↦ rw (w.self-is, w.parts-is, w.steps-is, w.right-is)
+          (IsDone-settled c.match-settled.self c.halves-left.result.1 _ (c.args.bits - 1)
+          ((c.args.first + (c.args.last - c.args.first) / 2) + 1) c.args.last
+          c.match-settled.parts.now _ c.match-settled.steps left.sound kept.0
+          (omega (arith, ap height kept.1, c.halves-left.ensures.right_low, c.requires.low))
+          h.upper w.in-Some-settled.ensures.0 w.in-Some-settled.ensures.1)
+      | in-None-settled+in_ok-right-in-None-settled w ↦
+          rw (w.self-is, w.parts-is, w.steps-is, w.right-is)
+          (subst (λ ps. IsDone c.match-settled.self w.paint_block-in-None-settled.new.self
+          c.halves-left.result.1 w.in_ok-right-in-None-settled.right (c.args.bits - 1)
+          ((c.args.first + (c.args.last - c.args.first) / 2) + 1) c.args.last ps
+          w.paint_block-in-None-settled.new.parts.now c.match-settled.steps
+          w.paint_block-in-None-settled.new.steps) w.in-None-settled.ensures.1 (record {
+            of = w.in_ok-right-in-None-settled.ensures.of;
+            painted = w.in_ok-right-in-None-settled.ensures.painted;
+            left = w.in_ok-right-in-None-settled.ensures.left;
+            ticks = w.in_ok-right-in-None-settled.ensures.ticks;
+            cost = w.in_ok-right-in-None-settled.ensures.cost;
+            grows = w.in_ok-right-in-None-settled.ensures.grows;
+            kept = w.in_ok-right-in-None-settled.ensures.kept;
+            under = w.in_ok-right-in-None-settled.ensures.under;
+            sound = w.in_ok-right-in-None-settled.ensures.sound;
+          }))
+    ] in
+    omega (arith, right.painted.low, c.requires.bits, h.some)
 
 pub returns-clause-painted : goal.returns-clause-painted
 returns-clause-painted g t c =
-    let both =
-    painted_of_halves c.args.first c.args.last c.args.bits c.args.parts.now c.in-Some.part.now
-    c.requires.block c.requires.touching c.in-Some.ensures.value c.if-covers.ensures.1
-    c.front-lower.result.now c.back-upper.result.now c.front-lower.ensures c.back-upper.ensures
-    (meaning c.args.self.now c.args.rec) (meaning c.args.self.now c.halves-left.result.0)
-    (meaning c.paint_block.new.self c.halves-left.result.1) c.halves-left.ensures.left_look
-    (λ w. c.halves-left.ensures.right_look w ∙ ap (λ u. look u w)
-    (sym (c.in_ok-left.ensures.kept c.halves-left.result.1 c.halves-left.ensures.right_of).1)) _ _
+    let h = are_halves c.args.first c.args.last c.args.bits c.args.parts.now.now c.requires.block c.requires.cut in
+    let left : IsDone c.args.self.now c.match-settled.self c.halves-left.result.0
+    c.match-settled.left (c.args.bits - 1) c.args.first (c.args.first + (c.args.last - c.args.first) / 2)
+    c.args.parts.now.now c.match-settled.parts.now c.args.steps.now c.match-settled.steps =
+    elim c.match-settled.branch [
+      | in-Some w ↦ rw (w.self-is, w.parts-is, w.steps-is, w.left-is)
+          (IsDone-settled c.args.self.now c.halves-left.result.0 _ (c.args.bits - 1) c.args.first
+          (c.args.first + (c.args.last - c.args.first) / 2) c.args.parts.now.now _ c.args.steps.now
+          c.requires.sound c.halves-left.ensures.left_of
+          (omega (arith, c.halves-left.ensures.left_low, c.requires.low)) h.lower
+          w.in-Some.ensures.0 w.in-Some.ensures.1)
+      | in-None+in_ok-left-in-None w ↦ rw (w.self-is, w.parts-is, w.steps-is, w.left-is)
+          (subst (λ ps. IsDone c.args.self.now w.paint_block.new.self c.halves-left.result.0
+          w.in_ok-left-in-None.left (c.args.bits - 1) c.args.first
+          (c.args.first + (c.args.last - c.args.first) / 2) ps w.paint_block.new.parts.now
+          c.args.steps.now w.paint_block.new.steps) w.in-None.ensures.1 (record {
+            of = w.in_ok-left-in-None.ensures.of;
+            painted = w.in_ok-left-in-None.ensures.painted;
+            left = w.in_ok-left-in-None.ensures.left;
+            ticks = w.in_ok-left-in-None.ensures.ticks;
+            cost = w.in_ok-left-in-None.ensures.cost;
+            grows = w.in_ok-left-in-None.ensures.grows;
+            kept = w.in_ok-left-in-None.ensures.kept;
+            under = w.in_ok-left-in-None.ensures.under;
+            sound = w.in_ok-left-in-None.ensures.sound;
+          }))
+    ] in
+    let kept = left.kept c.halves-left.result.1 c.halves-left.ensures.right_of in
+    let right : IsDone c.match-settled.self c.match-settled-2.self c.halves-left.result.1
+    c.match-settled-2.right (c.args.bits - 1) ((c.args.first + (c.args.last - c.args.first) / 2) + 1)
+    c.args.last c.match-settled.parts.now c.match-settled-2.parts.now c.match-settled.steps
+    c.match-settled-2.steps =
+    elim c.match-settled-2.branch [
+      | in-Some-settled w ↦ rw (w.self-is, w.parts-is, w.steps-is, w.right-is)
+          (IsDone-settled c.match-settled.self c.halves-left.result.1 _ (c.args.bits - 1)
+          ((c.args.first + (c.args.last - c.args.first) / 2) + 1) c.args.last
+          c.match-settled.parts.now _ c.match-settled.steps left.sound kept.0
+          (omega (arith, ap height kept.1, c.halves-left.ensures.right_low, c.requires.low))
+          h.upper w.in-Some-settled.ensures.0 w.in-Some-settled.ensures.1)
+      | in-None-settled+in_ok-right-in-None-settled w ↦
+          rw (w.self-is, w.parts-is, w.steps-is, w.right-is)
+          (subst (λ ps. IsDone c.match-settled.self w.paint_block-in-None-settled.new.self
+          c.halves-left.result.1 w.in_ok-right-in-None-settled.right (c.args.bits - 1)
+          ((c.args.first + (c.args.last - c.args.first) / 2) + 1) c.args.last ps
+          w.paint_block-in-None-settled.new.parts.now c.match-settled.steps
+          w.paint_block-in-None-settled.new.steps) w.in-None-settled.ensures.1 (record {
+            of = w.in_ok-right-in-None-settled.ensures.of;
+            painted = w.in_ok-right-in-None-settled.ensures.painted;
+            left = w.in_ok-right-in-None-settled.ensures.left;
+            ticks = w.in_ok-right-in-None-settled.ensures.ticks;
+            cost = w.in_ok-right-in-None-settled.ensures.cost;
+            grows = w.in_ok-right-in-None-settled.ensures.grows;
+            kept = w.in_ok-right-in-None-settled.ensures.kept;
+            under = w.in_ok-right-in-None-settled.ensures.under;
+            sound = w.in_ok-right-in-None-settled.ensures.sound;
+          }))
+    ] in
+    let both = painted_of_halves c.args.first c.args.last c.args.bits c.args.parts.now.now c.requires.block c.requires.cut
+    c.match-settled.parts.now left.left (meaning c.args.self.now c.args.rec) (meaning c.args.self.now c.halves-left.result.0)
+    (meaning c.match-settled.self c.halves-left.result.1) c.halves-left.ensures.left_look
+    (λ w. c.halves-left.ensures.right_look w ∙ ap (λ u. look u w) (sym kept.1)) _ _
     (subst (λ u. IsPainted (meaning c.args.self.now c.halves-left.result.0) u
-    (c.args.bits - 1) c.args.first c.front-lower.result.now)
-    (sym (c.in_ok-right.ensures.kept c.in_ok-left.left c.in_ok-left.ensures.of).1)
-    c.in_ok-left.ensures.painted) c.in_ok-right.ensures.painted in
+    (c.args.bits - 1) c.args.first c.args.parts.now.now)
+    (sym (right.kept c.match-settled.left left.of).1) left.painted) right.painted in
     IfOk-weaker c.mk.result _ _ (λ r is. subst (λ u. IsPainted (meaning c.args.self.now c.args.rec)
-    u c.args.bits c.args.first c.args.parts.now) (sym is) both) c.mk.ensures.meaning
+    u c.args.bits c.args.first c.args.parts.now.now) (sym is) both) c.mk.ensures.meaning
 
 pub returns-clause-cost : goal.returns-clause-cost
 returns-clause-cost g t c =
+    let h = are_halves c.args.first c.args.last c.args.bits c.args.parts.now.now c.requires.block c.requires.cut in
+    let left : IsDone c.args.self.now c.match-settled.self c.halves-left.result.0
+    c.match-settled.left (c.args.bits - 1) c.args.first (c.args.first + (c.args.last - c.args.first) / 2)
+    c.args.parts.now.now c.match-settled.parts.now c.args.steps.now c.match-settled.steps =
+    elim c.match-settled.branch [
+      | in-Some w ↦ rw (w.self-is, w.parts-is, w.steps-is, w.left-is)
+          (IsDone-settled c.args.self.now c.halves-left.result.0 _ (c.args.bits - 1) c.args.first
+          (c.args.first + (c.args.last - c.args.first) / 2) c.args.parts.now.now _ c.args.steps.now
+          c.requires.sound c.halves-left.ensures.left_of
+          (omega (arith, c.halves-left.ensures.left_low, c.requires.low)) h.lower
+          w.in-Some.ensures.0 w.in-Some.ensures.1)
+      | in-None+in_ok-left-in-None w ↦ rw (w.self-is, w.parts-is, w.steps-is, w.left-is)
+          (subst (λ ps. IsDone c.args.self.now w.paint_block.new.self c.halves-left.result.0
+          w.in_ok-left-in-None.left (c.args.bits - 1) c.args.first
+          (c.args.first + (c.args.last - c.args.first) / 2) ps w.paint_block.new.parts.now
+          c.args.steps.now w.paint_block.new.steps) w.in-None.ensures.1 (record {
+            of = w.in_ok-left-in-None.ensures.of;
+            painted = w.in_ok-left-in-None.ensures.painted;
+            left = w.in_ok-left-in-None.ensures.left;
+            ticks = w.in_ok-left-in-None.ensures.ticks;
+            cost = w.in_ok-left-in-None.ensures.cost;
+            grows = w.in_ok-left-in-None.ensures.grows;
+            kept = w.in_ok-left-in-None.ensures.kept;
+            under = w.in_ok-left-in-None.ensures.under;
+            sound = w.in_ok-left-in-None.ensures.sound;
+          }))
+    ] in
+    let kept = left.kept c.halves-left.result.1 c.halves-left.ensures.right_of in
+    let right : IsDone c.match-settled.self c.match-settled-2.self c.halves-left.result.1
+    c.match-settled-2.right (c.args.bits - 1) ((c.args.first + (c.args.last - c.args.first) / 2) + 1)
+    c.args.last c.match-settled.parts.now c.match-settled-2.parts.now c.match-settled.steps
+    c.match-settled-2.steps =
+    elim c.match-settled-2.branch [
+      | in-Some-settled w ↦ rw (w.self-is, w.parts-is, w.steps-is, w.right-is)
+          (IsDone-settled c.match-settled.self c.halves-left.result.1 _ (c.args.bits - 1)
+          ((c.args.first + (c.args.last - c.args.first) / 2) + 1) c.args.last
+          c.match-settled.parts.now _ c.match-settled.steps left.sound kept.0
+          (omega (arith, ap height kept.1, c.halves-left.ensures.right_low, c.requires.low))
+          h.upper w.in-Some-settled.ensures.0 w.in-Some-settled.ensures.1)
+      | in-None-settled+in_ok-right-in-None-settled w ↦
+          rw (w.self-is, w.parts-is, w.steps-is, w.right-is)
+          (subst (λ ps. IsDone c.match-settled.self w.paint_block-in-None-settled.new.self
+          c.halves-left.result.1 w.in_ok-right-in-None-settled.right (c.args.bits - 1)
+          ((c.args.first + (c.args.last - c.args.first) / 2) + 1) c.args.last ps
+          w.paint_block-in-None-settled.new.parts.now c.match-settled.steps
+          w.paint_block-in-None-settled.new.steps) w.in-None-settled.ensures.1 (record {
+            of = w.in_ok-right-in-None-settled.ensures.of;
+            painted = w.in_ok-right-in-None-settled.ensures.painted;
+            left = w.in_ok-right-in-None-settled.ensures.left;
+            ticks = w.in_ok-right-in-None-settled.ensures.ticks;
+            cost = w.in_ok-right-in-None-settled.ensures.cost;
+            grows = w.in_ok-right-in-None-settled.ensures.grows;
+            kept = w.in_ok-right-in-None-settled.ensures.kept;
+            under = w.in_ok-right-in-None-settled.ensures.under;
+            sound = w.in_ok-right-in-None-settled.ensures.sound;
+          }))
+    ] in
     omega (
       arith,
-      c.in_ok-left.ensures.cost,
-      c.in_ok-right.ensures.cost,
+      left.cost,
+      right.cost,
       c.mk.ensures.steps,
-      cost_of_halves c.args.first c.args.last c.args.bits c.args.parts.now c.in-Some.part.now
-          c.requires.block c.requires.touching c.in-Some.ensures.value c.if-covers.ensures.1
-          c.front-lower.result.now c.back-upper.result.now c.front-lower.ensures
-          c.back-upper.ensures,
+      cost_of_halves c.args.first c.args.last c.args.bits c.args.parts.now.now c.requires.block c.requires.cut c.match-settled.parts.now left.left,
     )
 
 pub returns-clause-grows : goal.returns-clause-grows
 returns-clause-grows g t c =
-    GrowsBy-trans _ _ _ _ _ _ c.in_ok-left.ensures.grows
-    (GrowsBy-trans _ _ _ _ _ _ c.in_ok-right.ensures.grows c.mk.ensures.grows (le_refl _))
-    (omega (arith, c.in_ok-left.ensures.ticks, c.in_ok-right.ensures.ticks, c.mk.ensures.steps))
+    let h = are_halves c.args.first c.args.last c.args.bits c.args.parts.now.now c.requires.block c.requires.cut in
+    let left : IsDone c.args.self.now c.match-settled.self c.halves-left.result.0
+    c.match-settled.left (c.args.bits - 1) c.args.first (c.args.first + (c.args.last - c.args.first) / 2)
+    c.args.parts.now.now c.match-settled.parts.now c.args.steps.now c.match-settled.steps =
+    elim c.match-settled.branch [
+      | in-Some w ↦ rw (w.self-is, w.parts-is, w.steps-is, w.left-is)
+          (IsDone-settled c.args.self.now c.halves-left.result.0 _ (c.args.bits - 1) c.args.first
+          (c.args.first + (c.args.last - c.args.first) / 2) c.args.parts.now.now _ c.args.steps.now
+          c.requires.sound c.halves-left.ensures.left_of
+          (omega (arith, c.halves-left.ensures.left_low, c.requires.low)) h.lower
+          w.in-Some.ensures.0 w.in-Some.ensures.1)
+      | in-None+in_ok-left-in-None w ↦ rw (w.self-is, w.parts-is, w.steps-is, w.left-is)
+          (subst (λ ps. IsDone c.args.self.now w.paint_block.new.self c.halves-left.result.0
+          w.in_ok-left-in-None.left (c.args.bits - 1) c.args.first
+          (c.args.first + (c.args.last - c.args.first) / 2) ps w.paint_block.new.parts.now
+          c.args.steps.now w.paint_block.new.steps) w.in-None.ensures.1 (record {
+            of = w.in_ok-left-in-None.ensures.of;
+            painted = w.in_ok-left-in-None.ensures.painted;
+            left = w.in_ok-left-in-None.ensures.left;
+            ticks = w.in_ok-left-in-None.ensures.ticks;
+            cost = w.in_ok-left-in-None.ensures.cost;
+            grows = w.in_ok-left-in-None.ensures.grows;
+            kept = w.in_ok-left-in-None.ensures.kept;
+            under = w.in_ok-left-in-None.ensures.under;
+            sound = w.in_ok-left-in-None.ensures.sound;
+          }))
+    ] in
+    let kept = left.kept c.halves-left.result.1 c.halves-left.ensures.right_of in
+    let right : IsDone c.match-settled.self c.match-settled-2.self c.halves-left.result.1
+    c.match-settled-2.right (c.args.bits - 1) ((c.args.first + (c.args.last - c.args.first) / 2) + 1)
+    c.args.last c.match-settled.parts.now c.match-settled-2.parts.now c.match-settled.steps
+    c.match-settled-2.steps =
+    elim c.match-settled-2.branch [
+      | in-Some-settled w ↦ rw (w.self-is, w.parts-is, w.steps-is, w.right-is)
+          (IsDone-settled c.match-settled.self c.halves-left.result.1 _ (c.args.bits - 1)
+          ((c.args.first + (c.args.last - c.args.first) / 2) + 1) c.args.last
+          c.match-settled.parts.now _ c.match-settled.steps left.sound kept.0
+          (omega (arith, ap height kept.1, c.halves-left.ensures.right_low, c.requires.low))
+          h.upper w.in-Some-settled.ensures.0 w.in-Some-settled.ensures.1)
+      | in-None-settled+in_ok-right-in-None-settled w ↦
+          rw (w.self-is, w.parts-is, w.steps-is, w.right-is)
+          (subst (λ ps. IsDone c.match-settled.self w.paint_block-in-None-settled.new.self
+          c.halves-left.result.1 w.in_ok-right-in-None-settled.right (c.args.bits - 1)
+          ((c.args.first + (c.args.last - c.args.first) / 2) + 1) c.args.last ps
+          w.paint_block-in-None-settled.new.parts.now c.match-settled.steps
+          w.paint_block-in-None-settled.new.steps) w.in-None-settled.ensures.1 (record {
+            of = w.in_ok-right-in-None-settled.ensures.of;
+            painted = w.in_ok-right-in-None-settled.ensures.painted;
+            left = w.in_ok-right-in-None-settled.ensures.left;
+            ticks = w.in_ok-right-in-None-settled.ensures.ticks;
+            cost = w.in_ok-right-in-None-settled.ensures.cost;
+            grows = w.in_ok-right-in-None-settled.ensures.grows;
+            kept = w.in_ok-right-in-None-settled.ensures.kept;
+            under = w.in_ok-right-in-None-settled.ensures.under;
+            sound = w.in_ok-right-in-None-settled.ensures.sound;
+          }))
+    ] in
+    GrowsBy-trans _ _ _ _ _ _ left.grows
+    (GrowsBy-trans _ _ _ _ _ _ right.grows c.mk.ensures.grows (le_refl _))
+    (omega (arith, left.ticks, right.ticks, c.mk.ensures.steps))
 
 pub returns-clause-under : goal.returns-clause-under
 returns-clause-under g t c =
+    let h = are_halves c.args.first c.args.last c.args.bits c.args.parts.now.now c.requires.block c.requires.cut in
+    let left : IsDone c.args.self.now c.match-settled.self c.halves-left.result.0
+    c.match-settled.left (c.args.bits - 1) c.args.first (c.args.first + (c.args.last - c.args.first) / 2)
+    c.args.parts.now.now c.match-settled.parts.now c.args.steps.now c.match-settled.steps =
+    elim c.match-settled.branch [
+      | in-Some w ↦ rw (w.self-is, w.parts-is, w.steps-is, w.left-is)
+          (IsDone-settled c.args.self.now c.halves-left.result.0 _ (c.args.bits - 1) c.args.first
+          (c.args.first + (c.args.last - c.args.first) / 2) c.args.parts.now.now _ c.args.steps.now
+          c.requires.sound c.halves-left.ensures.left_of
+          (omega (arith, c.halves-left.ensures.left_low, c.requires.low)) h.lower
+          w.in-Some.ensures.0 w.in-Some.ensures.1)
+      | in-None+in_ok-left-in-None w ↦ rw (w.self-is, w.parts-is, w.steps-is, w.left-is)
+          (subst (λ ps. IsDone c.args.self.now w.paint_block.new.self c.halves-left.result.0
+          w.in_ok-left-in-None.left (c.args.bits - 1) c.args.first
+          (c.args.first + (c.args.last - c.args.first) / 2) ps w.paint_block.new.parts.now
+          c.args.steps.now w.paint_block.new.steps) w.in-None.ensures.1 (record {
+            of = w.in_ok-left-in-None.ensures.of;
+            painted = w.in_ok-left-in-None.ensures.painted;
+            left = w.in_ok-left-in-None.ensures.left;
+            ticks = w.in_ok-left-in-None.ensures.ticks;
+            cost = w.in_ok-left-in-None.ensures.cost;
+            grows = w.in_ok-left-in-None.ensures.grows;
+            kept = w.in_ok-left-in-None.ensures.kept;
+            under = w.in_ok-left-in-None.ensures.under;
+            sound = w.in_ok-left-in-None.ensures.sound;
+          }))
+    ] in
+    let kept = left.kept c.halves-left.result.1 c.halves-left.ensures.right_of in
+    let right : IsDone c.match-settled.self c.match-settled-2.self c.halves-left.result.1
+    c.match-settled-2.right (c.args.bits - 1) ((c.args.first + (c.args.last - c.args.first) / 2) + 1)
+    c.args.last c.match-settled.parts.now c.match-settled-2.parts.now c.match-settled.steps
+    c.match-settled-2.steps =
+    elim c.match-settled-2.branch [
+      | in-Some-settled w ↦ rw (w.self-is, w.parts-is, w.steps-is, w.right-is)
+          (IsDone-settled c.match-settled.self c.halves-left.result.1 _ (c.args.bits - 1)
+          ((c.args.first + (c.args.last - c.args.first) / 2) + 1) c.args.last
+          c.match-settled.parts.now _ c.match-settled.steps left.sound kept.0
+          (omega (arith, ap height kept.1, c.halves-left.ensures.right_low, c.requires.low))
+          h.upper w.in-Some-settled.ensures.0 w.in-Some-settled.ensures.1)
+      | in-None-settled+in_ok-right-in-None-settled w ↦
+          rw (w.self-is, w.parts-is, w.steps-is, w.right-is)
+          (subst (λ ps. IsDone c.match-settled.self w.paint_block-in-None-settled.new.self
+          c.halves-left.result.1 w.in_ok-right-in-None-settled.right (c.args.bits - 1)
+          ((c.args.first + (c.args.last - c.args.first) / 2) + 1) c.args.last ps
+          w.paint_block-in-None-settled.new.parts.now c.match-settled.steps
+          w.paint_block-in-None-settled.new.steps) w.in-None-settled.ensures.1 (record {
+            of = w.in_ok-right-in-None-settled.ensures.of;
+            painted = w.in_ok-right-in-None-settled.ensures.painted;
+            left = w.in_ok-right-in-None-settled.ensures.left;
+            ticks = w.in_ok-right-in-None-settled.ensures.ticks;
+            cost = w.in_ok-right-in-None-settled.ensures.cost;
+            grows = w.in_ok-right-in-None-settled.ensures.grows;
+            kept = w.in_ok-right-in-None-settled.ensures.kept;
+            under = w.in_ok-right-in-None-settled.ensures.under;
+            sound = w.in_ok-right-in-None-settled.ensures.sound;
+          }))
+    ] in
     IfOk-weaker c.mk.result _ (AddedUnder c.args.self.now c.mk.new.self)
-    (λ r said. AddedUnder-join c.args.self.now c.paint_block.new.self c.paint_block-2.new.self
-    c.mk.new.self c.in_ok-left.left c.in_ok-right.right r c.mk.ensures.sound c.in_ok-left.ensures.of
-    c.in_ok-right.ensures.of
-    c.in_ok-right.ensures.kept c.mk.ensures.kept said.0 c.in_ok-left.ensures.under
-    c.in_ok-right.ensures.under said.1)
+    (λ r said. AddedUnder-join c.args.self.now c.match-settled.self c.match-settled-2.self
+    c.mk.new.self c.match-settled.left c.match-settled-2.right r c.mk.ensures.sound left.of
+    right.of right.kept c.mk.ensures.kept said.0 left.under right.under said.1)
     (IfOk-both c.mk.result _ _ c.mk.ensures.meaning c.mk.ensures.under)
 
 pub returns-clause-full : goal.returns-clause-full
-returns-clause-full g t c = λ e.
+returns-clause-full g t c =
+    let h = are_halves c.args.first c.args.last c.args.bits c.args.parts.now.now c.requires.block c.requires.cut in
+    let left : IsDone c.args.self.now c.match-settled.self c.halves-left.result.0
+    c.match-settled.left (c.args.bits - 1) c.args.first (c.args.first + (c.args.last - c.args.first) / 2)
+    c.args.parts.now.now c.match-settled.parts.now c.args.steps.now c.match-settled.steps =
+    elim c.match-settled.branch [
+      | in-Some w ↦ rw (w.self-is, w.parts-is, w.steps-is, w.left-is)
+          (IsDone-settled c.args.self.now c.halves-left.result.0 _ (c.args.bits - 1) c.args.first
+          (c.args.first + (c.args.last - c.args.first) / 2) c.args.parts.now.now _ c.args.steps.now
+          c.requires.sound c.halves-left.ensures.left_of
+          (omega (arith, c.halves-left.ensures.left_low, c.requires.low)) h.lower
+          w.in-Some.ensures.0 w.in-Some.ensures.1)
+      | in-None+in_ok-left-in-None w ↦ rw (w.self-is, w.parts-is, w.steps-is, w.left-is)
+          (subst (λ ps. IsDone c.args.self.now w.paint_block.new.self c.halves-left.result.0
+          w.in_ok-left-in-None.left (c.args.bits - 1) c.args.first
+          (c.args.first + (c.args.last - c.args.first) / 2) ps w.paint_block.new.parts.now
+          c.args.steps.now w.paint_block.new.steps) w.in-None.ensures.1 (record {
+            of = w.in_ok-left-in-None.ensures.of;
+            painted = w.in_ok-left-in-None.ensures.painted;
+            left = w.in_ok-left-in-None.ensures.left;
+            ticks = w.in_ok-left-in-None.ensures.ticks;
+            cost = w.in_ok-left-in-None.ensures.cost;
+            grows = w.in_ok-left-in-None.ensures.grows;
+            kept = w.in_ok-left-in-None.ensures.kept;
+            under = w.in_ok-left-in-None.ensures.under;
+            sound = w.in_ok-left-in-None.ensures.sound;
+          }))
+    ] in
+    let kept = left.kept c.halves-left.result.1 c.halves-left.ensures.right_of in
+    let right : IsDone c.match-settled.self c.match-settled-2.self c.halves-left.result.1
+    c.match-settled-2.right (c.args.bits - 1) ((c.args.first + (c.args.last - c.args.first) / 2) + 1)
+    c.args.last c.match-settled.parts.now c.match-settled-2.parts.now c.match-settled.steps
+    c.match-settled-2.steps =
+    elim c.match-settled-2.branch [
+      | in-Some-settled w ↦ rw (w.self-is, w.parts-is, w.steps-is, w.right-is)
+          (IsDone-settled c.match-settled.self c.halves-left.result.1 _ (c.args.bits - 1)
+          ((c.args.first + (c.args.last - c.args.first) / 2) + 1) c.args.last
+          c.match-settled.parts.now _ c.match-settled.steps left.sound kept.0
+          (omega (arith, ap height kept.1, c.halves-left.ensures.right_low, c.requires.low))
+          h.upper w.in-Some-settled.ensures.0 w.in-Some-settled.ensures.1)
+      | in-None-settled+in_ok-right-in-None-settled w ↦
+          rw (w.self-is, w.parts-is, w.steps-is, w.right-is)
+          (subst (λ ps. IsDone c.match-settled.self w.paint_block-in-None-settled.new.self
+          c.halves-left.result.1 w.in_ok-right-in-None-settled.right (c.args.bits - 1)
+          ((c.args.first + (c.args.last - c.args.first) / 2) + 1) c.args.last ps
+          w.paint_block-in-None-settled.new.parts.now c.match-settled.steps
+          w.paint_block-in-None-settled.new.steps) w.in-None-settled.ensures.1 (record {
+            of = w.in_ok-right-in-None-settled.ensures.of;
+            painted = w.in_ok-right-in-None-settled.ensures.painted;
+            left = w.in_ok-right-in-None-settled.ensures.left;
+            ticks = w.in_ok-right-in-None-settled.ensures.ticks;
+            cost = w.in_ok-right-in-None-settled.ensures.cost;
+            grows = w.in_ok-right-in-None-settled.ensures.grows;
+            kept = w.in_ok-right-in-None-settled.ensures.kept;
+            under = w.in_ok-right-in-None-settled.ensures.under;
+            sound = w.in_ok-right-in-None-settled.ensures.sound;
+          }))
+    ] in
+    λ e.
     let said = c.mk.ensures.full.0 e in
-    let same : c.mk.new.self ≡ c.paint_block-2.new.self = IfErr-at_err _ e c.mk.ensures.err in (
+    let same : c.mk.new.self ≡ c.match-settled-2.self = IfErr-at_err _ e c.mk.ensures.err in (
       ap (λ ps. length ps + 1) same ∙ said.0,
-      λ held. node_missing c.args.first
-          c.args.last c.args.bits c.args.parts.now c.in-Some.part.now c.requires.block
-          c.requires.touching c.in-Some.ensures.value c.if-covers.ensures.1 c.front-lower.result.now
-          c.back-upper.result.now c.front-lower.ensures c.back-upper.ensures
-          (meaning c.args.self.now c.args.rec) (meaning c.args.self.now c.halves-left.result.0)
-          (meaning c.paint_block.new.self c.halves-left.result.1) c.halves-left.ensures.left_look
-          (λ w. c.halves-left.ensures.right_look w ∙ ap (λ u. look u w)
-          (sym (c.in_ok-left.ensures.kept c.halves-left.result.1 c.halves-left.ensures.right_of).1))
-          c.paint_block-2.new.self c.in_ok-right.ensures.sound c.in_ok-left.left c.in_ok-right.right
-          (c.in_ok-right.ensures.kept c.in_ok-left.left c.in_ok-left.ensures.of).0
-          c.in_ok-right.ensures.of
+      λ held. node_missing c.args.first c.args.last c.args.bits c.args.parts.now.now c.requires.block c.requires.cut
+          c.match-settled.parts.now left.left (meaning c.args.self.now c.args.rec) (meaning c.args.self.now c.halves-left.result.0)
+          (meaning c.match-settled.self c.halves-left.result.1) c.halves-left.ensures.left_look
+          (λ w. c.halves-left.ensures.right_look w ∙ ap (λ u. look u w) (sym kept.1))
+          c.match-settled-2.self right.sound c.match-settled.left c.match-settled-2.right
+          (right.kept c.match-settled.left left.of).0 right.of
           (subst (λ u. IsPainted (meaning c.args.self.now c.halves-left.result.0) u
-          (c.args.bits - 1) c.args.first c.front-lower.result.now)
-          (sym (c.in_ok-right.ensures.kept c.in_ok-left.left c.in_ok-left.ensures.of).1)
-          c.in_ok-left.ensures.painted) c.in_ok-right.ensures.painted said.1
+          (c.args.bits - 1) c.args.first c.args.parts.now.now)
+          (sym (right.kept c.match-settled.left left.of).1) left.painted) right.painted said.1
           (subst (λ ps. HoldsPainted ps (meaning c.args.self.now c.args.rec) c.args.bits
-          c.args.first c.args.parts.now) same held),
+          c.args.first c.args.parts.now.now) same held),
     )
