@@ -1,7 +1,7 @@
 -- Lemmas on one step of painting: a block that the first part cuts
 -- is painted by its halves.
 use Rattle.std.proofs.Common.{◌≡◌, inl, inr, IfOk, Result, Ok, Err, ℕ, zero, suc, ◌+◌, ◌-◌, ◌/◌}
-use Rattle.std.proofs.Common.{◌^◌, ◌<◌, ◌≤◌, nat_eq, Bool, true, false, List, [], ◌∷◌, drop}
+use Rattle.std.proofs.Common.{◌^◌, ◌<◌, ◌≤◌, nat_eq, Bool, true, false, List, ◌∷◌, drop}
 use Rattle.std.proofs.Common.{refl, sym, ap, subst, arith}
 use Rattle.std.proofs.lemmas.Bool.{cases_lt}
 use Rattle.std.proofs.Math.Nat.{two-pow-succ}

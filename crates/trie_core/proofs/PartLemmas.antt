@@ -2,8 +2,8 @@
 -- and which of an ascending list are left behind a block.
 use Rattle.std.proofs.Common.{◌≡◌, ℕ, ◌+◌, ◌<◌, ◌≤◌, inl, inr, Bool, true, false, ◌&&◌}
 use Rattle.std.proofs.Common.{if◌then◌else◌, nat_le, List, [], ◌∷◌, ◌++◌, length, drop, slice_get}
-use Rattle.std.proofs.Common.{get_or, Some, None, All, refl, sym, ◌∙◌, ap, subst, arith, length-drop}
-use Rattle.std.proofs.Common.{rules}
+use Rattle.std.proofs.Common.{get_or, Some, None, All, refl, sym, ◌∙◌, ap, subst, arith, rules}
+use Rattle.std.proofs.Common.{length-drop}
 use Rattle.std.proofs.lemmas.Bool.{cases_lt, lt-leb}
 use Rattle.std.proofs.lemmas.Option.{slice_get_within, get_or_from_slice_get}
 use Rattle.std.specs.List.Sorted.{IsNonDecreasingBy}
@@ -81,7 +81,8 @@ lasts_rise parts up = IsNonDecreasingBy-from_all_adjacent (λ p. p.range.last) p
     let range : IsRange (get_or parts (k + 1) d).range = up.ranges (k + 1) d below in
     omega (arith, up.apart k d below, range.ordered))
 
-module _ (parts : List Part) (p : Part) (head : Some p ≡ slice_get parts 0) (up : IsAscending parts) where
+module _ (parts : List Part) (p : Part) (head : Some p ≡ slice_get parts 0)
+    (up : IsAscending parts) where
   -- the first part is one of them
   whole : parts ≡ p ∷ drop 1 parts
   whole = first_and_rest parts p head
@@ -95,12 +96,20 @@ module _ (parts : List Part) (p : Part) (head : Some p ≡ slice_get parts 0) (u
   -- no part begins before the first one
   firsts_from : All (λ q. p.range.first ≤ q.range.first) parts
   firsts_from k d below =
-      omega (arith, firsts_rise parts up 0 k d (omega arith) below, ap (λ (q : Part). q.range.first) (head_at d))
+      omega (
+        arith,
+        firsts_rise parts up 0 k d (omega arith) below,
+        ap (λ (q : Part). q.range.first) (head_at d),
+      )
 
   -- or ends before it
   lasts_from : All (λ q. p.range.last ≤ q.range.last) parts
   lasts_from k d below =
-      omega (arith, lasts_rise parts up 0 k d (omega arith) below, ap (λ (q : Part). q.range.last) (head_at d))
+      omega (
+        arith,
+        lasts_rise parts up 0 k d (omega arith) below,
+        ap (λ (q : Part). q.range.last) (head_at d),
+      )
 
   -- and the others begin after it
   later_from : All (λ q. p.range.last < q.range.first) (drop 1 parts)
@@ -187,16 +196,6 @@ settled_none parts was first last none up =
         cheaper = λ n first. omega arith;
       },
     )
-
--- what is left of what was left
-pub AreLeft-trans : (parts mid left : List Part) (middle last : ℕ) → middle ≤ last
-    → AreLeft parts mid middle → AreLeft mid left last → AreLeft parts left last
-AreLeft-trans parts mid left middle last le one two = record {
-  ascending = two.ascending;
-  begun = two.begun;
-  same = λ a after. two.same a after ∙ one.same a (omega arith);
-  cheaper = λ n first. omega (arith, one.cheaper n first, two.cheaper n first);
-}
 
 -- ---- a list of parts that grows
 

@@ -1,8 +1,6 @@
-use Rattle.std.proofs.Common.{◌≡◌, ◌<◌, ◌≤◌, sym, ap, subst, arith, drop}
+use Rattle.std.proofs.Common.{◌≡◌, ◌<◌, ◌≤◌, ap, arith}
 use Rattle.geo_addr.specs.Ranges.{Ends}
-use Rattle.trie_core.specs.Paint.{IsSettled, AreLeft}
 use Rattle.trie_core.proofs.PartLemmas.{settled_before, settled_inside, settled_at}
-use Rattle.trie_core.specs.declared.node.Rec.TheVariants.{Leaf}
 use Rattle.trie_core.proofs.paint.settled.Goals as goal
 use Rattle.trie_core.proofs.paint.settled.Goals.{then-range-last, else-range-last}
 
