@@ -142,9 +142,50 @@ fn nested_in_some_order<S: Statement>(
     if found.is_some() {
         return Ok(found);
     }
-    // Statements of a file come in a few runs that ascend, and this sort only joins runs.
-    indexed.sort_by_key(|(_, statement)| outer_first(statement.range()))?;
+    put_outer_first(alloc, indexed)?;
     nested_of(alloc, indexed.as_slice())
+}
+
+// Puts statements in the order in which their grounds begin, the largest first of those that begin
+// at one address.
+fn put_outer_first<S: Statement>(
+    alloc: Global,
+    indexed: &mut Vec<(usize, &S)>,
+) -> Result<(), Memory>
+    ensures { IsPermutation indexed.old.items indexed.new.items }
+{
+    let mut keyed = keyed(alloc, indexed.as_slice())?;
+    // Statements of a file come in a few runs that ascend, and this sort only joins runs.
+    keyed.sort_by_key(|(key, _)| *key)?;
+    *indexed = unkeyed(alloc, keyed.as_slice())?;
+    Ok(())
+}
+
+// Statements, each beside the key by which it is put in order, so that the sort reads none of them.
+fn keyed<'a, S: Statement>(
+    alloc: Global,
+    indexed: &[(usize, &'a S)],
+) -> Result<Vec<((u128, u128), (usize, &'a S))>, Memory>
+    ensures { IfOk result (λ keyed. map (λ x. x.1) keyed.items ≡ indexed.entry.now) }
+{
+    let mut keyed = Vec::with_capacity(alloc, indexed.len())?;
+    for statement in indexed {
+        keyed.push((outer_first(statement.1.range()), *statement))?;
+    }
+    Ok(keyed)
+}
+
+fn unkeyed<'a, S>(
+    alloc: Global,
+    keyed: &[((u128, u128), (usize, &'a S))],
+) -> Result<Vec<(usize, &'a S)>, Memory>
+    ensures { IfOk result (λ indexed. indexed.items ≡ map (λ x. x.1) keyed.entry.now) }
+{
+    let indexed = keyed
+        .iter()
+        .map(|(_, statement)| *statement)
+        .collect(alloc)?;
+    Ok(indexed)
 }
 
 // Grounds ascend by it, and of those that begin at one address the largest comes first.
