@@ -21,8 +21,9 @@ pub(crate) fn joined(alloc: Global, grounds: &[Range]) -> Result<Vec<Range>, Mem
         return Ok(kept);
     };
     let mut growing = *first;
+    let mut near = 0;
     for next in others {
-        growing = take_in(&mut kept, &mut rest, growing, *next)?;
+        growing = take_in(&mut kept, &mut rest, growing, *next, &mut near)?;
     }
     kept.push(growing)?;
     kept.append(&mut rest)?;
@@ -36,6 +37,7 @@ fn take_in(
     rest: &mut Vec<Range>,
     growing: Range,
     next: Range,
+    near: &mut usize,
 ) -> Result<Range, Memory>
     ensures same { IfOk result (λ grown. (a : ℕ)
         → (is_touched kept.new.items a || (holds grown a || is_touched rest.new.items a))
@@ -51,7 +53,7 @@ fn take_in(
         kept.push(growing)?;
         return Ok(next);
     }
-    if !lies_in_one(kept.as_slice(), next) {
+    if !lies_in_one(kept.as_slice(), next, near) {
         rest.push(next)?;
     }
     Ok(growing)
@@ -74,16 +76,31 @@ fn both_of(growing: Range, next: Range) -> Option<Range>
     })
 }
 
-// Whether a ground lies in the last of ascending ranges that begin where it does or before.
-fn lies_in_one(kept: &[Range], ground: Range) -> bool
+// Whether a ground lies in one of ascending ranges: in the one at `near`, or else in the last one
+// that begins where it does or before. `near` is then where that one stands.
+fn lies_in_one(kept: &[Range], ground: Range, near: &mut usize) -> bool
     ensures { IsTrue result → (a : ℕ) → holds ground a ≡ true → is_touched kept.now a ≡ true }
 {
+    if lies_at(kept, ground, *near) {
+        return true;
+    }
     let begun = kept.partition_point(|range| range.first <= ground.first);
     match begun.checked_sub(1) {
         Some(last) => {
-            let range = kept[last];
-            range.ground_first() <= ground.ground_first() && ground.last <= range.last
+            *near = last;
+            lies_at(kept, ground, last)
         }
         None => false,
     }
+}
+
+// Whether a ground lies in the range at an index.
+fn lies_at(kept: &[Range], ground: Range, at: usize) -> bool
+    ensures { IsTrue result → (a : ℕ) → holds ground a ≡ true → is_touched kept.now a ≡ true }
+{
+    if at >= kept.len() {
+        return false;
+    }
+    let range = kept[at];
+    range.ground_first() <= ground.ground_first() && ground.last <= range.last
 }
