@@ -7,7 +7,7 @@ ghost use Rattle.rpsl_reader.specs.Attributes.{continued, is_attribute, is_name,
 ghost use Rattle.rpsl_reader.specs.Attributes.{is_stray, may_begin, said_of};
 ghost use Rattle.rpsl_reader.specs.Selections.{wants_name};
 
-use crate::front::{TOGETHER, plain_front};
+use crate::front::{TOGETHER, lacks_hash, plain_front};
 use crate::line::{GroupLine, continues, cut_first, without_first};
 use crate::seen::{Part, Said};
 use crate::selection::Selection;
@@ -119,7 +119,7 @@ pub(crate) fn value_of<'a>(
 fn said_of(text: &[u8]) -> &[u8]
     ensures { result.now ≡ said_of text.now }
 {
-    if !text.contains(&b'#') {
+    if lacks_hash(text) {
         return trim_blanks(text);
     }
     let (said, _) = cut_first(text, b'#');

@@ -1,6 +1,7 @@
 //! The first bytes of a line, which are looked at together.
 ghost use Rattle.std.specs.Prelude.{◌≡◌, ◌≢◌, ℕ, ◌<◌, ◌≤◌, length, map, slice_index, IsTrue, nat_lt};
-ghost use Rattle.std.specs.Prelude.{◌==◌, if◌then◌else◌};
+ghost use Rattle.std.specs.Prelude.{◌==◌, false, if◌then◌else◌, true};
+ghost use Rattle.std.specs.List.{list_any};
 ghost use Rattle.std.specs.Simd.Lanes.{mask_l};
 ghost use Rattle.rpsl_reader.specs.Attributes.{is_name_byte};
 
@@ -81,4 +82,55 @@ fn feeds(bytes: u8x64) -> u64
     ensures { result ≡ mask_l (map (λ b. b == 10) bytes) }
 {
     bytes.simd_eq(u8x64::splat(b'\n')).to_bitmask()
+}
+
+/// How many bytes are looked at together in a text that is not short.
+const HALF: usize = 32;
+
+/// Whether a text has no `#`: one of 16 to 64 bytes is looked at from both ends.
+pub(crate) fn lacks_hash(text: &[u8]) -> bool
+    ensures { result ≡ true → list_any (λ b. b == 35) text.now ≡ false }
+{
+    if text.len() < TOGETHER || WIDE < text.len() {
+        return !text.contains(&b'#');
+    }
+    if text.len() <= HALF {
+        let (_, end) = text.split_at(text.len() - TOGETHER);
+        return lacks_few(text) && lacks_few(end);
+    }
+    let (_, end) = text.split_at(text.len() - HALF);
+    lacks_many(text) && lacks_many(end)
+}
+
+// Whether no `#` is among the first 16 bytes of a text.
+#[inline(always)]
+fn lacks_few(text: &[u8]) -> bool
+    requires { 16 ≤ length text.now }
+    ensures { result ≡ true → (k : ℕ) → k < 16 → slice_index text.now k ≢ 35 }
+{
+    few_hashes(u8x16::from_slice(text)) == 0
+}
+
+// Whether no `#` is among the first 32 bytes of a text.
+#[inline(always)]
+fn lacks_many(text: &[u8]) -> bool
+    requires { 32 ≤ length text.now }
+    ensures { result ≡ true → (k : ℕ) → k < 32 → slice_index text.now k ≢ 35 }
+{
+    many_hashes(u8x32::from_slice(text)) == 0
+}
+
+// A bit for each lane that is a `#`.
+#[inline(always)]
+fn few_hashes(bytes: u8x16) -> u64
+    ensures { result ≡ mask_l (map (λ b. b == 35) bytes) }
+{
+    bytes.simd_eq(u8x16::splat(b'#')).to_bitmask()
+}
+
+#[inline(always)]
+fn many_hashes(bytes: u8x32) -> u64
+    ensures { result ≡ mask_l (map (λ b. b == 35) bytes) }
+{
+    bytes.simd_eq(u8x32::splat(b'#')).to_bitmask()
 }

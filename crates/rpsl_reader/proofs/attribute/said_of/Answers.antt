@@ -4,9 +4,9 @@ use Rattle.rpsl_reader.proofs.Sides.{hash_free}
 use Rattle.rpsl_reader.specs.Attributes.{said_of}
 use Rattle.rpsl_reader.proofs.attribute.said_of.Goals as goal
 
-pub returns-then-not-contains : goal.returns-then-not-contains
+pub returns-then-lacks_hash : goal.returns-then-lacks_hash
 unfolding said_of
-returns-then-not-contains c =
+returns-then-lacks_hash c =
     c.trim_blanks.ensures
     ∙ ap trimmed (sym (hash_free c.args.text.now
-    (sym c.contains.ensures.value ∙ c.if-not-contains.true)))
+    (c.lacks_hash.ensures c.if-lacks_hash.true)))
