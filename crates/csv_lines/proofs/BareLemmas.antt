@@ -235,10 +235,10 @@ bare_inner b e = grind (arith, nat_tests)
 bare_uncommented : (b : ℕ) → is_bare b ≡ true → uncommented b ≡ true
 bare_uncommented b e = grind (arith, nat_tests)
 
-goes_bare : (b : ℕ) → goes_on b ≡ true → is_bare b ≡ true
+pub goes_bare : (b : ℕ) → goes_on b ≡ true → is_bare b ≡ true
 goes_bare b e = grind (arith, nat_tests)
 
-goes_no_comma : (b : ℕ) → goes_on b ≡ true → (b == 44) ≡ false
+pub goes_no_comma : (b : ℕ) → goes_on b ≡ true → (b == 44) ≡ false
 goes_no_comma b e = grind (arith, nat_tests)
 
 -- the bytes up to the end of a text that go on are its only field
@@ -376,7 +376,7 @@ untrimmed_start q blank (x ∷ xs) e = by (is_blank x) refl e (untrimmed_start q
         let adds : 1 + prefix_len is_blank xs ≡ suc (prefix_len is_blank xs) = omega arith in
         rw (blank x is, later (rw adds at h)) refl
 
-reversed_all : (q : ℕ → Bool) (xs : List ℕ) → list_all q xs ≡ true → list_all q (reverse xs) ≡ true
+pub reversed_all : (q : ℕ → Bool) (xs : List ℕ) → list_all q xs ≡ true → list_all q (reverse xs) ≡ true
 reversed_all q [] e = refl
 reversed_all q (x ∷ xs) e =
     let (one, more) = and_parts (q x) (list_all q xs) e in

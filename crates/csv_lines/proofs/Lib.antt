@@ -6,4 +6,5 @@ pub mod FieldLaw
 pub mod OrderLemmas
 pub mod RestLemmas
 pub mod ScanLemmas
+pub mod TailLemmas
 pub mod TextLemmas

@@ -4,3 +4,4 @@ pub mod FieldsLaw
 pub mod Repeats
 pub mod Rests
 pub mod Seen
+pub mod Tails

@@ -4,7 +4,7 @@ ghost use Rattle.std.specs.Prelude.{IfSome, IsSome, MatchOption, OnOk, OnSome};
 ghost use Rattle.std.specs.List.{list_all, prefix_len};
 ghost use Rattle.std.specs.Option.{option_copied};
 ghost use Rattle.csv.specs.Records.{fields_of};
-ghost use Rattle.geo_addr.specs.Lines.{pieces, pieces_after};
+ghost use Rattle.geo_addr.specs.Lines.{pieces, pieces_after, trimmed};
 ghost use Rattle.csv_lines.specs.Clean.{AreTexts};
 ghost use Rattle.csv_lines.specs.Fields.{goes_on, is_bare, is_unquoted};
 ghost use Rattle.csv_lines.specs.Rests.{IsBareLine, content_of, handed, rest_of, row_of};
@@ -108,6 +108,7 @@ pub fn bare_row(line: &[u8]) -> Option<BareRow<'_>>
     ensures row { IfSome result (λ row. row ≡ row_of (rest_of line.now)) }
     ensures texts { IfSome result (λ row. AreTexts row) }
     ensures handed { IsSome result → handed line.now ≡ [] }
+    ensures bare { IsSome result → list_all is_bare (trimmed line.now) ≡ true }
     ensures taken { IsBareLine line.now → IsSome result }
 {
     let rest = trim_blanks(line);

@@ -1,8 +1,10 @@
 -- A line that is cut has fields, and hands nothing over.
-use Rattle.std.proofs.Common.{◌≡◌, ◌∙◌, inl, inr, List, [], ℕ, refl, sym, subst}
+use Rattle.std.proofs.Common.{◌≡◌, ◌∙◌, inl, inr, List, [], ℕ, true, refl, sym, subst}
+use Rattle.std.specs.List.{list_all}
 use Rattle.std.specs.Prelude.{IfSome, IsSome, Option, Some, None}
 use Rattle.geo_addr.specs.Lines.{pieces}
 use Rattle.csv_lines.specs.Clean.{AreTexts}
+use Rattle.csv_lines.specs.Fields.{is_bare}
 use Rattle.csv_lines.specs.Rests.{content_of, handed, rest_of, row_of}
 use Rattle.csv_lines.specs.declared.rest.Content.TheVariants.{Fields}
 use Rattle.csv_lines.proofs.BareLemmas.{bare_line, not_taken, taken_bare, taken_few}
@@ -44,6 +46,11 @@ returns-clause-texts c =
 
 pub returns-clause-handed : goal.returns-clause-handed
 returns-clause-handed c some = (found c some).2
+
+pub returns-clause-bare : goal.returns-clause-bare
+returns-clause-bare c some =
+    subst (λ (t : List ℕ). list_all is_bare t ≡ true) c.trim_blanks-rest.ensures
+    (c.cut_bare.ensures.bare some)
 
 pub returns-then-is_empty-clause-taken : goal.returns-then-is_empty-clause-taken
 returns-then-is_empty-clause-taken c taken =
