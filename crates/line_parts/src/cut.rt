@@ -1,13 +1,15 @@
 //! A file cut into parts.
 ghost use Rattle.std.specs.Prelude.{◌≡◌, ◌+◌, ◌<◌, ◌≤◌, ◌^◌, ◌++◌, ◌⊎◌, [], false, true, All};
-ghost use Rattle.std.specs.Prelude.{IfOk, length};
+ghost use Rattle.std.specs.Prelude.{IfOk, length, map, ◌==◌};
 ghost use Rattle.std.specs.List.{flat_map};
+ghost use Rattle.std.specs.Simd.Lanes.{mask_l};
 ghost use Rattle.geo_addr.specs.Lines.{byte_order_mark, numbered_lines, without_mark};
 ghost use Rattle.line_parts.specs.Parts.{EndsBehind, EndsWithFeed, feeds, lines_in};
 
 use crate::part::LinePart;
 use geo_addr::{Memory, cut_at, skip_mark};
 use std::alloc::Global;
+use std::simd::prelude::*;
 
 /// Cuts a file behind the first line feed at or after each `size` bytes.
 ///
@@ -69,8 +71,8 @@ fn has_mark(text: &[u8]) -> bool
     skip_mark(text).len() < text.len()
 }
 
-/// The line feeds of so many bytes are counted in one byte.
-const FEW: usize = 255;
+/// How many bytes are looked at together.
+const TOGETHER: usize = 64;
 
 // How many line feeds a text has.
 fn count_feeds(text: &[u8]) -> u64
@@ -78,12 +80,28 @@ fn count_feeds(text: &[u8]) -> u64
 {
     let mut count = 0;
     let mut left = text;
-    while left.len() > FEW {
-        let (few, more) = left.split_at(FEW);
-        count += u64::from(count_few(few));
+    while left.len() >= TOGETHER {
+        let (front, more) = left.split_at(TOGETHER);
+        count += u64::from(count_together(front));
         left = more;
     }
     count + u64::from(count_few(left))
+}
+
+// How many line feeds a text of 64 bytes has.
+fn count_together(text: &[u8]) -> u32
+    requires { length text.now ≡ 64 }
+    ensures { result ≡ feeds text.now }
+{
+    feeds_among(u8x64::from_slice(text)).count_ones()
+}
+
+// A bit for each lane that is a line feed.
+#[inline(always)]
+fn feeds_among(bytes: u8x64) -> u64
+    ensures { result ≡ mask_l (map (λ b. b == 10) bytes) }
+{
+    bytes.simd_eq(u8x64::splat(b'\n')).to_bitmask()
 }
 
 // How many line feeds a text of at most 255 bytes has.
