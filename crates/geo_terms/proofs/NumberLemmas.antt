@@ -1,14 +1,15 @@
--- The number of a place that was just put into the list.
+-- The number of a place that was just put into the list, and of one that stands in it.
 use Rattle.std.proofs.Common.{◌≡◌, ℕ, suc, ◌+◌, ◌<◌, Bool, true, false, cond, not, ◌&&◌, ◌||◌, ltb}
-use Rattle.std.proofs.Common.{eqb, get_or, length-append, List, [], ◌∷◌, ◌++◌, length, position}
+use Rattle.std.proofs.Common.{zero, eqb, get_or, length-append, List, [], ◌∷◌, ◌++◌, length, position}
 use Rattle.std.proofs.Common.{Some, None, option_map, refl, sym, ap, ◌∙◌, arith}
 use Rattle.std.specs.Cmp.Lexicographic.{bytes_decides}
-use Rattle.std.specs.List.{list_any, position_or_len}
-use Rattle.std.proofs.lemmas.List.Folds.{position_or_len_push}
+use Rattle.std.specs.List.{AllByRecursion, IsDistinct, list_any, position_or_len}
+use Rattle.std.specs.Prelude.{slice_get}
+use Rattle.std.proofs.lemmas.List.Folds.{list_any_at, position_or_len_push}
 use Rattle.std.proofs.lemmas.List.Sums.{passes_at_first}
 use Rattle.std.proofs.lemmas.Option.{slice_get-get_or}
 use Rattle.geo_terms.specs.Numbers.{NumbersNamePlaces, NumbersStay, PlacesAreToldApart, number_of}
-use Rattle.geo_terms.specs.Numbers.{place_at, same_place}
+use Rattle.geo_terms.specs.Numbers.{place_at, same_place, with_place}
 use Rattle.geo_terms.specs.PlaceForm.{PlaceParts, same_text}
 use Rattle.std.proofs.lemmas.Bool.Decides.{Decides-ltb, nat_tests}
 
@@ -33,7 +34,7 @@ position_after_insert q (x ∷ xs) y is =
     ] refl
 
 -- two texts are the same where the test says so
-text_told : (x y : List ℕ) → (same_text x y ≡ true → x ≡ y) × (x ≡ y → same_text x y ≡ true)
+pub text_told : (x y : List ℕ) → (same_text x y ≡ true → x ≡ y) × (x ≡ y → same_text x y ≡ true)
 text_told x y = bytes_decides x y
 
 and_parts : (x y : Bool) → (x && y) ≡ true → (x ≡ true) × (y ≡ true)
@@ -65,6 +66,56 @@ place_is_itself x y e =
 pub places_are_told_apart : PlacesAreToldApart
 places_are_told_apart x y = (same_parts x y, place_is_itself x y)
 
+fails_at : (q : PlaceParts → Bool) (xs : List PlaceParts) (p : PlaceParts) (i : ℕ)
+    → AllByRecursion (λ y. q y ≡ false) xs → slice_get xs i ≡ Some p → q p ≡ false
+fails_at q [] p zero none at = absurd (let e : None ≡ Some p = at in cc)
+fails_at q [] p (suc i) none at = absurd (let e : None ≡ Some p = at in cc)
+fails_at q (x ∷ xs) p zero none at =
+    let is : x ≡ p = (let e : Some x ≡ Some p = at in cc) in ap q (sym is) ∙ none.0
+fails_at q (x ∷ xs) p (suc i) none at = fails_at q xs p i none.1 at
+
+told_apart_back : (x y : PlaceParts) → same_place x y ≡ false → same_place y x ≡ false
+told_apart_back x y apart =
+    elim (same_place y x) as (λ b. same_place y x ≡ b → b ≡ false) [
+      | true ↦ λ e. sym (place_is_itself x y (sym (same_parts y x e))) ∙ apart
+      | false ↦ λ e. refl
+    ] refl
+
+-- one of distinct places is the first of its kind
+first_where : (places : List PlaceParts) (p : PlaceParts) (i : ℕ) → IsDistinct same_place places
+    → slice_get places i ≡ Some p
+    → (position_or_len (same_place p) places ≡ i) × (i < length places)
+unfolding IsDistinct
+first_where [] p zero apart at = absurd (let e : None ≡ Some p = at in cc)
+first_where [] p (suc i) apart at = absurd (let e : None ≡ Some p = at in cc)
+first_where (x ∷ xs) p zero apart at =
+    let is : x ≡ p = (let e : Some x ≡ Some p = at in cc) in
+    (rw (place_is_itself p x (sym is)) refl, omega arith)
+first_where (x ∷ xs) p (suc i) apart at =
+    let rest = first_where xs p i apart.1 at in
+    let fails = told_apart_back x p (fails_at (same_place x) xs p i apart.0 at) in
+    (rw (fails, rest.0) (omega arith), omega (arith, rest.1))
+
+number_where : (places : List PlaceParts) (p : PlaceParts) (n : ℕ) → IsDistinct same_place places
+    → place_at places n ≡ Some p → number_of places p ≡ Some n
+number_where places p zero apart at = absurd (let e : None ≡ Some p = at in cc)
+number_where places p (suc i) apart at =
+    let first = first_where places p i apart at in
+    let within : ltb i (length places) ≡ true = (Decides-ltb i (length places)).1 first.1 in
+    rw (first.0, within) (ap Some (omega arith))
+
+told : (b : Bool) → not b ≡ false → b ≡ true
+told true h = refl
+told false h = absurd (let e : true ≡ false = h in cc)
+
+-- the number of a place that does not differ from one of distinct places is that one's
+pub number_of_equal : (places : List PlaceParts) (found p : PlaceParts) (n : ℕ)
+    → IsDistinct same_place places → place_at places n ≡ Some found
+    → not (same_place found p) ≡ false → number_of places p ≡ Some n
+number_of_equal places found p n apart at same =
+    number_where places p n apart
+    (at ∙ ap (λ q. Some q) (same_parts found p (told (same_place found p) same)))
+
 pub numbers_name_places : NumbersNamePlaces
 numbers_name_places places p n =
     by_test (ltb (position_or_len (same_place p) places) (length places)) refl
@@ -81,6 +132,23 @@ numbers_name_places places p n =
         let found : p ≡ get_or places i p =
         same_parts p (get_or places i p) (passes_at_first (same_place p) places p below) in
         rw (at, slice_get-get_or places i p below) (ap (λ q. Some q) (sym found))
+
+-- a list with the place in it is the same once it is put in
+pub table_kept : (places : List PlaceParts) (p : PlaceParts) (n : ℕ) → number_of places p ≡ Some n
+    → places ≡ with_place places p
+table_kept places p n = by_test (ltb (position_or_len (same_place p) places) (length places)) refl
+  where
+    by_test : (b : Bool) → ltb (position_or_len (same_place p) places) (length places) ≡ b
+        → option_map (λ i. i + 1) (cond b (Some (position_or_len (same_place p) places)) None)
+        ≡ Some n → places ≡ with_place places p
+    by_test false is e = absurd (let f : None ≡ Some n = e in cc)
+    by_test true is e =
+        let i = position_or_len (same_place p) places in
+        let below : i < length places = (Decides-ltb i (length places)).0 is in
+        let any : list_any (same_place p) places ≡ true =
+        list_any_at (same_place p) places i p below
+        (passes_at_first (same_place p) places p below) in
+        rw any refl
 
 -- a member at the end changes no index of one that was found before it
 position_stays : {X : Type 0} (q : X → Bool) (xs : List X) (y : X) (n : ℕ)

@@ -193,6 +193,42 @@ place_in_form country region city postal c r l says = record {
   says = rw says refl;
 }
 
+-- so do texts that are those of the fields
+pub fields_in_form : (country region city postal own_country own_region own_city own_postal : List ℕ)
+    → own_country ≡ (parts_of country region city postal).country → own_region ≡ upper region
+    → own_city ≡ city → own_postal ≡ postal
+    → IsTrue (country_fits country) → IsTrue (region_fits region) → IsTrue (lengths_fit city postal)
+    → says_nothing (record {
+      country = own_country;
+      region = own_region;
+      city = city;
+      postal = postal;
+    }) ≡ false
+    → IsPlace (record {
+      country = own_country;
+      region = own_region;
+      city = own_city;
+      postal = own_postal;
+    })
+fields_in_form country region city postal own_country own_region own_city own_postal
+    c-is r-is ci-is po-is c r l says =
+    let whole = parts_of country region city postal in
+    let same : record {
+      country = own_country;
+      region = own_region;
+      city = own_city;
+      postal = own_postal;
+    } ≡ whole =
+    λ i. record { country = c-is i; region = r-is i; city = ci-is i; postal = po-is i } in
+    let asked : record {
+      country = own_country;
+      region = own_region;
+      city = city;
+      postal = postal;
+    } ≡ whole = λ i. record { country = c-is i; region = r-is i; city = city; postal = postal } in
+    subst IsPlace (sym same)
+    (place_in_form country region city postal c r l (ap says_nothing (sym asked) ∙ says))
+
 -- two letters that are not `ZZ` make a place alone
 letters_in_form : (a b : ℕ) → is_ascii_alphabetic a ≡ true → is_ascii_alphabetic b ≡ true
     → same_text (upper (a ∷ b ∷ [])) nowhere ≡ false → IsPlace (country_place (a ∷ b ∷ []))

@@ -14,6 +14,7 @@ pub mod Numbers
 pub mod Orders
 pub mod PlaceEquality
 pub mod PlaceForm
+pub mod PlaceLead
 pub mod Precedence
 pub mod Report
 pub mod SaidOf

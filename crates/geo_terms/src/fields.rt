@@ -11,7 +11,7 @@ ghost use Rattle.geo_terms.specs.SaidOf.{said_of, said_by};
 ghost use Rattle.geo_terms.specs.declared.place.Said.TheVariants.{At};
 
 use crate::place::{Place, PlaceFault, Said};
-use crate::texts::Texts;
+use crate::texts::{Marks, Texts, mark_of};
 use geo_addr::{Memory, Text};
 use std::alloc::Global;
 
@@ -58,7 +58,9 @@ pub fn place_in(
         (IsOkUnless result PlaceFault.Memory) }
 {
     let (first, second) = (country.as_bytes(), region.as_bytes());
-    if let Some(place) = said_before(texts, first, second, city.as_bytes(), postal.as_bytes()) {
+    let (third, fourth) = (city.as_bytes(), postal.as_bytes());
+    let marks = Marks::of(first, second, third, fourth);
+    if let Some(place) = said_before(texts, &marks, first, second, third, fourth) {
         return Ok(Said::At(place.copied()?));
     }
     if !country_fits(country) {
@@ -70,12 +72,13 @@ pub fn place_in(
     if !lengths_fit(city, postal) {
         return Err(PlaceFault::TooLong);
     }
-    Ok(said_in_form(texts, country, region, city, postal)?)
+    Ok(said_in_form(texts, &marks, country, region, city, postal)?)
 }
 
-// The place that fields say, where it came before.
+// The place that fields with these marks say, where it came before.
 fn said_before<'a>(
     texts: &'a Texts,
+    marks: &Marks,
     country: &[u8],
     region: &[u8],
     city: &[u8],
@@ -84,7 +87,7 @@ fn said_before<'a>(
     ensures { IfSome result
         (λ place. said_of country.now region.now city.now postal.now ≡ Ok (At place.now)) }
 {
-    let place = texts.known_place(country, region, city, postal)?;
+    let place = texts.known_place(marks.together(), country, region, city, postal)?;
     Some(place)
 }
 
@@ -102,7 +105,8 @@ pub fn country_place(texts: &mut Texts, country: &[u8]) -> Result<Option<Place>,
         return Ok(None);
     }
     let pair = upper_pair(*first, *second);
-    if let Some(place) = texts.known_place(&pair, b"", b"", b"") {
+    let mark = Marks::of(&pair, b"", b"", b"").together();
+    if let Some(place) = texts.known_place(mark, &pair, b"", b"", b"") {
         return Ok(Some(place.copied()?));
     }
     let country = pair_text(texts, *first, *second)?;
@@ -116,10 +120,11 @@ pub fn country_place(texts: &mut Texts, country: &[u8]) -> Result<Option<Place>,
     Ok(Some(place))
 }
 
-// What fields that are in form say.
+// What fields that are in form and have these marks say, where it did not come before.
 #[tactic(auto, using(crate::proofs::PlaceLemmas::place_in_form))]
 fn said_in_form(
     texts: &mut Texts,
+    marks: &Marks,
     country: &str,
     region: &str,
     city: &str,
@@ -131,14 +136,19 @@ fn said_in_form(
     ensures { IfOk result
         (λ said. said ≡ said_by (parts_of country.now region.now city.now postal.now)) }
 {
-    let country = country_text(texts, country, region)?;
-    let region = upper_text(texts, region)?;
-    if says_nothing(&country, &region, city, postal) {
+    let own_country = country_text(texts, country, region)?;
+    let own_region = upper_text(texts, marks.region, region)?;
+    if says_nothing(&own_country, &own_region, city, postal) {
         return Ok(Said::Nothing);
     }
-    let city = texts.shared(city)?;
-    let postal = texts.shared(postal)?;
-    let place = texts.place(country, region, city, postal)?;
+    let as_written = own_country.as_str() == country && own_region.as_str() == region;
+    let city = texts.shared_by(marks.city, city)?;
+    let postal = texts.shared_by(marks.postal, postal)?;
+    let place = if as_written {
+        texts.new_place(marks.together(), own_country, own_region, city, postal)?
+    } else {
+        texts.place(own_country, own_region, city, postal)?
+    };
     Ok(Said::At(place))
 }
 
@@ -207,23 +217,24 @@ fn pair_text(texts: &mut Texts, first: u8, second: u8) -> Result<Text, Memory>
     ensures { IfOk result (λ text. text ≡ upper (first ∷ second ∷ [])) }
 {
     let [first, second] = upper_pair(first, second);
-    if let Some(found) = texts.known(&[first, second])? {
+    let mark = mark_of(&[first, second]);
+    if let Some(found) = texts.known(mark, &[first, second])? {
         return Ok(found);
     }
     let mut pair = String::new(texts.alloc());
     pair.push(first as char)?;
     pair.push(second as char)?;
     let text = Text::from_string(pair)?;
-    texts.kept(text)
+    texts.kept(mark, text)
 }
 
-// The text in upper case; only a text with lower-case letters is written anew.
+// The text of this mark in upper case; only a text with lower-case letters is written anew.
 #[tactic(auto, using(crate::proofs::PlaceLemmas::upper_without_lowercase))]
-fn upper_text(texts: &mut Texts, text: &str) -> Result<Text, Memory>
+fn upper_text(texts: &mut Texts, mark: u64, text: &str) -> Result<Text, Memory>
     ensures { IfOk result (λ copy. copy ≡ upper text.now) }
 {
     if !has_lowercase(text.as_bytes()) {
-        return texts.shared(text);
+        return texts.shared_by(mark, text);
     }
     let mut copy = String::from_str(texts.alloc(), text)?;
     copy.make_ascii_uppercase();

@@ -1,9 +1,10 @@
-ghost use Rattle.std.specs.Prelude.{◌≡◌, ◌++◌, IfOk};
+ghost use Rattle.std.specs.Prelude.{◌≡◌, ◌++◌, ◌&&◌, IfOk, IsTrue};
 ghost use Rattle.std.specs.Cmp.{partial_equiv_from_equiv};
 ghost use Rattle.std.specs.Cmp.Rules.{hashing};
 ghost use Rattle.std.specs.Hash as fed;
 ghost use Rattle.std.proofs.Common.{rules};
-ghost use Rattle.geo_terms.specs.PlaceForm.{IsPlace};
+ghost use Rattle.geo_terms.specs.PlaceForm.{IsPlace, same_text};
+ghost use Rattle.geo_terms.specs.PlaceLead.{Tells};
 ghost use Rattle.geo_terms.specs.Numbers.{same_place};
 ghost use Rattle.geo_terms.specs.PlaceEquality as equality;
 
@@ -24,9 +25,12 @@ pub struct Place {
     parts: Arc<Parts>,
 }
 
-/// The four texts of a place.
+/// The four texts of a place, the number by which it is found again, and one that tells its country
+/// and region where they are of the usual form.
 #[derive(Debug, Drop)]
 struct Parts {
+    mark: u64,
+    lead: u64,
     country: Text,
     region: Text,
     city: Text,
@@ -36,6 +40,7 @@ struct Parts {
 impl Model for Place {
     ghost use Rattle.std.specs.Arc.{arc_value};
     ghost use Rattle.geo_terms.specs.PlaceForm.{PlaceParts, IsPlace};
+    ghost use Rattle.geo_terms.specs.PlaceLead.{Tells};
 
     ghost Value = { PlaceParts };
 
@@ -51,13 +56,14 @@ impl Model for Place {
       region = (arc_value p.parts).region;
       city = (arc_value p.parts).city;
       postal = (arc_value p.parts).postal;
-    }) };
+    }) × Tells (arc_value p.parts).lead (arc_value p.parts).country (arc_value p.parts).region };
 }
 
 impl Place {
-    /// The place of these texts.
+    /// The place of these texts, with their mark.
     pub(crate) fn of(
         alloc: Global,
+        mark: u64,
         country: Text,
         region: Text,
         city: Text,
@@ -67,7 +73,10 @@ impl Place {
         ensures { IfOk result (λ place. place
             ≡ record { country = country; region = region; city = city; postal = postal }) }
     {
+        let lead = lead_of(country.as_str().as_bytes(), region.as_str().as_bytes());
         let parts = Parts {
+            mark,
+            lead,
             country,
             region,
             city,
@@ -106,6 +115,12 @@ impl Place {
         &self.parts.postal
     }
 
+    /// A number by which the place is found again quickly; it promises nothing, and others may have
+    /// it too.
+    pub fn mark(&self) -> u64 {
+        self.parts.mark
+    }
+
     /// A second owner of this place, which takes no bytes.
     pub fn copied(&self) -> Result<Place, Memory>
         ensures { IfOk result (λ place. place ≡ self.now) }
@@ -129,6 +144,53 @@ impl Place {
             && self.city().as_str().as_bytes() == city
             && self.postal().as_str().as_bytes() == postal
     }
+
+    // Whether both have the same country and region; mostly one comparison of numbers tells.
+    fn lies_beside(&self, other: &Place) -> bool
+        ensures { result ≡ (same_text self.now.country other.now.country
+            && same_text self.now.region other.now.region) }
+    {
+        let lead = self.parts.lead;
+        if lead != 0 && lead == other.parts.lead {
+            return true;
+        }
+        self.country() == other.country() && self.region() == other.region()
+    }
+}
+
+// A number that tells a country and its region, or 0 where none does.
+fn lead_of(country: &[u8], region: &[u8]) -> u64
+    ensures { Tells result country.now region.now }
+{
+    let lead = spelled(country, region);
+    if tells(lead, country, region) {
+        lead
+    } else {
+        0
+    }
+}
+
+// Whether the number tells this country and this region.
+fn tells(lead: u64, country: &[u8], region: &[u8]) -> bool
+    ensures { IsTrue result → Tells lead country.now region.now }
+{
+    let bytes = lead.to_le_bytes();
+    let count = bytes[0] as usize;
+    if count == 0 || count > 8 {
+        return false;
+    }
+    &bytes[1..3] == country && &bytes[1..count] == region
+}
+
+// One more than the length of the region, and its bytes behind that, or where there is none those of
+// the country: the lowest first.
+fn spelled(country: &[u8], region: &[u8]) -> u64 {
+    let text = if region.is_empty() { country } else { region };
+    let mut word = 0;
+    for byte in text.iter().rev() {
+        word = word << 8 | u64::from(*byte);
+    }
+    word << 8 | (region.len() as u64 + 1)
 }
 
 impl PartialEq for Place {
@@ -137,10 +199,7 @@ impl PartialEq for Place {
     ghost laws = { partial_equiv_from_equiv equality.place_equiv };
 
     fn eq(&self, other: &Place) -> bool {
-        self.country() == other.country()
-            && self.region() == other.region()
-            && self.city() == other.city()
-            && self.postal() == other.postal()
+        self.lies_beside(other) && self.city() == other.city() && self.postal() == other.postal()
     }
 }
 

@@ -22,6 +22,33 @@ pub struct Texts {
     places: IndexMap<u64, Place, BuildHasherDefault<MarkHasher>>,
 }
 
+/// The marks of four texts: numbers by which they are found again, which others may have too.
+#[derive(Clone, Copy)]
+pub(crate) struct Marks {
+    pub(crate) country: u64,
+    pub(crate) region: u64,
+    pub(crate) city: u64,
+    pub(crate) postal: u64,
+}
+
+impl Marks {
+    /// The marks of these texts.
+    pub(crate) fn of(country: &[u8], region: &[u8], city: &[u8], postal: &[u8]) -> Marks {
+        Marks {
+            country: mark_of(country),
+            region: mark_of(region),
+            city: mark_of(city),
+            postal: mark_of(postal),
+        }
+    }
+
+    /// The mark of the four together.
+    pub(crate) fn together(&self) -> u64 {
+        let front = mixed(self.country ^ self.region).rotate_left(1);
+        mixed(front ^ self.city).rotate_left(1) ^ self.postal
+    }
+}
+
 /// A hasher of marks: a mark is mixed already, and is its own hash.
 #[derive(Clone, Copy, Default)]
 pub struct MarkHasher {
@@ -57,14 +84,21 @@ impl Texts {
     pub fn shared(&mut self, text: &str) -> Result<Text, Memory>
         ensures { IfOk result (λ given. given ≡ text.now) }
     {
+        self.shared_by(mark_of(text.as_bytes()), text)
+    }
+
+    /// A text that says what `text` does, whose mark this is.
+    pub(crate) fn shared_by(&mut self, mark: u64, text: &str) -> Result<Text, Memory>
+        ensures { IfOk result (λ given. given ≡ text.now) }
+    {
         if text.is_empty() {
             return self.blank();
         }
-        if let Some(found) = self.known(text.as_bytes())? {
+        if let Some(found) = self.known(mark, text.as_bytes())? {
             return Ok(found);
         }
         let text = Text::of(self.alloc, text)?;
-        self.kept(text)
+        self.kept(mark, text)
     }
 
     /// The empty text, which needs no look-up.
@@ -81,29 +115,29 @@ impl Texts {
         Ok(text)
     }
 
-    /// The text of these bytes, where it came before and is not empty.
-    pub(crate) fn known(&self, text: &[u8]) -> Result<Option<Text>, Memory>
+    /// The text of these bytes, where it came before by this mark and is not empty.
+    pub(crate) fn known(&self, mark: u64, text: &[u8]) -> Result<Option<Text>, Memory>
         ensures { IfOk result (λ found. IfSome found (λ given. given ≡ text.now)) }
     {
-        match self.seen.get(&mark_of(text)) {
+        match self.seen.get(&mark) {
             Some(found) if found.as_str().as_bytes() == text => Ok(Some(found.copied()?)),
             _ => Ok(None),
         }
     }
 
-    /// The text itself, from now on one that came before.
-    pub(crate) fn kept(&mut self, text: Text) -> Result<Text, Memory>
+    /// The text itself, from now on one that came before by this mark.
+    pub(crate) fn kept(&mut self, mark: u64, text: Text) -> Result<Text, Memory>
         ensures { IfOk result (λ given. given ≡ text) }
     {
         let copy = text.copied()?;
-        let mark = mark_of(text.as_str().as_bytes());
         self.seen.insert(mark, copy).map_err(Memory::from)?;
         Ok(text)
     }
 
-    /// The place of four texts, where it came before.
+    /// The place of four texts, where it came before by this mark.
     pub(crate) fn known_place(
         &self,
+        mark: u64,
         country: &[u8],
         region: &[u8],
         city: &[u8],
@@ -117,10 +151,7 @@ impl Texts {
           postal = postal.now;
         }) }
     {
-        match self
-            .places
-            .get(&mark_of_four(country, region, city, postal))
-        {
+        match self.places.get(&mark) {
             Some(place) if place.has(country, region, city, postal) => Some(place),
             _ => None,
         }
@@ -140,11 +171,27 @@ impl Texts {
     {
         let (first, second) = (country.as_str().as_bytes(), region.as_str().as_bytes());
         let (third, fourth) = (city.as_str().as_bytes(), postal.as_str().as_bytes());
-        if let Some(found) = self.known_place(first, second, third, fourth) {
+        let mark = Marks::of(first, second, third, fourth).together();
+        if let Some(found) = self.known_place(mark, first, second, third, fourth) {
             return found.copied();
         }
-        let mark = mark_of_four(first, second, third, fourth);
-        let place = Place::of(self.alloc, country, region, city, postal)?;
+        self.new_place(mark, country, region, city, postal)
+    }
+
+    /// A new place of four texts, which from now on came before by this mark.
+    pub(crate) fn new_place(
+        &mut self,
+        mark: u64,
+        country: Text,
+        region: Text,
+        city: Text,
+        postal: Text,
+    ) -> Result<Place, Memory>
+        requires { IsPlace (record { country = country; region = region; city = city; postal = postal }) }
+        ensures { IfOk result (λ place. place
+            ≡ record { country = country; region = region; city = city; postal = postal }) }
+    {
+        let place = Place::of(self.alloc, mark, country, region, city, postal)?;
         let copy = place.copied()?;
         self.places.insert(mark, copy).map_err(Memory::from)?;
         Ok(place)
@@ -156,14 +203,8 @@ impl Texts {
     }
 }
 
-// A number by which four texts are found again; other four may have it too.
-fn mark_of_four(first: &[u8], second: &[u8], third: &[u8], fourth: &[u8]) -> u64 {
-    let front = mixed(mark_of(first) ^ mark_of(second)).rotate_left(1);
-    mixed(front ^ mark_of(third)).rotate_left(1) ^ mark_of(fourth)
-}
-
-// A number by which a text is found again; other texts may have it too.
-fn mark_of(text: &[u8]) -> u64 {
+/// A number by which a text is found again; other texts may have it too.
+pub(crate) fn mark_of(text: &[u8]) -> u64 {
     let mut mark = text.len() as u64;
     let mut left = text;
     while left.len() >= 8 {

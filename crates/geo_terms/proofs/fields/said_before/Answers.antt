@@ -1,5 +1,5 @@
 -- The place that came before has these four texts.
-use Rattle.std.proofs.Common.{◌≡◌, ◌∙◌, ap, sym, Ok}
+use Rattle.std.proofs.Common.{◌∙◌, ap, sym}
 use Rattle.geo_terms.specs.PlaceForm.{PlaceParts}
 use Rattle.geo_terms.specs.SaidOf.{said_of}
 use Rattle.geo_terms.proofs.PlaceLemmas.{place_says_itself}

@@ -1,8 +1,7 @@
--- The number that a place has leads back to it.
-use Rattle.std.proofs.Common.{rules, ◌+◌}
-use Rattle.geo_terms.proofs.NumberLemmas.{numbers_name_places}
+-- A place that has a number is in the table.
+use Rattle.geo_terms.proofs.NumberLemmas.{table_kept}
 use Rattle.geo_terms.proofs.places.Places.intern.Goals as goal
 
-pub returns-in-Some-clause-held : goal.returns-in-Some-clause-held
-returns-in-Some-clause-held c =
-    numbers_name_places c.args.self.now c.args.place.now (c.in-Some.index + 1) (search rules)
+pub returns-in-Some-clause-table : goal.returns-in-Some-clause-table
+returns-in-Some-clause-table c =
+    table_kept c.args.self.now c.args.place.now c.in-Some.number c.in-Some.ensures
