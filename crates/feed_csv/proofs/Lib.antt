@@ -1,3 +1,4 @@
 mod CleanLemmas
 pub mod FileLemmas
 mod PartLemmas
+mod TailLemmas

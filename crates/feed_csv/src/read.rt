@@ -8,7 +8,7 @@ ghost use Rattle.feed_csv.specs.Parts.{IsFileRead, accepted_in, refused_in};
 
 use crate::verdict::{Verdict, read_line};
 use csv::{ByteRecord, Reader};
-use csv_lines::{Fault, RepeatRules, all_handed, judge, reader_of};
+use csv_lines::{Fault, RepeatRules, Tails, all_handed, judge, reader_of};
 use geo_addr::{Line, List, Memory, Text};
 use geo_terms::{Entry, Feed, Note, Origin, Rule, SourceFault, Texts};
 use line_parts::LinePart;
@@ -73,10 +73,11 @@ pub(crate) struct Found {
 
 // What is found in the lines so far.
 #[derive(Drop)]
-struct Reading {
+struct Reading<'a> {
     entries: Vec<Entry>,
     faults: Vec<Fault>,
     texts: Texts,
+    tails: Tails<'a>,
     row: ByteRecord,
 }
 
@@ -97,10 +98,12 @@ pub(crate) fn read_lines(
     let handed = all_handed(alloc, part.text)?;
     let mut reader = reader_of(alloc, handed.as_slice());
     let entries = with_room(alloc, size)?;
+    let tails = Tails::with_room(alloc, part.text.len())?;
     let mut found = Reading {
         entries,
         faults: Vec::new(alloc),
         texts: Texts::new(alloc),
+        tails,
         row: ByteRecord::new(alloc),
     };
     for line in part.lines() {
@@ -122,11 +125,11 @@ fn with_room(alloc: Global, size: usize) -> Result<Vec<Entry>, Memory>
 }
 
 // Adds what one more line says.
-fn take_line(
-    line: Line,
+fn take_line<'a>(
+    line: Line<'a>,
     limit: usize,
     reader: &mut Reader<&[u8]>,
-    found: &mut Reading,
+    found: &mut Reading<'a>,
 ) -> Result<(), SourceFault>
     requires few { length found.old.entries.items ≤ limit }
     requires reads { CanRead (λ s. Some s.now) reader.old line.text.now }
@@ -143,7 +146,13 @@ fn take_line(
         × (length found.old.entries.items ≡ limit) }
     ensures too_long { result ≢ Err SourceFault.TooLong }
 {
-    match read_line(reader, line.text, &mut found.row, &mut found.texts)? {
+    match read_line(
+        reader,
+        line.text,
+        &mut found.row,
+        &mut found.texts,
+        &mut found.tails,
+    )? {
         Verdict::Silent => {}
         Verdict::Broken(rule) => {
             let fault = Fault {

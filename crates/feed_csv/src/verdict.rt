@@ -1,12 +1,17 @@
 //! What a line says by itself.
-ghost use Rattle.std.specs.Prelude.{◌≡◌, ◌++◌, ℕ, List, Some, IfOk, OnOk};
+ghost use Rattle.std.specs.Prelude.{◌≡◌, ◌++◌, ℕ, [], List, Some, IfOk, IfSome, OnOk};
+ghost use Rattle.geo_addr.specs.Ranges.{Prefix};
+ghost use Rattle.geo_terms.specs.PlaceForm.{PlaceParts};
+ghost use Rattle.geo_terms.specs.declared.place.Said.{Said};
 ghost use Rattle.csv_lines.specs.Clean.{AreTexts};
 ghost use Rattle.csv_lines.specs.Rests.{CanRead, Stands, handed, said_in};
+ghost use Rattle.csv_lines.specs.Tails.{IsCut, SaysBare};
 ghost use Rattle.feed_csv.specs.Verdicts.{accepted_at, block_rule, place_rule, row_verdict};
 ghost use Rattle.feed_csv.specs.Verdicts.{verdict};
+ghost use Rattle.feed_csv.specs.declared.verdict.Verdict.{Verdict};
 
 use csv::{ByteRecord, Reader};
-use csv_lines::{Content, Row, bare_row, column, next_row, said_in};
+use csv_lines::{Content, LineCut, Row, Tails, bare_row, column, cut_line, next_row, said_in};
 use geo_addr::{Block, BlockFault, Memory, parse_block};
 use geo_terms::{PlaceFault, Rule, Said, Texts};
 
@@ -20,19 +25,26 @@ pub(crate) enum Verdict {
 
 /// What the next line of the reader's file says.
 #[tactic(auto, unfolding(crate::specs::Verdicts::verdict))]
-pub(crate) fn read_line(
+pub(crate) fn read_line<'a>(
     reader: &mut Reader<&[u8]>,
-    line: &[u8],
+    line: &'a [u8],
     row: &mut ByteRecord,
     texts: &mut Texts,
+    tails: &mut Tails<'a>,
 ) -> Result<Verdict, Memory>
     requires { CanRead (λ s. Some s.now) reader.old line.now }
     ensures verdict { IfOk result (λ found. found ≡ verdict line.now) }
     ensures stands { (left : List ℕ) → Stands (λ s. Some s.now) reader.old (handed line.now ++ left)
         → OnOk result (Stands (λ s. Some s.now) reader.new left) }
 {
+    let cut = cut_line(line);
+    if let Some(known) = known_verdict(&cut, tails)? {
+        return Ok(known);
+    }
     if let Some(bare) = bare_row(line) {
-        return row_verdict(texts, &bare);
+        let found = row_verdict(texts, &bare)?;
+        keep_tail(&cut, &found, tails)?;
+        return Ok(found);
     }
     match next_row(reader, line, row)? {
         Content::Blank => Ok(Verdict::Silent),
@@ -40,6 +52,53 @@ pub(crate) fn read_line(
         Content::NoFields => Ok(Verdict::Broken(Rule::F02)),
         Content::Fields => row_verdict(texts, row),
     }
+}
+
+// What a line says whose tail came before, and which hands nothing over.
+fn known_verdict(cut: &Option<LineCut>, tails: &Tails) -> Result<Option<Verdict>, Memory>
+    ensures { (line : List ℕ) → IfSome cut.now (λ c. IsCut line c.first c.tail) → IfOk result
+        (λ found. IfSome found (λ said. (said ≡ verdict line) × (handed line ≡ []))) }
+{
+    match cut {
+        Some(cut) => cut_verdict(cut, tails),
+        None => Ok(None),
+    }
+}
+
+fn cut_verdict(cut: &LineCut, tails: &Tails) -> Result<Option<Verdict>, Memory>
+    ensures { (line : List ℕ) → IsCut line cut.now.first cut.now.tail → IfOk result
+        (λ found. IfSome found (λ said. (said ≡ verdict line) × (handed line ≡ []))) }
+{
+    let Some(place) = tails.known(cut) else {
+        return Ok(None);
+    };
+    let Ok(block) = parse_block(cut.first()) else {
+        return Ok(None);
+    };
+    let place = place.copied()?;
+    Ok(Some(Verdict::Accepted(block, Said::At(place))))
+}
+
+// Holds the tail of a line that says a place.
+fn keep_tail<'a>(
+    cut: &Option<LineCut<'a>>,
+    found: &Verdict,
+    tails: &mut Tails<'a>,
+) -> Result<(), Memory>
+    requires { IfSome cut.now (λ c. (block : Prefix) (place : PlaceParts)
+        → found.now ≡ Verdict.Accepted block (Said.At place)
+        → (line : List ℕ) × IsCut line c.first c.tail × SaysBare line place) }
+{
+    let Some(cut) = cut else {
+        return Ok(());
+    };
+    let Verdict::Accepted(_, said) = found else {
+        return Ok(());
+    };
+    let Said::At(place) = said else {
+        return Ok(());
+    };
+    tails.keep(cut, place)
 }
 
 // What fields say: the first rule that they break, else an entry.

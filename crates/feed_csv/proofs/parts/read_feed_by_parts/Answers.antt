@@ -1,5 +1,5 @@
 -- What was found in the parts is what the file says.
-use Rattle.std.proofs.Common.{◌≡◌, ◌<◌, ◌≤◌, ◌∙◌, List, ap, length, rules, subst}
+use Rattle.std.proofs.Common.{◌<◌, ◌≤◌, ◌∙◌, List, length, rules, subst}
 use Rattle.std.specs.List.{AllZip}
 use Rattle.geo_terms.specs.declared.statement.Entry.{Entry}
 use Rattle.line_parts.specs.declared.part.LinePart.{LinePart}
