@@ -1,10 +1,12 @@
 //! The words of commands.
 use command_words::{Spoken, command_in};
-use std::alloc::Global;
+use std::alloc::{AllocError, Global};
 use std::test::Fail;
 
-/// Words, and the command that each list is; nothing where it is none.
-const WORDS: [(&[&str], &str); 34] = [
+/// Words, and the command that they are; nothing where they are none.
+type Row = (&'static [&'static str], &'static str);
+
+static WORDS: [Row; 34] = [
     (&[], ""),
     (&["build"], ""),
     (&["build", "job"], "build job"),
@@ -50,26 +52,12 @@ const WORDS: [(&[&str], &str); 34] = [
     (&["publish", "j", "10.0.0.0/24", "f", "g"], ""),
 ];
 
-#[test]
-fn words_and_commands(rt: HostRuntime) -> Result<(), Fail> {
-    let alloc = rt.alloc();
-    for (words, wanted) in WORDS {
-        let given = told(alloc, words)?;
-        assert_eq!(rt; given.as_str(), wanted);
-    }
-    Ok(())
+fn words() -> &'static [Row] {
+    &WORDS
 }
 
-// The command that words are, as one text.
-fn told(alloc: Global, words: &[&str]) -> Result<String, Fail> {
-    let words = strings(alloc, words)?;
-    match command_in(words.as_slice()) {
-        Some(spoken) => spelt(alloc, spoken),
-        None => Ok(String::new(alloc)),
-    }
-}
-
-fn strings(alloc: Global, words: &[&str]) -> Result<Vec<String>, Fail> {
+/// The words as a list of texts of their own.
+pub fn strings(alloc: Global, words: &[&str]) -> Result<Vec<String>, Fail> {
     let mut strings = Vec::new(alloc);
     for word in words {
         strings.push(String::from_str(alloc, word)?)?;
@@ -77,16 +65,37 @@ fn strings(alloc: Global, words: &[&str]) -> Result<Vec<String>, Fail> {
     Ok(strings)
 }
 
-fn spelt(alloc: Global, spoken: Spoken<'_>) -> Result<String, Fail> {
+fn spelt(alloc: Global, spoken: Spoken<'_>) -> Result<String, AllocError> {
     match spoken {
-        Spoken::Build(job) => Ok(format!(in alloc; "build {job}")?),
-        Spoken::Lookup(file, at) => Ok(format!(in alloc; "lookup {file} {}", at.0)?),
-        Spoken::Explain(job, at) => Ok(format!(in alloc; "explain {job} {}", at.0)?),
-        Spoken::Gen(lines, file) => Ok(format!(in alloc; "gen {lines} {file}")?),
+        Spoken::Build(job) => format!(in alloc; "build {job}"),
+        Spoken::Lookup(file, at) => format!(in alloc; "lookup {file} {}", at.0),
+        Spoken::Explain(job, at) => format!(in alloc; "explain {job} {}", at.0),
+        Spoken::Gen(lines, file) => format!(in alloc; "gen {lines} {file}"),
         Spoken::Publish(job, block, file) => {
-            Ok(format!(in alloc; "publish {job} {} {} {file}", block.first, block.len)?)
+            format!(in alloc; "publish {job} {} {} {file}", block.first, block.len)
         }
-        Spoken::Check(job, url) => Ok(format!(in alloc; "check {job} {url}")?),
-        Spoken::Census(job) => Ok(format!(in alloc; "census {job}")?),
+        Spoken::Check(job, url) => format!(in alloc; "check {job} {url}"),
+        Spoken::Census(job) => format!(in alloc; "census {job}"),
     }
+}
+
+// The command that words are, as one text, and nothing where they are none.
+fn told(alloc: Global, words: &[String]) -> Result<String, AllocError> {
+    match command_in(words) {
+        Some(spoken) => spelt(alloc, spoken),
+        None => Ok(String::new(alloc)),
+    }
+}
+
+fn is_told(alloc: Global, row: &Row) -> Result<bool, Fail> {
+    let words = strings(alloc, row.0)?;
+    Ok(told(alloc, words.as_slice())?.as_str() == row.1)
+}
+
+#[test]
+fn words_and_commands(rt: HostRuntime) -> Result<(), Fail> {
+    for (at, row) in words().iter().enumerate() {
+        assert!(rt; is_told(rt.alloc(), row)?, "row {at}");
+    }
+    Ok(())
 }

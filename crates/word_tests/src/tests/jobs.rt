@@ -1,60 +1,95 @@
 //! Jobs and the forms of their lines.
-use job_lines::{Act, Gone, Job, JobFault, feed_key, is_name, is_slot, read_job};
-use std::alloc::Global;
+use geo_addr::{Memory, Text};
+use job_lines::{Act, Gone, Job, JobFault, Step, feed_key, is_name, is_slot, read_job};
+use std::alloc::{AllocError, Global};
+use std::process::Abort;
 use std::test::Fail;
 
-// A job in one line: epoch, database type, number of pieces, and each step with its line;
-// or the fault.
-fn told(alloc: Global, bytes: &[u8]) -> Result<String, Fail> {
-    match read_job(alloc, bytes) {
-        Ok(job) => spelt(alloc, &job),
-        Err(fault) => Ok(format!(in alloc; "{fault}")?),
+fn with_file(alloc: Global, word: &str, slot: &Text, file: &Text) -> Result<String, AllocError> {
+    format!(in alloc; "{word} {} from {}", slot.as_str(), file.as_str())
+}
+
+fn with_one(alloc: Global, word: &str, name: &Text) -> Result<String, AllocError> {
+    format!(in alloc; "{word} {}", name.as_str())
+}
+
+fn gone_text(alloc: Global, gone: &Gone) -> Result<String, AllocError> {
+    match gone {
+        Gone::Rpsl(slot) => with_one(alloc, "no rpsl", slot),
+        Gone::Stats(slot) => with_one(alloc, "no stats", slot),
+        Gone::Feed(url) => with_one(alloc, "no feed", url),
+        Gone::Overrides => String::from_str(alloc, "no overrides"),
     }
 }
 
-fn spelt(alloc: Global, job: &Job) -> Result<String, Fail> {
-    let name = job.meta.name.as_str();
-    let mut text = format!(in alloc; "{} {name} {}", job.meta.epoch, job.pieces)?;
-    for step in job.steps.as_slice() {
-        let act = act_text(alloc, &step.act)?;
-        let more = format!(in alloc; "; {} {}", step.line, act.as_str())?;
-        text.push_str(more.as_str())?;
+fn act_text(alloc: Global, act: &Act) -> Result<String, AllocError> {
+    match act {
+        Act::Rpsl { slot, file } => with_file(alloc, "rpsl", slot, file),
+        Act::Stats { slot, file } => with_file(alloc, "stats", slot, file),
+        Act::Feed { url, file } => with_file(alloc, "feed", url, file),
+        Act::Overrides { file } => with_one(alloc, "overrides from", file),
+        Act::Drop(gone) => gone_text(alloc, gone),
+        Act::Emit { file } => with_one(alloc, "emit", file),
+        Act::Report => String::from_str(alloc, "report"),
+        Act::Mark { name } => with_one(alloc, "mark", name),
+        Act::Back { name } => with_one(alloc, "back", name),
+        Act::Compact => String::from_str(alloc, "compact"),
+    }
+}
+
+fn step_text(alloc: Global, step: &Step) -> Result<String, AllocError> {
+    let act = act_text(alloc, &step.act)?;
+    format!(in alloc; "; {} {}", step.line, act.as_str())
+}
+
+fn steps_text(alloc: Global, steps: &[Step]) -> Result<String, AllocError> {
+    let mut text = String::new(alloc);
+    for step in steps {
+        text.push_str(step_text(alloc, step)?.as_str())?;
     }
     Ok(text)
 }
 
-fn act_text(alloc: Global, act: &Act) -> Result<String, Fail> {
-    match act {
-        Act::Rpsl { slot, file } => {
-            Ok(format!(in alloc; "rpsl {} from {}", slot.as_str(), file.as_str())?)
-        }
-        Act::Stats { slot, file } => {
-            Ok(format!(in alloc; "stats {} from {}", slot.as_str(), file.as_str())?)
-        }
-        Act::Feed { url, file } => {
-            Ok(format!(in alloc; "feed {} from {}", url.as_str(), file.as_str())?)
-        }
-        Act::Overrides { file } => Ok(format!(in alloc; "overrides from {}", file.as_str())?),
-        Act::Drop(gone) => gone_text(alloc, gone),
-        Act::Emit { file } => Ok(format!(in alloc; "emit {}", file.as_str())?),
-        Act::Report => Ok(String::from_str(alloc, "report")?),
-        Act::Mark { name } => Ok(format!(in alloc; "mark {}", name.as_str())?),
-        Act::Back { name } => Ok(format!(in alloc; "back {}", name.as_str())?),
-        Act::Compact => Ok(String::from_str(alloc, "compact")?),
+fn job_text(alloc: Global, job: &Job) -> Result<String, AllocError> {
+    let steps = steps_text(alloc, job.steps.as_slice())?;
+    let name = job.meta.name.as_str();
+    format!(in alloc;
+        "{} {name} {}{}",
+        job.meta.epoch,
+        job.pieces,
+        steps.as_str()
+    )
+}
+
+fn job_of(alloc: Global, bytes: &[u8]) -> Result<Job, JobFault> {
+    read_job(alloc, bytes)
+}
+
+// A job in one line: epoch, database type, number of pieces, and each step with its line;
+// or the fault.
+fn told(alloc: Global, bytes: &[u8]) -> Result<String, AllocError> {
+    match job_of(alloc, bytes) {
+        Ok(job) => job_text(alloc, &job),
+        Err(fault) => format!(in alloc; "{fault}"),
     }
 }
 
-fn gone_text(alloc: Global, gone: &Gone) -> Result<String, Fail> {
-    match gone {
-        Gone::Rpsl(slot) => Ok(format!(in alloc; "no rpsl {}", slot.as_str())?),
-        Gone::Stats(slot) => Ok(format!(in alloc; "no stats {}", slot.as_str())?),
-        Gone::Feed(url) => Ok(format!(in alloc; "no feed {}", url.as_str())?),
-        Gone::Overrides => Ok(String::from_str(alloc, "no overrides")?),
+// A text, and the job or the fault that it is; or a line, and what it says.
+type Row = (&'static [u8], &'static str);
+
+fn is_told(alloc: Global, row: &Row) -> Result<bool, AllocError> {
+    Ok(told(alloc, row.0)?.as_str() == row.1)
+}
+
+fn are_told<R: Abort>(rt: &R, alloc: Global, rows: &[Row]) -> Result<(), Fail> {
+    for (at, row) in rows.iter().enumerate() {
+        assert!(rt; is_told(alloc, row)?, "row {at}: {}", row.1);
     }
+    Ok(())
 }
 
 /// Texts, and the job or the fault that each is.
-const WHOLE: [(&[u8], &str); 20] = [
+static WHOLE: [Row; 20] = [
     (b"epoch 1\nemit a\n", "1 Geofeed-City 4; 2 emit a"),
     (b"epoch 007", "7 Geofeed-City 4"),
     (b"epoch 00000000000000000007", "7 Geofeed-City 4"),
@@ -93,18 +128,17 @@ drop stats a-Z_.9\nemit o",
     (b"epoch 1\nreport\npieces 4\nemit", "line 3 is refused"),
 ];
 
+fn whole() -> &'static [Row] {
+    &WHOLE
+}
+
 #[test]
 fn jobs_and_faults(rt: HostRuntime) -> Result<(), Fail> {
-    let alloc = rt.alloc();
-    for (bytes, wanted) in WHOLE {
-        let given = told(alloc, bytes)?;
-        assert_eq!(rt; given.as_str(), wanted);
-    }
-    Ok(())
+    are_told(&rt, rt.alloc(), whole())
 }
 
 /// Orders of lines: texts, and the job or the fault that each is.
-const ORDERED: [(&[u8], &str); 18] = [
+static ORDERED: [Row; 18] = [
     (b"epoch 1\nepoch 1", "line 2 is refused"),
     (b"emit a\nepoch 1", "line 1 is refused"),
     (b"type a\nepoch 1", "line 1 is refused"),
@@ -128,18 +162,45 @@ const ORDERED: [(&[u8], &str); 18] = [
     ),
 ];
 
+fn ordered() -> &'static [Row] {
+    &ORDERED
+}
+
 #[test]
 fn order_of_lines(rt: HostRuntime) -> Result<(), Fail> {
-    let alloc = rt.alloc();
-    for (bytes, wanted) in ORDERED {
-        let given = told(alloc, bytes)?;
-        assert_eq!(rt; given.as_str(), wanted);
+    are_told(&rt, rt.alloc(), ordered())
+}
+
+// The job whose second line is this.
+fn behind_epoch(alloc: Global, line: &[u8]) -> Result<Vec<u8>, AllocError> {
+    let mut text = Vec::from_slice(alloc, b"epoch 1\n")?;
+    text.extend_from_slice(line)?;
+    Ok(text)
+}
+
+// The job of epoch 1 that says this, or the refusal of its second line.
+fn wanted_text(alloc: Global, said: &str) -> Result<String, AllocError> {
+    if said.is_empty() {
+        return String::from_str(alloc, "line 2 is refused");
+    }
+    format!(in alloc; "1 {said}")
+}
+
+fn is_told_behind(alloc: Global, row: &Row) -> Result<bool, AllocError> {
+    let text = behind_epoch(alloc, row.0)?;
+    let given = told(alloc, text.as_slice())?;
+    Ok(given.as_str() == wanted_text(alloc, row.1)?.as_str())
+}
+
+fn are_told_behind<R: Abort>(rt: &R, alloc: Global, rows: &[Row]) -> Result<(), Fail> {
+    for (at, row) in rows.iter().enumerate() {
+        assert!(rt; is_told_behind(alloc, row)?, "row {at}: {}", row.1);
     }
     Ok(())
 }
 
 /// Lines behind an epoch, and what each says; nothing where it is refused.
-const LINES: [(&[u8], &str); 51] = [
+static LINES: [Row; 51] = [
     (b"type !~", "!~ 4"),
     (b"type \xC3\xA9", ""),
     (b"type", ""),
@@ -202,21 +263,17 @@ const LINES: [(&[u8], &str); 51] = [
     (b"RPSL s f", ""),
 ];
 
+fn lines() -> &'static [Row] {
+    &LINES
+}
+
 #[test]
 fn forms_of_lines(rt: HostRuntime) -> Result<(), Fail> {
-    let alloc = rt.alloc();
-    for (line, wanted) in LINES {
-        let mut text = Vec::from_slice(alloc, b"epoch 1\n")?;
-        text.extend_from_slice(line)?;
-        let given = told(alloc, text.as_slice())?;
-        let wanted = wanted_text(alloc, wanted)?;
-        assert_eq!(rt; given.as_str(), wanted.as_str());
-    }
-    Ok(())
+    are_told_behind(&rt, rt.alloc(), lines())
 }
 
 /// The lines that mark a state of the sources, go back to it, and give up nodes.
-const KEPT: [(&[u8], &str); 10] = [
+static KEPT: [Row; 10] = [
     (b"mark a-Z_.9", "Geofeed-City 4; 2 mark a-Z_.9"),
     (b"mark a/b", ""),
     (b"mark", ""),
@@ -229,29 +286,19 @@ const KEPT: [(&[u8], &str); 10] = [
     (b"Compact", ""),
 ];
 
+fn kept() -> &'static [Row] {
+    &KEPT
+}
+
 #[test]
 fn forms_of_kept_lines(rt: HostRuntime) -> Result<(), Fail> {
-    let alloc = rt.alloc();
-    for (line, wanted) in KEPT {
-        let mut text = Vec::from_slice(alloc, b"epoch 1\n")?;
-        text.extend_from_slice(line)?;
-        let given = told(alloc, text.as_slice())?;
-        let wanted = wanted_text(alloc, wanted)?;
-        assert_eq!(rt; given.as_str(), wanted.as_str());
-    }
-    Ok(())
+    are_told_behind(&rt, rt.alloc(), kept())
 }
 
-// The job of epoch 1 that says this, or the refusal of its second line.
-fn wanted_text(alloc: Global, said: &str) -> Result<String, Fail> {
-    if said.is_empty() {
-        return Ok(String::from_str(alloc, "line 2 is refused")?);
-    }
-    Ok(format!(in alloc; "1 {said}")?)
-}
+/// A word, and whether it is the name of a file.
+type NameRow = (&'static [u8], bool);
 
-/// Words, and whether each is the name of a file.
-const NAMES: [(&[u8], bool); 20] = [
+static NAMES: [NameRow; 20] = [
     (b"a", true),
     (b"a/b.c/-", true),
     (b"...", true),
@@ -274,75 +321,99 @@ const NAMES: [(&[u8], bool); 20] = [
     (b"a\xFF", false),
 ];
 
+fn names() -> &'static [NameRow] {
+    &NAMES
+}
+
+fn is_name_so(row: &NameRow) -> bool {
+    is_name(row.0) == row.1
+}
+
 #[test]
 fn names_of_files(rt: HostRuntime) {
-    for (word, wanted) in NAMES {
-        assert_eq!(rt; is_name(word), wanted);
+    for (at, row) in names().iter().enumerate() {
+        assert!(rt; is_name_so(row), "row {at}");
+    }
+}
+
+fn has_key(alloc: Global, url: &[u8], wanted: &str) -> Result<bool, Memory> {
+    match feed_key(alloc, url)? {
+        Some(key) => Ok(key.as_str() == wanted),
+        None => Ok(false),
     }
 }
 
 #[test]
 fn slots_and_keys(rt: HostRuntime) -> Result<(), Fail> {
-    let alloc = rt.alloc();
-    assert_eq!(rt; is_slot(b"a-Z_.9".as_slice()), true);
-    assert_eq!(rt; is_slot(b"a/b".as_slice()), false);
-    let key = feed_key(alloc, b"https://EXAMPLE.com/a b".as_slice())?;
-    let key = key.as_ref().map_or("", |key| key.as_str());
-    assert_eq!(rt; key, "https://example.com/a%20b");
+    assert!(rt; is_slot(b"a-Z_.9"));
+    assert!(rt; !is_slot(b"a/b"));
+    let wanted = "https://example.com/a%20b";
+    assert!(rt; has_key(rt.alloc(), b"https://EXAMPLE.com/a b", wanted)?);
     Ok(())
 }
 
-// A text, and behind it so many equal bytes, and another text.
+// What stands before a run of `a`, how many are accepted, and what stands behind them.
+type Longest = (&'static [u8], usize, &'static [u8]);
+
+static LONGEST: [Longest; 5] = [
+    (b"epoch 1\ntype ", 64, b""),
+    (b"epoch 1\nstats ", 64, b" f"),
+    (b"epoch 1\ndrop rpsl ", 64, b""),
+    (b"epoch 1\nemit ", 255, b"\n"),
+    (b"epoch 1\n# ", 1_048_566, b""),
+];
+
+fn longest() -> &'static [Longest] {
+    &LONGEST
+}
+
+// A text, behind it so many equal bytes, and another text.
 fn with_run(
     alloc: Global,
     before: &[u8],
     byte: u8,
     count: usize,
     after: &[u8],
-) -> Result<Vec<u8>, Fail> {
+) -> Result<Vec<u8>, AllocError> {
     let mut text = Vec::from_slice(alloc, before)?;
-    for _ in 0..count {
-        text.push(byte)?;
-    }
+    let run = vec![in alloc; byte; count]?;
+    text.extend_from_slice(run.as_slice())?;
     text.extend_from_slice(after)?;
     Ok(text)
 }
 
-// Whether the job with that run is accepted.
-fn accepts(
-    alloc: Global,
-    before: &[u8],
-    byte: u8,
-    count: usize,
-    after: &[u8],
-) -> Result<bool, Fail> {
-    let text = with_run(alloc, before, byte, count, after)?;
-    match read_job(alloc, text.as_slice()) {
+// Whether a text is a job.
+fn is_job(alloc: Global, text: &[u8]) -> Result<bool, JobFault> {
+    match job_of(alloc, text) {
         Ok(_) => Ok(true),
-        Err(JobFault::Memory) => Err(Fail::from("out of memory")),
+        Err(JobFault::Memory) => Err(JobFault::Memory),
         Err(_) => Ok(false),
     }
 }
 
+// Whether the job with a run of so many is accepted.
+fn accepts(alloc: Global, row: &Longest, count: usize) -> Result<bool, Fail> {
+    let text = with_run(alloc, row.0, b'a', count, row.2)?;
+    Ok(is_job(alloc, text.as_slice())?)
+}
+
+// Whether that many are accepted, and one more is not.
+fn is_longest(alloc: Global, row: &Longest) -> Result<bool, Fail> {
+    Ok(accepts(alloc, row, row.1)? && !accepts(alloc, row, row.1.saturating_add(1))?)
+}
+
 #[test]
 fn longest_texts(rt: HostRuntime) -> Result<(), Fail> {
-    let alloc = rt.alloc();
-    // What stands before a run of `a`, how many are accepted, and what stands behind them.
-    let table: [(&[u8], usize, &[u8]); 5] = [
-        (b"epoch 1\ntype ", 64, b""),
-        (b"epoch 1\nstats ", 64, b" f"),
-        (b"epoch 1\ndrop rpsl ", 64, b""),
-        (b"epoch 1\nemit ", 255, b"\n"),
-        (b"epoch 1\n# ", 1_048_566, b""),
-    ];
-    for (before, most, after) in table {
-        let fits = accepts(alloc, before, b'a', most, after)?;
-        assert_eq!(rt; fits, true, "at {most}");
-        let over = accepts(alloc, before, b'a', most + 1, after)?;
-        assert_eq!(rt; over, false, "over {most}");
+    for row in longest() {
+        assert!(rt; is_longest(rt.alloc(), row)?, "at {}", row.1);
     }
-    let long = with_run(alloc, b"epoch 1\n", b'\xFF', 1_048_569, b"")?;
-    let given = told(alloc, long.as_slice())?;
-    assert_eq!(rt; given.as_str(), "over 1,048,576 bytes");
+    Ok(())
+}
+
+// The length of a job is judged before its bytes.
+#[test]
+fn a_long_text_of_other_bytes(rt: HostRuntime) -> Result<(), Fail> {
+    let text = with_run(rt.alloc(), b"epoch 1\n", b'\xFF', 1_048_569, b"")?;
+    assert!(rt; told(rt.alloc(), text.as_slice())?.as_str() == "over 1,048,576 bytes");
     Ok(())
 }

@@ -1,10 +1,10 @@
 //! How steps are done and where they stop, over a folder and a sink in memory.
-ghost use Rattle.std.specs.Prelude.{◌≡◌, ◌<◌};
+ghost use Rattle.std.specs.Prelude.{◌≡◌, ◌<◌, ◌≤◌, length, IfOk};
 
 use fan_work::Forks;
-use geo_addr::{Bytes, List, Text};
+use geo_addr::{Bytes, Memory, Text};
 use geo_outside::{MemFolder, MemSink, OpenGate, Steps};
-use job_lines::{Step, read_job};
+use job_lines::{Job, JobFault, read_job};
 use job_run::{Apart, Cause, Scope, StepStop, Stop, do_steps};
 use mmdb_file::Meta;
 use std::alloc::Global;
@@ -28,29 +28,42 @@ const SOURCES: Files = &[
     ("o", "10.0.0.0/26,set,IT\n"),
 ];
 
-/// The steps of a job.
-fn steps_of(alloc: Global, job: &str) -> Result<List<Step>, Fail> {
-    match read_job(alloc, job.as_bytes()) {
-        Ok(job) => Ok(job.steps),
-        Err(_) => Err(Fail::from("no job")),
-    }
+fn job_of(alloc: Global, job: &str) -> Result<Job, JobFault> {
+    read_job(alloc, job.as_bytes())
 }
 
-fn folder_of(alloc: Global, files: Files) -> Result<MemFolder, Fail> {
-    let mut folder = MemFolder::new(alloc, Vec::new(alloc), Vec::new(alloc));
-    for (name, bytes) in files {
-        folder.hold(name, bytes.as_bytes())?;
+fn hold(folder: &mut MemFolder, name: &str, bytes: &[u8]) -> Result<(), Memory> {
+    folder.hold(name, bytes)
+}
+
+fn hold_all(folder: &mut MemFolder, files: Files) -> Result<(), Memory> {
+    for file in files {
+        hold(folder, file.0, file.1.as_bytes())?;
     }
+    Ok(())
+}
+
+fn empty(alloc: Global) -> MemFolder {
+    MemFolder::new(alloc, Vec::new(alloc), Vec::new(alloc))
+}
+
+fn folder_of(alloc: Global, files: Files) -> Result<MemFolder, Memory> {
+    let mut folder = empty(alloc);
+    hold_all(&mut folder, files)?;
     Ok(folder)
 }
 
-fn apart_of(alloc: Global, files: Files) -> Result<Vec<Apart>, Fail> {
+fn one_apart(alloc: Global, name: &str, bytes: &str) -> Result<Apart, Memory> {
+    Ok(Apart {
+        name: Text::of(alloc, name)?,
+        bytes: Bytes::of(alloc, bytes.as_bytes())?,
+    })
+}
+
+fn apart_of(alloc: Global, files: Files) -> Result<Vec<Apart>, Memory> {
     let mut apart = Vec::new(alloc);
-    for (name, bytes) in files {
-        apart.push(Apart {
-            name: Text::of(alloc, name)?,
-            bytes: Bytes::of(alloc, bytes.as_bytes())?,
-        })?;
+    for file in files {
+        apart.push(one_apart(alloc, file.0, file.1)?)?;
     }
     Ok(apart)
 }
@@ -92,7 +105,7 @@ struct Row {
 const SET_ALL: &str =
     "epoch 1\nrpsl a d\nstats a s\nfeed https://a.example/f f\noverrides o\nreport\n";
 
-const ROWS: [Row; 9] = [
+static ROWS: [Row; 9] = [
     Row {
         files: SOURCES,
         apart: &[],
@@ -177,57 +190,98 @@ const ROWS: [Row; 9] = [
     },
 ];
 
+fn rows() -> &'static [Row] {
+    &ROWS
+}
+
+/// What the steps of a job are done with.
+#[derive(Drop)]
+struct World {
+    apart: Vec<Apart>,
+    job: Job,
+    session: Session,
+    folder: MemFolder,
+    out: MemSink,
+}
+
+fn meta(alloc: Global) -> Result<Meta, Memory>
+    ensures { IfOk result (λ meta. length meta.name ≤ 64) }
+{
+    Ok(Meta {
+        epoch: 1,
+        name: Text::of(alloc, "x")?,
+    })
+}
+
+fn session_of(alloc: Global) -> Result<Session, Memory> {
+    let meta = meta(alloc)?;
+    Session::new(alloc, meta)
+}
+
+fn world_of(alloc: Global, row: &Row) -> Result<World, Fail> {
+    let apart = apart_of(alloc, row.apart)?;
+    let job = job_of(alloc, row.job)?;
+    let session = session_of(alloc)?;
+    let folder = folder_of(alloc, row.files)?;
+    Ok(World {
+        apart,
+        job,
+        session,
+        folder,
+        out: MemSink::new(alloc, Vec::new(alloc)),
+    })
+}
+
 /// Does the steps of a row.
 fn done<R: Threads + Sync, L: Ledger>(
     rt: &R,
     alloc: Global,
-    row: &Row,
-    out: &mut MemSink,
+    scope: Scope,
+    world: &mut World,
     blank: Blank,
-) -> Result<(usize, &'static str), Fail>
+) -> Result<(), StepStop>
     requires name { blank.name ≡ L.name }
     requires parts { blank.parts ≡ L.parts }
     requires some { 0 < blank.parts }
 {
     let mut steps: Steps<L> = Steps::new(blank);
-    let list = steps_of(alloc, row.job)?;
-    let mut folder = folder_of(alloc, row.files)?;
-    let apart = apart_of(alloc, row.apart)?;
-    let mut session = session_of(alloc)?;
     let forks = Forks {
         rt,
         alloc,
         gate: &OpenGate,
         pieces: 3,
     };
-    Ok(word_of(do_steps(
+    do_steps(
         &forks,
-        apart.as_slice(),
-        row.scope,
-        list.as_slice(),
-        &mut session,
-        &mut folder,
-        out,
+        world.apart.as_slice(),
+        scope,
+        world.job.steps.as_slice(),
+        &mut world.session,
+        &mut world.folder,
+        &mut world.out,
         &mut steps,
-    )))
+    )
 }
 
-fn session_of(alloc: Global) -> Result<Session, Fail> {
-    let meta = Meta {
-        epoch: 1,
-        name: Text::of(alloc, "x")?,
-    };
-    Ok(Session::new(alloc, meta)?)
+/// Whether they end as the row has it.
+fn ends_so<R: Threads + Sync>(rt: &R, alloc: Global, row: &Row, world: &mut World) -> bool {
+    let ended = done::<R, Brand>(rt, alloc, row.scope, world, Blank::new(1));
+    word_of(ended) == (row.at, row.word)
+}
+
+fn is_printed(world: &World, printed: &str) -> bool {
+    world.out.written() == printed.as_bytes()
+}
+
+fn comes_out<R: Threads + Sync>(rt: &R, alloc: Global, row: &Row) -> Result<bool, Fail> {
+    let mut world = world_of(alloc, row)?;
+    Ok(ends_so(rt, alloc, row, &mut world) && is_printed(&world, row.printed))
 }
 
 #[test]
 fn steps_and_stops(rt: HostRuntime) -> Result<(), Fail> {
-    let alloc = rt.alloc();
-    for (i, row) in ROWS.iter().enumerate() {
-        let mut out = MemSink::new(alloc, Vec::new(alloc));
-        let ended = done::<_, Brand>(&rt, alloc, row, &mut out, Blank::new(1))?;
-        assert_eq!(rt; ended, (row.at, row.word), "row {i}");
-        assert_eq!(rt; out.written(), row.printed.as_bytes(), "row {i}");
+    for (at, row) in rows().iter().enumerate() {
+        assert!(rt; comes_out(&rt, rt.alloc(), row)?, "row {at}");
     }
     Ok(())
 }

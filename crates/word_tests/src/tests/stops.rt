@@ -1,108 +1,127 @@
 //! What is said of a stop.
+use super::commands::strings;
+use geo_addr::{Memory, Text};
 use geo_outside::MemFolder;
 use std::alloc::Global;
 use std::test::Fail;
 use stop_words::{Stopped, stop_text};
 
-// What is said of a stop over a folder that holds one job, without its line end.
-fn said(
-    alloc: Global,
-    job: &str,
-    words: &str,
-    status: u8,
-    line: &str,
-    system: &str,
-) -> Result<String, Fail> {
+// A folder that holds one job.
+fn folder_of(alloc: Global, job: &str) -> Result<MemFolder, Memory> {
     let mut folder = MemFolder::new(alloc, Vec::new(alloc), Vec::new(alloc));
     folder.hold("job", job.as_bytes())?;
-    let mut list = Vec::new(alloc);
-    for word in words.split(' ') {
-        if !word.is_empty() {
-            list.push(String::from_str(alloc, word)?)?;
-        }
-    }
-    let stopped = Stopped {
-        status,
-        line,
-        system,
-    };
-    let text = stop_text(alloc, list.as_slice(), &mut folder, &stopped)?;
-    let text = text.as_str();
-    Ok(String::from_str(alloc, text.strip_suffix("\n").unwrap_or("(no line end)"))?)
+    Ok(folder)
+}
+
+fn text_of(
+    alloc: Global,
+    words: &[String],
+    folder: &mut MemFolder,
+    stopped: &Stopped<'_>,
+) -> Result<Text, Memory> {
+    stop_text(alloc, words, folder, stopped)
+}
+
+// What is said of a stop over a folder that holds one job.
+fn said(alloc: Global, job: &str, words: &[&str], stopped: &Stopped<'_>) -> Result<Text, Fail> {
+    let mut folder = folder_of(alloc, job)?;
+    let words = strings(alloc, words)?;
+    Ok(text_of(alloc, words.as_slice(), &mut folder, stopped)?)
+}
+
+// The text without its line end.
+fn line_of(text: &str) -> &str {
+    text.strip_suffix("\n").unwrap_or("(no line end)")
 }
 
 /// Words of the command line, and what is said of them.
-const WORDS: [(&str, &str); 14] = [
+type WordRow = (&'static [&'static str], &'static str);
+
+static WORDS: [WordRow; 14] = [
     (
-        "",
+        &[],
         "geofeed: a command is missing; geofeed --help names them",
     ),
     (
-        "bild job",
+        &["bild", "job"],
         "geofeed: \"bild\" is no command; commands are build, lookup, explain, gen, publish, check and census",
     ),
     (
-        "-v",
+        &["-v"],
         "geofeed: \"-v\" is no option; options are -h, --help, -V and --version, and each stands alone",
     ),
     (
-        "build",
+        &["build"],
         "geofeed: a wrong number of words; the command is: geofeed build JOB",
     ),
     (
-        "publish j 10.0.0.0/8",
+        &["publish", "j", "10.0.0.0/8"],
         "geofeed: a wrong number of words; the command is: geofeed publish JOB BLOCK FILE",
     ),
     (
-        "build ../j",
+        &["build", "../j"],
         "geofeed: the file name \"../j\" has the part \"..\"; names are at or below the current folder",
     ),
     (
-        "build /etc/job",
+        &["build", "/etc/job"],
         "geofeed: the file name \"/etc/job\" is absolute; names are at or below the current folder",
     ),
     (
-        "lookup f 1.2.3",
+        &["lookup", "f", "1.2.3"],
         "geofeed: the address \"1.2.3\" is not an address: not in the form of an address",
     ),
     (
-        "lookup f 192.0.2.256",
+        &["lookup", "f", "192.0.2.256"],
         "geofeed: the address \"192.0.2.256\" is not an address: a number between dots is above 255 or has a zero in front",
     ),
     (
-        "gen 01 f",
+        &["gen", "01", "f"],
         "geofeed: the number of lines \"01\" is not a number from 1 to 1,000,000 without leading zeros",
     ),
     (
-        "publish j 192.0.2.1/24 f",
+        &["publish", "j", "192.0.2.1/24", "f"],
         "geofeed: the prefix \"192.0.2.1/24\" is not a prefix: a bit below the length is set",
     ),
     (
-        "publish j ::/0 f",
+        &["publish", "j", "::/0", "f"],
         "geofeed: the prefix \"::/0\" reaches from the IPv4 addresses into the IPv6 addresses; it begins at ::1:0:0 or above",
     ),
     (
-        "check j http://a.example/f",
+        &["check", "j", "http://a.example/f"],
         "geofeed: the URL \"http://a.example/f\" is not a URL that begins with https://",
     ),
     (
-        "census j/",
+        &["census", "j/"],
         "geofeed: the file name \"j/\" has an empty part; parts stand between single slashes, and none at an end",
     ),
 ];
 
+fn words() -> &'static [WordRow] {
+    &WORDS
+}
+
+fn is_said_of_words(alloc: Global, row: &WordRow) -> Result<bool, Fail> {
+    let stopped = Stopped {
+        status: 2,
+        line: "stop words\n",
+        system: "",
+    };
+    let given = said(alloc, "", row.0, &stopped)?;
+    Ok(line_of(given.as_str()) == row.1)
+}
+
 #[test]
 fn words_of_a_command(rt: HostRuntime) -> Result<(), Fail> {
-    let alloc = rt.alloc();
-    for (words, wanted) in WORDS {
-        let given = said(alloc, "", words, 2, "stop words\n", "")?;
-        assert_eq!(rt; given.as_str(), wanted);
+    for row in words() {
+        assert!(rt; is_said_of_words(rt.alloc(), row)?, "{}", row.1);
     }
     Ok(())
 }
 
-/// Jobs whose second line is refused, and what is said of it.
-const LINES: [(&str, &str); 18] = [
+/// A job whose second line is refused, and what is said of it.
+type Row = (&'static str, &'static str);
+
+static LINES: [Row; 18] = [
     (
         "epoch 1\nstat x s",
         "no line begins with \"stat\"; lines begin with epoch, type, pieces, rpsl, stats, feed, overrides, drop, \
@@ -179,19 +198,37 @@ drop rpsl SLOT, drop stats SLOT, drop feed URL or drop overrides",
     ),
 ];
 
+fn lines() -> &'static [Row] {
+    &LINES
+}
+
+// What is said without the line's place, where it has that.
+fn behind_place(text: &str) -> &str {
+    text.strip_prefix("job:2: ").unwrap_or(text)
+}
+
+fn is_said_of_line(alloc: Global, row: &Row) -> Result<bool, Fail> {
+    let stopped = Stopped {
+        status: 6,
+        line: "stop job 2\n",
+        system: "",
+    };
+    let given = said(alloc, row.0, &["build", "job"], &stopped)?;
+    Ok(behind_place(line_of(given.as_str())) == row.1)
+}
+
 #[test]
 fn lines_of_a_job(rt: HostRuntime) -> Result<(), Fail> {
-    let alloc = rt.alloc();
-    for (job, wanted) in LINES {
-        let given = said(alloc, job, "build job", 6, "stop job 2\n", "")?;
-        let given = given.as_str();
-        assert_eq!(rt; given.strip_prefix("job:2: ").unwrap_or(given), wanted);
+    for row in lines() {
+        assert!(rt; is_said_of_line(rt.alloc(), row)?, "{}", row.1);
     }
     Ok(())
 }
 
-/// Jobs, the status and the stop line, and what is said of the stop.
-const STOPS: [(&str, u8, &str, &str); 19] = [
+/// A job, the status and the stop line, and what is said of the stop.
+type StopRow = (&'static str, u8, &'static str, &'static str);
+
+static STOPS: [StopRow; 19] = [
     ("epoch 1", 0, "", "(no line end)"),
     (
         "epoch 1",
@@ -303,26 +340,41 @@ const STOPS: [(&str, u8, &str, &str); 19] = [
     ),
 ];
 
-#[test]
-fn stops(rt: HostRuntime) -> Result<(), Fail> {
-    let alloc = rt.alloc();
-    for (job, status, line, wanted) in STOPS {
-        let system = if status == 3 || status == 5 {
-            "why"
-        } else {
-            ""
-        };
-        let given = said(alloc, job, words_at(status), status, line, system)?;
-        assert_eq!(rt; given.as_str(), wanted);
-    }
-    Ok(())
+fn stop_rows() -> &'static [StopRow] {
+    &STOPS
 }
 
 // The words of a command that ends with this status.
-fn words_at(status: u8) -> &'static str {
+fn words_at(status: u8) -> &'static [&'static str] {
     match status {
-        9 => "lookup job 192.0.2.1",
-        12 => "check job https://a.example/f",
-        _ => "build job",
+        9 => &["lookup", "job", "192.0.2.1"],
+        12 => &["check", "job", "https://a.example/f"],
+        _ => &["build", "job"],
     }
+}
+
+// What the system says where a command ends with this status.
+fn system_at(status: u8) -> &'static str {
+    match status {
+        3 | 5 => "why",
+        _ => "",
+    }
+}
+
+fn is_said_of_stop(alloc: Global, row: &StopRow) -> Result<bool, Fail> {
+    let stopped = Stopped {
+        status: row.1,
+        line: row.2,
+        system: system_at(row.1),
+    };
+    let given = said(alloc, row.0, words_at(row.1), &stopped)?;
+    Ok(line_of(given.as_str()) == row.3)
+}
+
+#[test]
+fn stops(rt: HostRuntime) -> Result<(), Fail> {
+    for row in stop_rows() {
+        assert!(rt; is_said_of_stop(rt.alloc(), row)?, "{}", row.3);
+    }
+    Ok(())
 }

@@ -1,4 +1,4 @@
-use Rattle.word_tests.proofs.tests.steps.steps_and_stops.Given as goal
+use Rattle.word_tests.proofs.tests.steps.ends_so.Given as goal
 
 -- the counter is that of the blank
 abbrev pub ghosts-done : goal.ghosts-done
