@@ -18,21 +18,21 @@ pub(crate) enum Fault {
     /// A case takes no more than that.
     #[error("the size is too large")]
     Size,
-    #[error(transparent)]
+    #[error("a source is refused")]
     Source(#[from] SourceFault),
-    #[error(transparent)]
+    #[error("a place is refused")]
     Place(#[from] PlaceFault),
-    #[error(transparent)]
+    #[error("there are too many places")]
     Places(#[from] PlacesFault),
-    #[error(transparent)]
+    #[error("the store is full")]
     Store(#[from] StoreFault),
-    #[error(transparent)]
+    #[error("no file is emitted")]
     Emit(#[from] EmitFault),
-    #[error(transparent)]
+    #[error("no file is written")]
     File(#[from] FileFault),
-    #[error(transparent)]
+    #[error("out of memory")]
     Memory(#[from] Memory),
-    #[error(transparent)]
+    #[error("a file or the output fails")]
     Io(#[from] io::Error),
 }
 
