@@ -1,33 +1,28 @@
 //! Why a case is not run to its end.
 
 use geo_addr::Memory;
-use geo_terms::{PlaceFault, PlacesFault, SourceFault};
+use geo_terms::{PlaceFault, PlacesFault};
 use mmdb_file::FileFault;
 use std::alloc::AllocError;
 use std::io;
 use thiserror::Error;
 use trie_core::StoreFault;
-use update_session::EmitFault;
 
 /// Why a case is not run to its end.
 #[derive(Debug, Drop, Error)]
 pub(crate) enum Fault {
-    /// The first word is to be a case, and the second a size or a file.
+    /// The first word is to be a case, and the second a size.
     #[error("the words are no case")]
     Words,
     /// A case takes no more than that.
     #[error("the size is too large")]
     Size,
-    #[error("a source is refused")]
-    Source(#[from] SourceFault),
     #[error("a place is refused")]
     Place(#[from] PlaceFault),
     #[error("there are too many places")]
     Places(#[from] PlacesFault),
     #[error("the store is full")]
     Store(#[from] StoreFault),
-    #[error("no file is emitted")]
-    Emit(#[from] EmitFault),
     #[error("no file is written")]
     File(#[from] FileFault),
     #[error("out of memory")]
