@@ -1,9 +1,9 @@
 #!/usr/bin/env bash
-# Feeds and files of overrides at their limits, by the cases of geo_bench: 67,108,864 bytes are read and a byte more is
+# Feeds and files of overrides at their limits, by the cases of source_bench: 67,108,864 bytes are read and a byte more is
 # refused, 2,097,152 lines that pass are read and one more is refused.
 set -u
 cd "$(dirname "${BASH_SOURCE[0]}")/.." || exit 1
-bench=$PWD/crates/geo_bench/out/geo_bench
+bench=$PWD/crates/source_bench/out/source_bench
 . checks/with_program.bash
 [ -x "$bench" ] || skip "$bench is not built"
 available=$(sed -n 's/^MemAvailable: *\([0-9]*\) kB$/\1/p' /proc/meminfo)

@@ -31,8 +31,16 @@ pub(crate) fn run<R: Threads + Sync + Print>(
     };
     let results = map_pieces(&forks, items.as_slice(), &Rounds(rounds))?;
     println!(rt; "results {}", results.len())?;
-    println!(rt; "together {}", results.iter().fold(0u32, |all, x| all ^ *x))?;
+    println!(rt; "together {}", together(results.as_slice()))?;
     Ok(())
+}
+
+fn together(results: &[u32]) -> u32 {
+    let mut all = 0;
+    for one in results {
+        all ^= *one;
+    }
+    all
 }
 
 fn all_items(alloc: Global) -> Result<Vec<u32>, Memory> {

@@ -1,38 +1,33 @@
 //! Why a case is not run to its end.
 
 use geo_addr::Memory;
-use geo_terms::{PlaceFault, PlacesFault, SourceFault};
+use geo_terms::{PlaceFault, PlacesFault};
 use mmdb_file::FileFault;
 use std::alloc::AllocError;
 use std::io;
 use thiserror::Error;
 use trie_core::StoreFault;
-use update_session::EmitFault;
 
 /// Why a case is not run to its end.
 #[derive(Debug, Drop, Error)]
 pub(crate) enum Fault {
-    /// The first word is to be a case, and the second a size or a file.
+    /// The first word is to be a case, and the second a size.
     #[error("the words are no case")]
     Words,
     /// A case takes no more than that.
     #[error("the size is too large")]
     Size,
-    #[error(transparent)]
-    Source(#[from] SourceFault),
-    #[error(transparent)]
+    #[error("a place is refused")]
     Place(#[from] PlaceFault),
-    #[error(transparent)]
+    #[error("there are too many places")]
     Places(#[from] PlacesFault),
-    #[error(transparent)]
+    #[error("the store is full")]
     Store(#[from] StoreFault),
-    #[error(transparent)]
-    Emit(#[from] EmitFault),
-    #[error(transparent)]
+    #[error("no file is written")]
     File(#[from] FileFault),
-    #[error(transparent)]
+    #[error("out of memory")]
     Memory(#[from] Memory),
-    #[error(transparent)]
+    #[error("a file or the output fails")]
     Io(#[from] io::Error),
 }
 

@@ -1,26 +1,20 @@
 //! Cases to be timed from outside: the first word picks a case, and the second says how large it
-//! is, or which file is read.
+//! is.
 //! What a case prints is counts and no times, so that its output is the same wherever it runs.
 #![tactic(auto)]
 
 mod case;
-mod dump;
-mod emit;
 mod fan;
 mod fault;
-mod feed;
-mod feeds;
 mod order;
 mod pack;
 mod paint;
 mod publish;
 mod ranges;
-mod registries;
-mod speak;
 mod wide;
 mod write;
 
-use crate::case::{Case, FileCase, SizedCase, case_of};
+use crate::case::{Case, SizedCase, case_of};
 use crate::fault::Fault;
 use std::env::Env;
 use std::io::Print;
@@ -53,7 +47,6 @@ fn run<R: Threads + Sync + Files + Print + AllocGlobal>(
         return Err(Fault::Words);
     };
     match case_of(case.as_str()) {
-        Some(Case::File(case)) => run_on_files(rt, case, rest),
         Some(Case::Sized(case)) => run_sized(rt, case, size_in(rest)?),
         Some(Case::Wide) => run_wide(rt, rest),
         None => Err(Fault::Words),
@@ -67,18 +60,6 @@ fn size_in(words: &[String]) -> Result<u32, Fault> {
     match word.as_str().parse::<u32>() {
         Ok(size) => Ok(size),
         Err(_) => Err(Fault::Words),
-    }
-}
-
-fn run_on_files<R: Files + Print + AllocGlobal>(
-    rt: &R,
-    case: FileCase,
-    names: &[String],
-) -> Result<(), Fault> {
-    match case {
-        FileCase::Dump => dump::run(rt, names),
-        FileCase::Feeds => feeds::run(rt, names, true),
-        FileCase::Overrides => feeds::run(rt, names, false),
     }
 }
 
@@ -99,15 +80,9 @@ fn run_sized<R: Threads + Sync + Print + AllocGlobal>(
     match case {
         SizedCase::Paint => paint::run(alloc, rt, size),
         SizedCase::Order { times } => order::run(alloc, rt, size, times),
-        SizedCase::Stats { is_emitted } => emit::run(alloc, rt, size, is_emitted),
-        SizedCase::Feed {
-            is_scattered,
-            is_read,
-        } => feed::run(alloc, rt, size, is_scattered, is_read),
         SizedCase::Places { is_packed } => pack::run(alloc, rt, size, is_packed),
         SizedCase::Write { is_written } => write::run(alloc, rt, size, is_written),
         SizedCase::Publish { is_published } => publish::run(alloc, rt, size, is_published),
         SizedCase::Fan { is_parallel } => fan::run(alloc, rt, size, is_parallel),
-        SizedCase::Speak(stage) => speak::run(alloc, rt, size, stage),
     }
 }

@@ -29,10 +29,20 @@ pub(crate) fn run(alloc: Global, rt: &impl Print, size: u32, is_packed: bool) ->
 fn distinct_places(alloc: Global, size: u32) -> Result<Places, Fault> {
     let mut texts = Texts::new(alloc);
     let mut places = Places::new(alloc);
-    for index in 0..size {
-        add_place(alloc, &mut texts, &mut places, index)?;
-    }
+    add_places(alloc, &mut texts, &mut places, size)?;
     Ok(places)
+}
+
+fn add_places(
+    alloc: Global,
+    texts: &mut Texts,
+    places: &mut Places,
+    size: u32,
+) -> Result<(), Fault> {
+    for index in 0..size {
+        add_place(alloc, texts, places, index)?;
+    }
+    Ok(())
 }
 
 fn add_place(
@@ -94,12 +104,17 @@ fn letter(number: u32) -> char {
 // How many bytes the section of all places has.
 fn packed_len(alloc: Global, places: &Places) -> Result<usize, Memory> {
     let mut packer = Packer::new(alloc);
+    pack_all(alloc, &mut packer, places)?;
+    Ok(packer.bytes().len())
+}
+
+fn pack_all(alloc: Global, packer: &mut Packer, places: &Places) -> Result<(), Memory> {
     for number in 1..=places.len() {
         if let Some(place) = places.get(number) {
-            pack(alloc, &mut packer, place)?;
+            pack(alloc, packer, place)?;
         }
     }
-    Ok(packer.bytes().len())
+    Ok(())
 }
 
 fn pack(alloc: Global, packer: &mut Packer, place: &Place) -> Result<(), Memory> {

@@ -3,7 +3,7 @@
 use crate::fault::Fault;
 use crate::write::{made, tell};
 use geo_terms::{Places, Said, place_of};
-use std::alloc::Global;
+use std::alloc::{AllocError, Global};
 use std::fs;
 use std::io::Print;
 use std::rt::Files;
@@ -32,15 +32,24 @@ pub(crate) fn run<R: Files + Print + AllocGlobal>(
 
 fn cities(alloc: Global) -> Result<Places, Fault> {
     let mut places = Places::new(alloc);
-    for number in 0..CITIES {
-        add_city(alloc, &mut places, number)?;
-    }
+    add_cities(alloc, &mut places)?;
     Ok(places)
 }
 
-fn add_city(alloc: Global, places: &mut Places, number: u32) -> Result<(), Fault> {
-    let city = format!(in alloc; "{number:x>1000}")?;
-    if let Said::At(place) = place_of(alloc, "DE", "", city.as_str(), "")? {
+fn add_cities(alloc: Global, places: &mut Places) -> Result<(), Fault> {
+    for number in 0..CITIES {
+        let city = city_text(alloc, number)?;
+        add_city(alloc, places, &city)?;
+    }
+    Ok(())
+}
+
+fn city_text(alloc: Global, number: u32) -> Result<String, AllocError> {
+    format!(in alloc; "{number:x>1000}")
+}
+
+fn add_city(alloc: Global, places: &mut Places, city: &str) -> Result<(), Fault> {
+    if let Said::At(place) = place_of(alloc, "DE", "", city, "")? {
         places.intern(&place)?;
     }
     Ok(())

@@ -55,9 +55,14 @@ fn countries(alloc: Global) -> Result<Places, Fault> {
 // Adds the places of the countries that begin with a letter.
 fn add_countries(texts: &mut Texts, places: &mut Places, first: u8) -> Result<(), Fault> {
     for second in b'A'..=b'Z' {
-        if let Some(place) = country_place(texts, &[first, second])? {
-            places.intern(&place)?;
-        }
+        add_country(texts, places, &[first, second])?;
+    }
+    Ok(())
+}
+
+fn add_country(texts: &mut Texts, places: &mut Places, code: &[u8]) -> Result<(), Fault> {
+    if let Some(place) = country_place(texts, code)? {
+        places.intern(&place)?;
     }
     Ok(())
 }

@@ -3,7 +3,6 @@ ghost use Rattle.std.specs.Prelude.{◌≡◌, ◌<◌};
 
 use crate::fault::Fault;
 use crate::registries::statistics;
-use crate::write::tell;
 use fan_work::Forks;
 use geo_addr::Text;
 use geo_outside::{OpenGate, Steps};
@@ -55,6 +54,15 @@ fn tell_emitted<R: Threads + Sync + Print>(
 ) -> Result<(), Fault> {
     let file = emitted::<_, Brand>(rt, alloc, stats, Blank::new(1))?;
     tell(rt, &file)
+}
+
+fn tell(rt: &impl Print, file: &Emitted) -> Result<(), Fault> {
+    println!(rt;
+        "nodes {} data {} bits {}",
+        file.nodes, file.section, file.bits
+    )?;
+    println!(rt; "bytes {}", file.bytes.len())?;
+    Ok(())
 }
 
 // The file of one source.

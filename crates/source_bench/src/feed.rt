@@ -1,7 +1,7 @@
 //! The cases `lines`, `feed` and `scattered`: a feed is made, and read.
 
 use crate::fault::Fault;
-use crate::ranges::mixed;
+use crate::numbers::mixed;
 use feed_csv::read_feed;
 use geo_addr::{Addr, Memory, addr_text};
 use std::alloc::Global;

@@ -1,6 +1,6 @@
 //! Made statistics that are like those of the five registries.
 
-use crate::ranges::mixed;
+use crate::numbers::mixed;
 use geo_addr::{Addr, Memory, addr_text};
 use std::alloc::Global;
 

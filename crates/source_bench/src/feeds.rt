@@ -9,7 +9,7 @@ use std::io::Print;
 use std::rt::Files;
 
 /// What was read of some files.
-#[derive(Clone, Copy, Debug)]
+#[derive(Clone, Copy)]
 struct Counts {
     bytes: usize,
     statements: usize,
