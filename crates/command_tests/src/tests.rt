@@ -14,9 +14,10 @@ mod rows;
 mod stops;
 mod texts;
 
+use geo_addr::Memory;
 use geo_outside::{Gate, MemFolder, MemSink, OpenGate, Steps};
 use geofeed_cmd::{Status, run};
-use std::alloc::Global;
+use std::alloc::{AllocError, Global};
 use std::marker::{Brand, Sync};
 use std::process::Abort;
 use std::sync::ledger::{Blank, Ledger};
@@ -46,18 +47,71 @@ struct Left {
     out: MemSink,
 }
 
+/// A list of one number.
+fn list_of(alloc: Global, number: u64) -> Result<Vec<u64>, AllocError> {
+    let mut list = Vec::new(alloc);
+    list.push(number)?;
+    Ok(list)
+}
+
+/// An empty folder, of which the read and the put with these numbers fail.
+fn empty_folder(alloc: Global, read: u64, put: u64) -> Result<MemFolder, AllocError> {
+    let reads = list_of(alloc, read)?;
+    let puts = list_of(alloc, put)?;
+    Ok(MemFolder::new(alloc, reads, puts))
+}
+
+/// An empty sink, of which the print with this number fails.
+fn empty_sink(alloc: Global, print: u64) -> Result<MemSink, AllocError> {
+    let prints = list_of(alloc, print)?;
+    Ok(MemSink::new(alloc, prints))
+}
+
+/// An empty folder, and nothing printed.
+fn nothing(alloc: Global, faults: Faults) -> Result<Left, AllocError> {
+    let folder = empty_folder(alloc, faults.0, faults.1)?;
+    let out = empty_sink(alloc, faults.2)?;
+    Ok(Left {
+        status: Status::Done,
+        folder,
+        out,
+    })
+}
+
+/// Sets a file.
+fn hold(left: &mut Left, name: &str, bytes: &[u8]) -> Result<(), Memory> {
+    left.folder.hold(name, bytes)
+}
+
+fn hold_all(left: &mut Left, files: Files) -> Result<(), Memory> {
+    for file in files {
+        hold(left, file.0, file.1.as_bytes())?;
+    }
+    Ok(())
+}
+
 /// A folder of these files, and nothing printed.
 fn start(alloc: Global, files: Files, faults: Faults) -> Result<Left, Fail> {
-    let (read, put, print) = faults;
-    let mut left = Left {
-        status: Status::Done,
-        folder: MemFolder::new(alloc, vec![in alloc; read]?, vec![in alloc; put]?),
-        out: MemSink::new(alloc, vec![in alloc; print]?),
-    };
-    for (name, bytes) in files {
-        left.folder.hold(name, bytes.as_bytes())?;
-    }
+    let mut left = nothing(alloc, faults)?;
+    hold_all(&mut left, files)?;
     Ok(left)
+}
+
+/// A text behind another.
+fn joined(alloc: Global, first: &str, second: &str) -> Result<String, AllocError> {
+    format!(in alloc; "{first}{second}")
+}
+
+static EPOCH: &str = "epoch 1700000000\n";
+
+fn epoch() -> &'static str {
+    EPOCH
+}
+
+/// Sets a job of these lines.
+fn hold_job(alloc: Global, left: &mut Left, steps: &str) -> Result<(), Memory> {
+    let job = joined(alloc, epoch(), steps)?;
+    hold(left, "j", job.as_bytes())
 }
 
 /// The words of a command.
@@ -105,6 +159,19 @@ fn ended<R: Threads + Sync, G: Gate>(
     do_words::<R, G, Brand>(rt, alloc, words, left, gate, Blank::new(1))
 }
 
+/// Does a command at a gate.
+fn speak_at<R: Threads + Sync, G: Gate>(
+    rt: &R,
+    alloc: Global,
+    command: &str,
+    left: &mut Left,
+    gate: &G,
+) -> Result<(), Fail> {
+    let words = words_of(alloc, command)?;
+    left.status = ended(rt, alloc, words.as_slice(), left, gate);
+    Ok(())
+}
+
 /// Does a command.
 fn speak<R: Threads + Sync>(
     rt: &R,
@@ -112,8 +179,19 @@ fn speak<R: Threads + Sync>(
     command: &str,
     left: &mut Left,
 ) -> Result<(), Fail> {
-    let words = words_of(alloc, command)?;
-    left.status = ended(rt, alloc, words.as_slice(), left, &OpenGate);
+    speak_at(rt, alloc, command, left, &OpenGate)
+}
+
+/// Does these commands, one after another.
+fn speak_all<R: Threads + Sync>(
+    rt: &R,
+    alloc: Global,
+    commands: &[&str],
+    left: &mut Left,
+) -> Result<(), Fail> {
+    for command in commands {
+        speak(rt, alloc, command, left)?;
+    }
     Ok(())
 }
 
@@ -126,16 +204,18 @@ fn left_by<R: Threads + Sync>(
     faults: Faults,
 ) -> Result<Left, Fail> {
     let mut left = start(alloc, files, faults)?;
-    for command in commands {
-        speak(rt, alloc, command, &mut left)?;
-    }
+    speak_all(rt, alloc, commands, &mut left)?;
     Ok(left)
 }
 
-/// It ended so, and this was printed.
-fn agrees<R: Abort>(rt: &R, left: &Left, status: Status, printed: &str) {
-    assert_eq!(rt; left.status, status, "{printed}");
-    assert!(rt; left.out.written() == printed.as_bytes(), "{printed}");
+/// Whether it ended so, and this was printed.
+fn is_so(left: &Left, status: Status, printed: &str) -> bool {
+    left.status == status && left.out.written() == printed.as_bytes()
+}
+
+fn comes_out<R: Threads + Sync>(rt: &R, alloc: Global, trial: &Trial) -> Result<bool, Fail> {
+    let left = left_by(rt, alloc, trial.0, trial.1, NONE)?;
+    Ok(is_so(&left, trial.2, trial.3))
 }
 
 /// Each of these trials comes out so.
@@ -144,23 +224,34 @@ fn come_out<R: Threads + Sync + Abort>(
     alloc: Global,
     trials: &[Trial],
 ) -> Result<(), Fail> {
-    for (files, commands, status, printed) in trials {
-        let left = left_by(rt, alloc, files, commands, NONE)?;
-        agrees(rt, &left, *status, printed);
+    for trial in trials {
+        assert!(rt; comes_out(rt, alloc, trial)?, "{}", trial.3);
     }
     Ok(())
 }
 
-/// Whether a folder holds two names with the same bytes.
-fn are_equal(folder: &MemFolder, one: &str, other: &str) -> bool {
-    match (folder.bytes_of(one), folder.bytes_of(other)) {
-        (Some(one), Some(other)) => one == other,
-        _ => false,
-    }
+/// Whether there is such a file.
+fn stands(left: &Left, name: &str) -> bool {
+    left.folder.bytes_of(name).is_some()
+}
+
+/// The bytes of a file, and none where there is no such file.
+fn bytes_in<'a>(left: &'a Left, name: &str) -> &'a [u8] {
+    left.folder.bytes_of(name).unwrap_or(&[])
+}
+
+/// Whether the bytes of two files are equal.
+fn are_equal(left: &Left, one: &str, other: &str) -> bool {
+    stands(left, one) && stands(left, other) && bytes_in(left, one) == bytes_in(left, other)
+}
+
+/// How many files were put.
+fn puts(left: &Left) -> usize {
+    left.folder.puts().len()
 }
 
 /// A text of so many equal lines.
-fn lines(alloc: Global, line: &str, count: u32) -> Result<Vec<u8>, Fail> {
+fn lines(alloc: Global, line: &str, count: u32) -> Result<Vec<u8>, AllocError> {
     let mut text = Vec::new(alloc);
     for _ in 0..count {
         text.extend_from_slice(line.as_bytes())?;

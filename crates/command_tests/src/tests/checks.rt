@@ -1,14 +1,17 @@
 //! What becomes of the lines of a feed, and how many addresses each country has.
-use super::feeds::{REALISTIC, STEPS};
-use super::{NONE, Trial, agrees, come_out, speak, start};
+use super::feeds::{STEPS, realistic};
+use super::{Trial, come_out, is_so, puts, speak};
 use geofeed_cmd::Status;
+use std::alloc::Global;
+use std::marker::Sync;
 use std::test::Fail;
+use std::thread::Threads;
 
 /// A job of overrides; its emit is passed over.
 const OVERRIDES: &str = "epoch 1\noverrides o.csv\nemit o\nreport\n";
 
 /// An address of IPv4 is counted with IPv4 alone, and its aliases with the rest.
-const COUNTED: [Trial; 5] = [
+static COUNTED: [Trial; 5] = [
     (
         &[("j", "epoch 1\nemit o\n")],
         &["census j"],
@@ -50,13 +53,17 @@ const COUNTED: [Trial; 5] = [
     (&[], &["census j"], Status::Missing, "stop missing j\n"),
 ];
 
+fn counted() -> &'static [Trial] {
+    &COUNTED
+}
+
 #[test]
 fn censuses(rt: HostRuntime) -> Result<(), Fail> {
-    come_out(&rt, rt.alloc(), &COUNTED)
+    come_out(&rt, rt.alloc(), counted())
 }
 
 /// Lines that speak in parts, under an override, and in an alias block, where no IPv6 line speaks.
-const HEARD: [Trial; 6] = [
+static HEARD: [Trial; 6] = [
     (
         &[
             (
@@ -120,13 +127,19 @@ inet6num: ::ffff:0:0/96\ngeofeed: https://e.example/f\n",
     ),
 ];
 
+fn heard() -> &'static [Trial] {
+    &HEARD
+}
+
 #[test]
 fn lines_of_a_feed(rt: HostRuntime) -> Result<(), Fail> {
-    come_out(&rt, rt.alloc(), &HEARD)
+    come_out(&rt, rt.alloc(), heard())
 }
 
 /// What is said of the feeds of the job of all kinds.
-const CHECKED: [(&str, Status, &str); 4] = [
+type Checked = (&'static str, Status, &'static str);
+
+static CHECKED: [Checked; 4] = [
     (
         "check j https://geo.example.net/a.csv",
         Status::Done,
@@ -149,16 +162,21 @@ const CHECKED: [(&str, Status, &str); 4] = [
     ),
 ];
 
+fn checked() -> &'static [Checked] {
+    &CHECKED
+}
+
+/// Whether this is said, and nothing is put.
+fn is_said<R: Threads + Sync>(rt: &R, alloc: Global, row: &Checked) -> Result<bool, Fail> {
+    let mut left = realistic(alloc, STEPS)?;
+    speak(rt, alloc, row.0, &mut left)?;
+    Ok(is_so(&left, row.1, row.2) && puts(&left) == 0)
+}
+
 #[test]
 fn lines_of_all_kinds(rt: HostRuntime) -> Result<(), Fail> {
-    let alloc = rt.alloc();
-    let job = format!(in alloc; "epoch 1700000000\n{STEPS}")?;
-    for (command, status, printed) in CHECKED {
-        let mut left = start(alloc, REALISTIC, NONE)?;
-        left.folder.hold("j", job.as_str().as_bytes())?;
-        speak(&rt, alloc, command, &mut left)?;
-        agrees(&rt, &left, status, printed);
-        assert_eq!(rt; left.folder.puts().len(), 0, "{command}");
+    for row in checked() {
+        assert!(rt; is_said(&rt, rt.alloc(), row)?, "{}", row.0);
     }
     Ok(())
 }

@@ -6,7 +6,7 @@ use std::test::Fail;
 /// A job that emits too, which is passed over.
 const EMIT: &str = "epoch 1700000000\nstats x s.txt\nemit o\n";
 
-const ALONE: [Trial; 5] = [
+static ALONE: [Trial; 5] = [
     (
         &[("j", EMIT), ("s.txt", "x|DE|ipv4|192.0.2.0|768||allocated")],
         &["explain j 192.0.4.9"],
@@ -58,6 +58,10 @@ delegation none\nprefixes none\nrecord none\n",
     ),
 ];
 
+fn alone() -> &'static [Trial] {
+    &ALONE
+}
+
 /// What is said of the range from 0.0.0.1 to 255.255.255.254.
 const MOST_BLOCKS: &str = "\
 address 10.1.2.3\noverride none\nspeaker none\nentry none\n\
@@ -77,7 +81,7 @@ record {\"country\":{\"iso_code\":\"DE\"}}\n";
 
 #[test]
 fn one_kind_alone(rt: HostRuntime) -> Result<(), Fail> {
-    come_out(&rt, rt.alloc(), &ALONE)
+    come_out(&rt, rt.alloc(), alone())
 }
 
 /// An object with a feed, whose statements are given by the rows.
@@ -86,7 +90,7 @@ const REFERRED: &str = "inetnum: 192.0.2.0 - 192.0.2.255\ngeofeed: https://e.exa
 /// A job of all kinds.
 const ALL: &str = "epoch 1\nrpsl r r\nstats x s\nfeed https://e.example/f.csv f\noverrides o\n";
 
-const TOGETHER: [Trial; 3] = [
+static TOGETHER: [Trial; 3] = [
     // A void override over an entry.
     (
         &[
@@ -141,6 +145,10 @@ delegation x 1 192.0.2.0-192.0.2.255 AT\nprefixes 192.0.2.0/24\nrecord none\n",
     ),
 ];
 
+fn together() -> &'static [Trial] {
+    &TOGETHER
+}
+
 const IPV6: &str = "\
 address 2001:db8::1
 override none
@@ -154,5 +162,5 @@ record {\"city\":{\"names\":{\"en\":\"Amsterdam\"}},\"country\":{\"iso_code\":\"
 
 #[test]
 fn all_kinds_together(rt: HostRuntime) -> Result<(), Fail> {
-    come_out(&rt, rt.alloc(), &TOGETHER)
+    come_out(&rt, rt.alloc(), together())
 }

@@ -1,5 +1,8 @@
 //! Dumps, feeds and overrides together.
-use super::{Files, Left, NONE, Trial, agrees, come_out, speak, start};
+use super::{
+    Commands, Files, Left, NONE, Trial, bytes_in, come_out, hold_job, is_so, joined, speak,
+    speak_all, stands, start,
+};
 use geofeed_cmd::Status;
 use std::alloc::Global;
 use std::marker::Sync;
@@ -88,7 +91,7 @@ emit o\n",
     ("s.txt", "x|DE|ipv4|192.0.2.0|256||allocated\n"),
 ];
 
-const TOGETHER: [Trial; 5] = [
+static TOGETHER: [Trial; 5] = [
     (
         ONE,
         &["build j", "lookup o 192.0.2.1", "lookup o 192.0.2.200"],
@@ -127,9 +130,13 @@ const TOGETHER: [Trial; 5] = [
     ),
 ];
 
+fn together() -> &'static [Trial] {
+    &TOGETHER
+}
+
 #[test]
 fn sources_together(rt: HostRuntime) -> Result<(), Fail> {
-    come_out(&rt, rt.alloc(), &TOGETHER)
+    come_out(&rt, rt.alloc(), together())
 }
 
 const RIPE: &str = "\
@@ -219,7 +226,7 @@ report
 emit geo.mmdb
 ";
 
-pub(super) const REALISTIC: Files = &[
+const REALISTIC: Files = &[
     ("ripe.db", RIPE),
     ("a.csv", A_CSV),
     ("b.csv", B_CSV),
@@ -228,7 +235,7 @@ pub(super) const REALISTIC: Files = &[
     ("over.csv", OVER),
 ];
 
-const PRINTED: &str = "\
+static PRINTED: &str = "\
 rpsl ripe 13 P10
 rpsl ripe 24 P04
 rpsl ripe 25 P04
@@ -241,7 +248,11 @@ notes 8
 emit geo.mmdb nodes 194 data 252 bits 24 bytes 1635
 ";
 
-const WIEN: &str = "\
+fn printed() -> &'static str {
+    PRINTED
+}
+
+static WIEN: &str = "\
 address 192.0.2.12
 override 1 192.0.2.10-192.0.2.19 set
 speaker ripe 6 192.0.2.0-192.0.2.255 https://geo.example.net/a.csv
@@ -250,6 +261,10 @@ delegation nro 6 192.0.0.0-192.0.255.255 GB
 prefixes 192.0.0.0/16
 record {\"city\":{\"names\":{\"en\":\"Wien\"}},\"country\":{\"iso_code\":\"AT\"}}
 ";
+
+fn wien() -> &'static str {
+    WIEN
+}
 
 /// The same sources, set in another order.
 const BACKWARDS: &str = "\
@@ -263,42 +278,70 @@ report
 emit geo.mmdb
 ";
 
-/// A folder with the job of all kinds: these lines, in so many pieces.
-fn realistic(alloc: Global, pieces: &str, steps: &str) -> Result<Left, Fail> {
+/// A folder with the job of all kinds: these lines.
+pub(super) fn realistic(alloc: Global, steps: &str) -> Result<Left, Fail> {
     let mut left = start(alloc, REALISTIC, NONE)?;
-    let job = format!(in alloc; "epoch 1700000000\npieces {pieces}\n{steps}")?;
-    left.folder.hold("j", job.as_str().as_bytes())?;
+    hold_job(alloc, &mut left, steps)?;
     Ok(left)
 }
 
-/// The file of that job.
-fn file_of<R: Threads + Sync + Abort>(
+/// The line of pieces, and the lines of a job behind it.
+type Way = (&'static str, &'static str);
+
+/// What a command over that job leaves.
+fn left_of<R: Threads + Sync>(
     rt: &R,
     alloc: Global,
-    pieces: &str,
-    steps: &str,
-) -> Result<Vec<u8>, Fail> {
-    let mut left = realistic(alloc, pieces, steps)?;
-    speak(rt, alloc, "build j", &mut left)?;
-    agrees(rt, &left, Status::Done, PRINTED);
-    let file = left.folder.bytes_of("geo.mmdb").unwrap_or(&[]);
-    Ok(Vec::from_slice(alloc, file)?)
+    way: &Way,
+    command: &str,
+) -> Result<Left, Fail> {
+    let steps = joined(alloc, way.0, way.1)?;
+    let mut left = realistic(alloc, steps.as_str())?;
+    speak(rt, alloc, command, &mut left)?;
+    Ok(left)
+}
+
+/// Whether it is built as this file.
+fn gives<R: Threads + Sync>(rt: &R, alloc: Global, way: &Way, file: &[u8]) -> Result<bool, Fail> {
+    let left = left_of(rt, alloc, way, "build j")?;
+    Ok(is_so(&left, Status::Done, printed()) && bytes_in(&left, "geo.mmdb") == file)
+}
+
+static WAYS: [Way; 4] = [
+    ("pieces 1\n", STEPS),
+    ("pieces 3\n", STEPS),
+    ("pieces 64\n", STEPS),
+    ("pieces 4\n", BACKWARDS),
+];
+
+fn ways() -> &'static [Way] {
+    &WAYS
+}
+
+static FOUR_PIECES: Way = ("pieces 4\n", STEPS);
+
+fn four_pieces() -> &'static Way {
+    &FOUR_PIECES
+}
+
+/// Each way gives this file.
+fn all_give<R: Threads + Sync + Abort>(rt: &R, alloc: Global, file: &[u8]) -> Result<(), Fail> {
+    for way in ways() {
+        assert!(rt; gives(rt, alloc, way, file)?, "{}", way.0);
+    }
+    Ok(())
 }
 
 /// Neither the number of pieces nor the order of setting leaves a trace.
 #[test]
 fn one_file_by_any_way(rt: HostRuntime) -> Result<(), Fail> {
-    let alloc = rt.alloc();
-    let one = file_of(&rt, alloc, "1", STEPS)?;
-    for (pieces, steps) in [("3", STEPS), ("64", STEPS), ("4", BACKWARDS)] {
-        let file = file_of(&rt, alloc, pieces, steps)?;
-        assert!(rt; one.as_slice() == file.as_slice(), "{pieces}");
-    }
-    Ok(())
+    let one = left_of(&rt, rt.alloc(), four_pieces(), "build j")?;
+    assert!(rt; stands(&one, "geo.mmdb"));
+    all_give(&rt, rt.alloc(), bytes_in(&one, "geo.mmdb"))
 }
 
 /// What is looked up.
-const LOOKUPS: [&str; 13] = [
+static LOOKUPS: [&str; 13] = [
     "lookup geo.mmdb 192.0.2.1",
     "lookup geo.mmdb 192.0.2.12",
     "lookup geo.mmdb 192.0.2.130",
@@ -314,8 +357,12 @@ const LOOKUPS: [&str; 13] = [
     "lookup geo.mmdb 2001:db8:8000::1",
 ];
 
+fn lookups() -> Commands {
+    &LOOKUPS
+}
+
 /// What is printed of that, an answer a line.
-const ANSWERS: &str = "\
+static ANSWERS: &str = "\
 {\"city\":{\"names\":{\"en\":\"M\u{FC}nchen\"}},\"country\":{\"iso_code\":\"DE\"},\
 \"subdivisions\":[{\"iso_code\":\"BY\"}]}
 {\"city\":{\"names\":{\"en\":\"Wien\"}},\"country\":{\"iso_code\":\"AT\"}}
@@ -335,27 +382,29 @@ none
 {\"city\":{\"names\":{\"en\":\"Tokyo\"}},\"country\":{\"iso_code\":\"JP\"}}
 ";
 
+fn answers() -> &'static str {
+    ANSWERS
+}
+
+/// Whether what is looked up is answered so, behind what is printed of the job.
+fn answers_so<R: Threads + Sync>(rt: &R, alloc: Global, left: &mut Left) -> Result<bool, Fail> {
+    speak_all(rt, alloc, lookups(), left)?;
+    let wanted = joined(alloc, printed(), answers())?;
+    Ok(is_so(left, Status::Done, wanted.as_str()))
+}
+
 /// What is looked up in the file of the job of all kinds.
 #[test]
 fn lookups_in_all_kinds(rt: HostRuntime) -> Result<(), Fail> {
-    let alloc = rt.alloc();
-    let mut left = realistic(alloc, "4", STEPS)?;
-    speak(&rt, alloc, "build j", &mut left)?;
-    for command in LOOKUPS {
-        speak(&rt, alloc, command, &mut left)?;
-    }
-    let printed = format!(in alloc; "{PRINTED}{ANSWERS}")?;
-    agrees(&rt, &left, Status::Done, printed.as_str());
+    let mut left = left_of(&rt, rt.alloc(), four_pieces(), "build j")?;
+    assert!(rt; answers_so(&rt, rt.alloc(), &mut left)?);
     Ok(())
 }
 
 /// Why an address has its record there; the emit is passed over.
 #[test]
 fn why_in_all_kinds(rt: HostRuntime) -> Result<(), Fail> {
-    let alloc = rt.alloc();
-    let mut left = realistic(alloc, "4", STEPS)?;
-    speak(&rt, alloc, "explain j 192.0.2.12", &mut left)?;
-    agrees(&rt, &left, Status::Done, WIEN);
-    assert!(rt; left.folder.bytes_of("geo.mmdb").is_none());
+    let left = left_of(&rt, rt.alloc(), four_pieces(), "explain j 192.0.2.12")?;
+    assert!(rt; is_so(&left, Status::Done, wien()) && !stands(&left, "geo.mmdb"));
     Ok(())
 }

@@ -1,5 +1,5 @@
 //! Sources that are replaced, dropped and taken back: the file is that of a fresh job.
-use super::{Files, Left, NONE, agrees, are_equal, left_by, speak, start};
+use super::{Files, Left, NONE, are_equal, hold_job, is_so, left_by, puts, speak, start};
 use geofeed_cmd::Status;
 use std::alloc::Global;
 use std::marker::Sync;
@@ -32,7 +32,7 @@ const SOURCES: Files = &[
 type Ways = (&'static str, &'static str);
 
 /// A source of each kind is replaced, dropped, and set before others.
-const REPLACED: [Ways; 9] = [
+static REPLACED: [Ways; 9] = [
     (
         "rpsl x q\nstats x s\nfeed https://e.example f\noverrides o\nemit a\nrpsl x r\nemit b\n",
         "rpsl x r\nstats x s\nfeed https://e.example f\noverrides o\nemit d\n",
@@ -77,8 +77,12 @@ emit b\n",
     ),
 ];
 
+fn replaced() -> &'static [Ways] {
+    &REPLACED
+}
+
 /// Sources that were kept under a mark, and nodes that were given up.
-const MARKED: [Ways; 8] = [
+static MARKED: [Ways; 8] = [
     // The mark is replaced.
     (
         "stats x s\nemit a\noverrides o\nmark m\noverrides p\nmark m\ndrop overrides\nback m\n\
@@ -125,40 +129,58 @@ stats x t\nemit b\n",
     ),
 ];
 
-/// Does a job of these lines.
-fn do_lines<R: Threads + Sync + Abort>(
+fn marked() -> &'static [Ways] {
+    &MARKED
+}
+
+/// Does a job of these lines, and says whether it was done.
+fn is_done<R: Threads + Sync>(
     rt: &R,
     alloc: Global,
     steps: &str,
     left: &mut Left,
-) -> Result<(), Fail> {
-    let job = format!(in alloc; "epoch 1700000000\n{steps}")?;
-    left.folder.hold("j", job.as_str().as_bytes())?;
+) -> Result<bool, Fail> {
+    hold_job(alloc, left, steps)?;
     speak(rt, alloc, "build j", left)?;
-    assert_eq!(rt; left.status, Status::Done, "{steps}");
-    Ok(())
+    Ok(left.status == Status::Done)
 }
 
-/// Each last file is that of the other way, and not the first.
+/// Whether the last file is that of the other way, and not the first.
+fn ends_so(left: &Left) -> bool {
+    are_equal(left, "b", "d") && !are_equal(left, "a", "b")
+}
+
+/// Whether both ways are done, and it ends so.
+fn is_fresh_in<R: Threads + Sync>(
+    rt: &R,
+    alloc: Global,
+    ways: &Ways,
+    left: &mut Left,
+) -> Result<bool, Fail> {
+    Ok(is_done(rt, alloc, ways.0, left)? && is_done(rt, alloc, ways.1, left)? && ends_so(left))
+}
+
+fn is_fresh<R: Threads + Sync>(rt: &R, alloc: Global, ways: &Ways) -> Result<bool, Fail> {
+    let mut left = start(alloc, SOURCES, NONE)?;
+    is_fresh_in(rt, alloc, ways, &mut left)
+}
+
+/// Each last file is so.
 fn are_fresh<R: Threads + Sync + Abort>(rt: &R, alloc: Global, rows: &[Ways]) -> Result<(), Fail> {
-    for (steps, others) in rows {
-        let mut left = start(alloc, SOURCES, NONE)?;
-        do_lines(rt, alloc, steps, &mut left)?;
-        do_lines(rt, alloc, others, &mut left)?;
-        assert!(rt; are_equal(&left.folder, "b", "d"), "{steps}");
-        assert!(rt; !are_equal(&left.folder, "a", "b"), "{steps}");
+    for ways in rows {
+        assert!(rt; is_fresh(rt, alloc, ways)?, "{}", ways.0);
     }
     Ok(())
 }
 
 #[test]
 fn replaced_and_dropped(rt: HostRuntime) -> Result<(), Fail> {
-    are_fresh(&rt, rt.alloc(), &REPLACED)
+    are_fresh(&rt, rt.alloc(), replaced())
 }
 
 #[test]
 fn marked_and_compacted(rt: HostRuntime) -> Result<(), Fail> {
-    are_fresh(&rt, rt.alloc(), &MARKED)
+    are_fresh(&rt, rt.alloc(), marked())
 }
 
 /// A file that an emit wrote, read as a source; and one name emitted twice.
@@ -171,12 +193,14 @@ const WRITTEN: Files = &[
     ("k", "epoch 1\noverrides o.csv\nemit b\n"),
 ];
 
+fn are_written(left: &Left) -> bool {
+    left.status == Status::Done && are_equal(left, "a", "b") && puts(left) == 3
+}
+
 #[test]
 fn files_read_as_written(rt: HostRuntime) -> Result<(), Fail> {
     let left = left_by(&rt, rt.alloc(), WRITTEN, &["build j", "build k"], NONE)?;
-    assert_eq!(rt; left.status, Status::Done);
-    assert!(rt; are_equal(&left.folder, "a", "b"));
-    assert_eq!(rt; left.folder.puts().len(), 3);
+    assert!(rt; are_written(&left));
     Ok(())
 }
 
@@ -207,8 +231,18 @@ report\nemit f\n",
     ),
 ];
 
+/// Whether the bytes of these files are those of `a`.
+fn are_all_equal(left: &Left, names: &[&str]) -> bool {
+    for name in names {
+        if !are_equal(left, "a", name) {
+            return false;
+        }
+    }
+    true
+}
+
 /// What is printed of them.
-const REPORTED: &str = "\
+static REPORTED: &str = "\
 stats x 2 S06
 notes 1
 emit a nodes 147 data 22 bits 24 bytes 1123
@@ -229,13 +263,15 @@ notes 1
 emit f nodes 147 data 22 bits 24 bytes 1123
 ";
 
+fn reported() -> &'static str {
+    REPORTED
+}
+
 #[test]
 fn order_of_lines(rt: HostRuntime) -> Result<(), Fail> {
     let commands = &["build 1", "build 3", "build 64"];
     let left = left_by(&rt, rt.alloc(), SHUFFLED, commands, NONE)?;
-    agrees(&rt, &left, Status::Done, REPORTED);
-    for name in ["b", "c", "d", "e", "f"] {
-        assert!(rt; are_equal(&left.folder, "a", name), "{name}");
-    }
+    assert!(rt; is_so(&left, Status::Done, reported()));
+    assert!(rt; are_all_equal(&left, &["b", "c", "d", "e", "f"]));
     Ok(())
 }

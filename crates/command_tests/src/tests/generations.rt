@@ -1,12 +1,17 @@
 //! The generated job: by its own command, and as files of the folder.
-use super::{Files, Left, NONE, Trial, agrees, are_equal, come_out, speak, start};
+use super::{
+    Commands, Files, Left, NONE, Trial, are_equal, come_out, hold, is_so, speak_all, start,
+};
 use generated::gen_feed;
+use geo_addr::Memory;
 use geofeed_cmd::Status;
 use std::alloc::Global;
+use std::marker::Sync;
 use std::test::Fail;
+use std::thread::Threads;
 
 /// The job of one line, by its command and as files; a file of the folder stays unread.
-const ONE: [Trial; 3] = [
+static ONE: [Trial; 3] = [
     (
         &[],
         &["gen 1 gen.db"],
@@ -39,6 +44,10 @@ emit out.mmdb nodes 151 data 54 bits 24 bytes 1179\n\
     ),
 ];
 
+fn one() -> &'static [Trial] {
+    &ONE
+}
+
 const JOB_OF_ONE: &str = "\
 epoch 1700000000
 rpsl gen gen.db
@@ -57,7 +66,7 @@ const STATISTICS: &str = "gen|US|ipv4|10.0.0.0|16777216|20200101|allocated\n";
 
 #[test]
 fn jobs_of_one_line(rt: HostRuntime) -> Result<(), Fail> {
-    come_out(&rt, rt.alloc(), &ONE)
+    come_out(&rt, rt.alloc(), one())
 }
 
 /// Jobs of other numbers of pieces, and one with the second feed alone.
@@ -98,17 +107,26 @@ feed https://gen.example/feed.csv second.csv\nemit d\n",
     ("gen.txt", STATISTICS),
 ];
 
-/// A folder with these jobs and feeds of 1,000 lines.
-fn thousand(alloc: Global) -> Result<Left, Fail> {
+/// Sets the first or the second feed of 1,000 lines.
+fn hold_feed(alloc: Global, left: &mut Left, name: &str, second: bool) -> Result<(), Memory> {
+    let feed = gen_feed(alloc, 1000, second)?;
+    hold(left, name, feed.as_slice())
+}
+
+/// What these commands leave in a folder with these jobs and feeds of 1,000 lines.
+fn left_by_thousand<R: Threads + Sync>(
+    rt: &R,
+    alloc: Global,
+    commands: Commands,
+) -> Result<Left, Fail> {
     let mut left = start(alloc, JOBS, NONE)?;
-    let first = gen_feed(alloc, 1000, false)?;
-    left.folder.hold("first.csv", first.as_slice())?;
-    let second = gen_feed(alloc, 1000, true)?;
-    left.folder.hold("second.csv", second.as_slice())?;
+    hold_feed(alloc, &mut left, "first.csv", false)?;
+    hold_feed(alloc, &mut left, "second.csv", true)?;
+    speak_all(rt, alloc, commands, &mut left)?;
     Ok(left)
 }
 
-const PRINTED: &str = "\
+static PRINTED: &str = "\
 emit a1 nodes 1142 data 21932 bits 24 bytes 29004
 emit b1 nodes 1142 data 21936 bits 24 bytes 29008
 emit a3 nodes 1142 data 21932 bits 24 bytes 29004
@@ -120,42 +138,65 @@ emit c nodes 1142 data 21936 bits 24 bytes 29008
 emit d nodes 1142 data 21936 bits 24 bytes 29008
 ";
 
+fn printed() -> &'static str {
+    PRINTED
+}
+
+/// Names of files that are equal.
+static EQUAL: [(&str, &str); 6] = [
+    ("a1", "a3"),
+    ("a1", "a64"),
+    ("b1", "b3"),
+    ("b1", "b64"),
+    ("c", "b1"),
+    ("c", "d"),
+];
+
+fn equal() -> &'static [(&'static str, &'static str)] {
+    &EQUAL
+}
+
+fn are_pairs(left: &Left, pairs: &[(&str, &str)]) -> bool {
+    for pair in pairs {
+        if !are_equal(left, pair.0, pair.1) {
+            return false;
+        }
+    }
+    true
+}
+
 /// The second file is that of a fresh job with the second feed, in any number of pieces.
 #[test]
 fn jobs_of_a_thousand_lines(rt: HostRuntime) -> Result<(), Fail> {
-    let mut left = thousand(rt.alloc())?;
-    for command in ["build 1", "build 3", "build 64", "gen 1000 c", "build k"] {
-        speak(&rt, rt.alloc(), command, &mut left)?;
-    }
-    agrees(&rt, &left, Status::Done, PRINTED);
-    for (one, other) in [("a1", "a3"), ("a1", "a64"), ("b1", "b3"), ("b1", "b64")] {
-        assert!(rt; are_equal(&left.folder, one, other), "{one} {other}");
-    }
-    assert!(rt; are_equal(&left.folder, "c", "b1"));
-    assert!(rt; are_equal(&left.folder, "c", "d"));
+    let commands = &["build 1", "build 3", "build 64", "gen 1000 c", "build k"];
+    let left = left_by_thousand(&rt, rt.alloc(), commands)?;
+    assert!(rt; is_so(&left, Status::Done, printed()));
+    assert!(rt; are_pairs(&left, equal()));
     Ok(())
 }
 
 /// A thousand places take a thousand lines, and the feed that is published says the same.
 #[test]
 fn a_published_feed_of_a_thousand_lines(rt: HostRuntime) -> Result<(), Fail> {
-    let mut left = thousand(rt.alloc())?;
-    for command in [
+    let commands = &[
         "build p",
         "publish p 10.0.0.0/8 f",
         "publish 1 10.0.0.0/8 h",
         "build q",
-    ] {
-        speak(&rt, rt.alloc(), command, &mut left)?;
-    }
-    agrees(&rt, &left, Status::Done, PUBLISHED);
-    assert!(rt; are_equal(&left.folder, "e", "g"));
+    ];
+    let left = left_by_thousand(&rt, rt.alloc(), commands)?;
+    assert!(rt; is_so(&left, Status::Done, published()));
+    assert!(rt; are_equal(&left, "e", "g"));
     Ok(())
 }
 
-const PUBLISHED: &str = "\
+static PUBLISHED: &str = "\
 emit e nodes 1142 data 21923 bits 24 bytes 28995
 publish f lines 1000
 publish h lines 1001
 emit g nodes 1142 data 21923 bits 24 bytes 28995
 ";
+
+fn published() -> &'static str {
+    PUBLISHED
+}

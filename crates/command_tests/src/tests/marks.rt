@@ -1,5 +1,5 @@
 //! What is printed of marks and of nodes that are given up, and how a way back stops.
-use super::{Trial, come_out};
+use super::{NONE, Trial, are_equal, come_out, left_by};
 use geofeed_cmd::Status;
 use std::test::Fail;
 
@@ -10,7 +10,7 @@ const HALF: &str = "x|DE|ipv4|128.0.0.0|2147483648||allocated\n";
 const THERE_AND_BACK: &str = "epoch 1700000000\nstats x s\nemit a\nmark m\n\
 drop stats x\nemit b\nback m\nemit c\ncompact\n";
 
-const MARKED: [Trial; 9] = [
+static MARKED: [Trial; 9] = [
     (
         &[("j", THERE_AND_BACK), ("s", HALF)],
         &["build j"],
@@ -110,17 +110,21 @@ delegation none\nprefixes none\nrecord none\n",
     ),
 ];
 
+fn marked() -> &'static [Trial] {
+    &MARKED
+}
+
 #[test]
 fn marks_and_stops(rt: HostRuntime) -> Result<(), Fail> {
-    come_out(&rt, rt.alloc(), &MARKED)
+    come_out(&rt, rt.alloc(), marked())
 }
 
 /// What was kept is written again, byte for byte.
 #[test]
 fn back_at_a_mark(rt: HostRuntime) -> Result<(), Fail> {
     let files = &[("j", THERE_AND_BACK), ("s", HALF)];
-    let left = super::left_by(&rt, rt.alloc(), files, &["build j"], super::NONE)?;
-    assert!(rt; super::are_equal(&left.folder, "a", "c"));
-    assert!(rt; !super::are_equal(&left.folder, "a", "b"));
+    let left = left_by(&rt, rt.alloc(), files, &["build j"], NONE)?;
+    assert!(rt; are_equal(&left, "a", "c"));
+    assert!(rt; !are_equal(&left, "a", "b"));
     Ok(())
 }

@@ -1,7 +1,10 @@
 //! What `publish` writes and prints.
-use super::{Commands, Files, Left, NONE, Trial, agrees, come_out, left_by, speak, start};
+use super::{
+    Commands, Files, Left, NONE, Trial, bytes_in, come_out, hold, is_so, left_by, puts, speak,
+    stands, start,
+};
 use geofeed_cmd::Status;
-use std::alloc::Global;
+use std::alloc::{AllocError, Global};
 use std::marker::Sync;
 use std::process::Abort;
 use std::test::Fail;
@@ -17,7 +20,7 @@ const OVERRIDES: &str = "epoch 1\noverrides o.csv\n";
 type Row = (Files, Commands, &'static str, &'static str);
 
 /// Feeds of one block, by its statistics.
-const COUNTRIES: [Row; 7] = [
+static COUNTRIES: [Row; 7] = [
     (
         &[
             ("j", JOB),
@@ -84,8 +87,12 @@ const COUNTRIES: [Row; 7] = [
     ),
 ];
 
+fn countries() -> &'static [Row] {
+    &COUNTRIES
+}
+
 /// Feeds of other places, by overrides.
-const PLACES: [Row; 6] = [
+static PLACES: [Row; 6] = [
     (
         &[
             ("j", OVERRIDES),
@@ -151,6 +158,10 @@ const PLACES: [Row; 6] = [
     ),
 ];
 
+fn places() -> &'static [Row] {
+    &PLACES
+}
+
 const CHEQUERED: &str = "\
 10.0.0.0/26,set,DE\n10.0.0.1,set,FR\n10.0.0.3,set,FR\n10.0.0.5,set,FR\n10.0.0.7,set,FR\n\
 10.0.0.9,set,FR\n10.0.0.11,set,FR\n10.0.0.13,set,FR\n10.0.0.15,set,FR\n10.0.0.17,set,FR\n\
@@ -171,62 +182,99 @@ const CHEQUERED_FEED: &str = "\
 10.0.0.55/32,FR,,,\n10.0.0.57/32,FR,,,\n10.0.0.59/32,FR,,,\n10.0.0.61/32,FR,,,\n\
 10.0.0.63/32,FR,,,\n";
 
-/// The feed that was put, and nothing else.
-fn published<R: Abort>(rt: &R, left: &Left, feed: &str) {
-    assert!(rt;
-        left.folder.bytes_of("f") == Some(feed.as_bytes()),
-        "{feed}"
-    );
-    assert_eq!(rt; left.folder.puts().len(), 1, "{feed}");
+/// Whether this was printed, and this feed was put and nothing else.
+fn is_published(left: &Left, printed: &str, feed: &str) -> bool {
+    is_so(left, Status::Done, printed)
+        && stands(left, "f")
+        && bytes_in(left, "f") == feed.as_bytes()
+        && puts(left) == 1
+}
+
+fn publishes<R: Threads + Sync>(rt: &R, alloc: Global, row: &Row) -> Result<bool, Fail> {
+    let left = left_by(rt, alloc, row.0, row.1, NONE)?;
+    Ok(is_published(&left, row.2, row.3))
 }
 
 /// Each feed comes out so.
 fn publish_all<R: Threads + Sync + Abort>(rt: &R, alloc: Global, rows: &[Row]) -> Result<(), Fail> {
-    for (files, commands, printed, feed) in rows {
-        let left = left_by(rt, alloc, files, commands, NONE)?;
-        agrees(rt, &left, Status::Done, printed);
-        published(rt, &left, feed);
+    for row in rows {
+        assert!(rt; publishes(rt, alloc, row)?, "{}", row.3);
     }
     Ok(())
 }
 
 #[test]
 fn feeds_of_countries(rt: HostRuntime) -> Result<(), Fail> {
-    publish_all(&rt, rt.alloc(), &COUNTRIES)
+    publish_all(&rt, rt.alloc(), countries())
 }
 
 #[test]
 fn feeds_of_places(rt: HostRuntime) -> Result<(), Fail> {
-    publish_all(&rt, rt.alloc(), &PLACES)
+    publish_all(&rt, rt.alloc(), places())
 }
 
-/// The overrides of so many addresses that have a city each, and the feed of their block.
-fn cities(alloc: Global) -> Result<(String, String), Fail> {
-    let mut overrides = String::new(alloc);
-    let mut feed = String::new(alloc);
-    for at in 0..64u32 {
-        overrides.push_str(format!(in alloc; "10.0.0.{at},set,DE,,City {at}\n")?.as_str())?;
-        // The first address of a block speaks for it.
-        let length = 32 - at.trailing_zeros().min(6);
-        feed.push_str(format!(in alloc; "10.0.0.{at}/{length},DE,,City {at},\n")?.as_str())?;
+/// The override of an address that has a city of its own.
+fn city_override(alloc: Global, at: u32) -> Result<String, AllocError> {
+    format!(in alloc; "10.0.0.{at},set,DE,,City {at}\n")
+}
+
+/// The length of the largest block of the 64 addresses that begins at one: the first of a block
+/// speaks for it.
+fn length_at(at: u32) -> u32 {
+    match at {
+        0 => 26,
+        _ if at % 32 == 0 => 27,
+        _ if at % 16 == 0 => 28,
+        _ if at % 8 == 0 => 29,
+        _ if at % 4 == 0 => 30,
+        _ if at % 2 == 0 => 31,
+        _ => 32,
     }
-    Ok((overrides, feed))
+}
+
+/// The line of the feed for that address.
+fn city_line(alloc: Global, at: u32, length: u32) -> Result<String, AllocError> {
+    format!(in alloc; "10.0.0.{at}/{length},DE,,City {at},\n")
+}
+
+/// The overrides of 64 cities.
+fn overrides_of_cities(alloc: Global) -> Result<String, AllocError> {
+    let mut text = String::new(alloc);
+    for at in 0..64 {
+        text.push_str(city_override(alloc, at)?.as_str())?;
+    }
+    Ok(text)
+}
+
+/// The feed of their block.
+fn feed_of_cities(alloc: Global) -> Result<String, AllocError> {
+    let mut text = String::new(alloc);
+    for at in 0..64 {
+        text.push_str(city_line(alloc, at, length_at(at))?.as_str())?;
+    }
+    Ok(text)
+}
+
+/// What is left where that feed is published.
+fn left_by_cities<R: Threads + Sync>(rt: &R, alloc: Global) -> Result<Left, Fail> {
+    let overrides = overrides_of_cities(alloc)?;
+    let mut left = start(alloc, &[("j", OVERRIDES)], NONE)?;
+    hold(&mut left, "o.csv", overrides.as_bytes())?;
+    speak(rt, alloc, "publish j 10.0.0.0/26 f", &mut left)?;
+    Ok(left)
 }
 
 /// As many lines as places.
 #[test]
 fn a_feed_of_64_cities(rt: HostRuntime) -> Result<(), Fail> {
-    let (overrides, feed) = cities(rt.alloc())?;
-    let mut left = start(rt.alloc(), &[("j", OVERRIDES)], NONE)?;
-    left.folder.hold("o.csv", overrides.as_str().as_bytes())?;
-    speak(&rt, rt.alloc(), "publish j 10.0.0.0/26 f", &mut left)?;
-    agrees(&rt, &left, Status::Done, "publish f lines 64\n");
-    published(&rt, &left, feed.as_str());
+    let feed = feed_of_cities(rt.alloc())?;
+    let left = left_by_cities(&rt, rt.alloc())?;
+    assert!(rt; is_published(&left, "publish f lines 64\n", feed.as_str()));
     Ok(())
 }
 
 /// Words that are no command, and files that are missing.
-const STOPS: [Trial; 4] = [
+static STOPS: [Trial; 4] = [
     (
         &[("j", "epoch 1\n")],
         &["publish j ::/0 f"],
@@ -253,7 +301,11 @@ const STOPS: [Trial; 4] = [
     ),
 ];
 
+fn stops() -> &'static [Trial] {
+    &STOPS
+}
+
 #[test]
 fn stops_of_publish(rt: HostRuntime) -> Result<(), Fail> {
-    come_out(&rt, rt.alloc(), &STOPS)
+    come_out(&rt, rt.alloc(), stops())
 }

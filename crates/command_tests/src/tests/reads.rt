@@ -1,9 +1,8 @@
 //! Reads, puts and prints that fail, and reads that are short.
-use super::{Commands, Faults, Files, Left, NONE, agrees, left_by, speak, start};
+use super::{Commands, Faults, Files, Left, NONE, bytes_in, is_so, left_by, speak, stands, start};
 use geofeed_cmd::Status;
 use std::alloc::Global;
 use std::marker::Sync;
-use std::process::Abort;
 use std::test::Fail;
 use std::thread::Threads;
 
@@ -18,7 +17,7 @@ const LINE_A: &str = "emit a nodes 124 data 22 bits 24 bytes 982\n";
 /// The call that fails, the status, what is printed, and which of the two files stand.
 type Failing = (Faults, Status, &'static str, bool, bool);
 
-const FAILING: [Failing; 10] = [
+static FAILING: [Failing; 10] = [
     ((1, 0, 0), Status::ReadFault, "stop read j\n", false, false),
     ((2, 0, 0), Status::ReadFault, "stop read j\n", false, false),
     (
@@ -55,64 +54,86 @@ const FAILING: [Failing; 10] = [
     ((0, 0, 3), Status::Done, BOTH, true, true),
 ];
 
+fn failing() -> &'static [Failing] {
+    &FAILING
+}
+
 const BOTH: &str =
     "emit a nodes 124 data 22 bits 24 bytes 982\nemit b nodes 124 data 22 bits 24 bytes 982\n";
 
-/// These files stand.
-fn stand<R: Abort>(rt: &R, left: &Left, a: bool, b: bool) {
-    assert_eq!(rt; left.folder.bytes_of("a").is_some(), a);
-    assert_eq!(rt; left.folder.bytes_of("b").is_some(), b);
+/// Whether of two files these stand.
+fn stand(left: &Left, a: bool, b: bool) -> bool {
+    stands(left, "a") == a && stands(left, "b") == b
+}
+
+fn fails_so<R: Threads + Sync>(rt: &R, alloc: Global, row: &Failing) -> Result<bool, Fail> {
+    let left = left_by(rt, alloc, TWICE, &["build j"], row.0)?;
+    Ok(is_so(&left, row.1, row.2) && stand(&left, row.3, row.4))
 }
 
 #[test]
 fn calls_that_fail(rt: HostRuntime) -> Result<(), Fail> {
-    for (faults, status, printed, a, b) in FAILING {
-        let left = left_by(&rt, rt.alloc(), TWICE, &["build j"], faults)?;
-        agrees(&rt, &left, status, printed);
-        stand(&rt, &left, a, b);
+    for (at, row) in failing().iter().enumerate() {
+        assert!(rt; fails_so(&rt, rt.alloc(), row)?, "row {at}");
     }
     Ok(())
+}
+
+/// Reads give a byte at a time.
+fn give_bytes(left: &mut Left) {
+    left.folder.short_reads(1);
 }
 
 /// The job with reads that give a byte at a time, of which this one fails.
 fn by_bytes<R: Threads + Sync>(rt: &R, alloc: Global, read: u64) -> Result<Left, Fail> {
     let mut left = start(alloc, TWICE, (read, 0, 0))?;
-    left.folder.short_reads(1);
+    give_bytes(&mut left);
     speak(rt, alloc, "build j", &mut left)?;
     Ok(left)
 }
 
-/// A file is read once for each byte and once for its end.
+/// What is printed where this read fails: a file is read once for each byte and once for its end.
+fn stop_at(read: u64) -> &'static str {
+    if read <= 37 {
+        "stop read j\n"
+    } else {
+        "stop read s.txt\n"
+    }
+}
+
+fn stops_at<R: Threads + Sync>(rt: &R, alloc: Global, read: u64) -> Result<bool, Fail> {
+    let left = by_bytes(rt, alloc, read)?;
+    Ok(is_so(&left, Status::ReadFault, stop_at(read)) && stand(&left, false, false))
+}
+
 #[test]
 fn short_reads_that_fail(rt: HostRuntime) -> Result<(), Fail> {
     for read in 1..81u64 {
-        let left = by_bytes(&rt, rt.alloc(), read)?;
-        let printed = if read <= 37 {
-            "stop read j\n"
-        } else {
-            "stop read s.txt\n"
-        };
-        agrees(&rt, &left, Status::ReadFault, printed);
-        stand(&rt, &left, false, false);
+        assert!(rt; stops_at(&rt, rt.alloc(), read)?, "read {read}");
     }
     Ok(())
+}
+
+/// Whether two folders have one file of this name.
+fn have_one(one: &Left, other: &Left, name: &str) -> bool {
+    stands(one, name) && stands(other, name) && bytes_in(one, name) == bytes_in(other, name)
 }
 
 /// The same files and text come of short reads.
 #[test]
 fn short_reads(rt: HostRuntime) -> Result<(), Fail> {
     let left = by_bytes(&rt, rt.alloc(), 81)?;
-    agrees(&rt, &left, Status::Done, BOTH);
+    assert!(rt; is_so(&left, Status::Done, BOTH));
     let whole = left_by(&rt, rt.alloc(), TWICE, &["build j"], NONE)?;
-    assert!(rt; left.folder.bytes_of("a") == whole.folder.bytes_of("a"));
-    assert!(rt; left.folder.bytes_of("b") == whole.folder.bytes_of("b"));
+    assert!(rt; have_one(&left, &whole, "a"));
+    assert!(rt; have_one(&left, &whole, "b"));
     Ok(())
 }
 
 /// Other commands whose calls fail.
 type Other = (Files, Commands, Faults, &'static str);
 
-const OTHERS: [Other; 5] = [
+static OTHERS: [Other; 5] = [
     (
         &[("j", "epoch 1\nemit a\n")],
         &["explain j ::"],
@@ -140,11 +161,19 @@ const OTHERS: [Other; 5] = [
     (&[("j", "epoch 1\nreport\n")], &["build j"], (0, 0, 1), ""),
 ];
 
+fn others() -> &'static [Other] {
+    &OTHERS
+}
+
+fn writes_fail<R: Threads + Sync>(rt: &R, alloc: Global, row: &Other) -> Result<bool, Fail> {
+    let left = left_by(rt, alloc, row.0, row.1, row.2)?;
+    Ok(is_so(&left, Status::WriteFault, row.3))
+}
+
 #[test]
 fn writes_that_fail(rt: HostRuntime) -> Result<(), Fail> {
-    for (files, commands, faults, printed) in OTHERS {
-        let left = left_by(&rt, rt.alloc(), files, commands, faults)?;
-        agrees(&rt, &left, Status::WriteFault, printed);
+    for (at, row) in others().iter().enumerate() {
+        assert!(rt; writes_fail(&rt, rt.alloc(), row)?, "row {at}");
     }
     Ok(())
 }

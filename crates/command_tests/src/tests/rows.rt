@@ -9,7 +9,7 @@ const EMIT: &str = "epoch 1700000000\nstats x s.txt\nemit o\n";
 /// The same with a report.
 const REPORT: &str = "epoch 1700000000\nstats x s.txt\nreport\nemit o\n";
 
-const STATISTICS: [Trial; 7] = [
+static STATISTICS: [Trial; 7] = [
     (
         &[("j", "epoch 1700000000\nemit o\n")],
         &["build j", "lookup o ::"],
@@ -85,14 +85,18 @@ const STATISTICS: [Trial; 7] = [
     ),
 ];
 
+fn statistics() -> &'static [Trial] {
+    &STATISTICS
+}
+
 #[test]
 fn statistics_alone(rt: HostRuntime) -> Result<(), Fail> {
-    come_out(&rt, rt.alloc(), &STATISTICS)
+    come_out(&rt, rt.alloc(), statistics())
 }
 
 const OVERRIDES: &str = "epoch 1700000000\noverrides o.csv\nreport\nemit o\n";
 
-const OVERRIDDEN: [Trial; 5] = [
+static OVERRIDDEN: [Trial; 5] = [
     (
         &[
             ("j", OVERRIDES),
@@ -148,7 +152,11 @@ emit b nodes 131 data 22 bits 24 bytes 1024\nnone\n",
     ),
 ];
 
+fn overridden() -> &'static [Trial] {
+    &OVERRIDDEN
+}
+
 #[test]
 fn overrides_alone(rt: HostRuntime) -> Result<(), Fail> {
-    come_out(&rt, rt.alloc(), &OVERRIDDEN)
+    come_out(&rt, rt.alloc(), overridden())
 }

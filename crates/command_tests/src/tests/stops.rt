@@ -1,13 +1,12 @@
 //! How commands stop.
-use super::{Files, Left, NONE, Trial, agrees, come_out, lines, speak, start};
+use super::{Files, Left, NONE, Trial, come_out, hold, is_so, lines, speak, start};
 use geofeed_cmd::Status;
 use std::alloc::Global;
 use std::marker::Sync;
-use std::process::Abort;
 use std::test::Fail;
 use std::thread::Threads;
 
-const STOPS: [Trial; 16] = [
+static STOPS: [Trial; 16] = [
     (
         &[("j", "epoch 1\nstats x s.txt\nemit a\n")],
         &["build j"],
@@ -66,9 +65,13 @@ const STOPS: [Trial; 16] = [
     (&[], &["lookup f 1.2.3"], Status::Words, "stop words\n"),
 ];
 
+fn stops() -> &'static [Trial] {
+    &STOPS
+}
+
 #[test]
 fn how_commands_stop(rt: HostRuntime) -> Result<(), Fail> {
-    come_out(&rt, rt.alloc(), &STOPS)
+    come_out(&rt, rt.alloc(), stops())
 }
 
 /// Seventeen feeds: sixteen of them are read before a line of them is counted.
@@ -93,105 +96,134 @@ feed https://e.example/16 f
 feed https://e.example/17 h
 ";
 
-const GROUP: Files = &[("j", SEVENTEEN), ("f", "")];
+/// Of three files one is there beside `s`, and two are.
+static SIXTEEN: [(&str, &str); 2] = [("j", SEVENTEEN), ("f", "")];
+
+static ALL: [(&str, &str); 3] = [("j", SEVENTEEN), ("f", ""), ("g", "")];
+
+fn sixteen() -> Files {
+    &SIXTEEN
+}
+
+fn seventeen() -> Files {
+    &ALL
+}
 
 /// Builds where the file `s` has so many equal lines.
 fn build_over<R: Threads + Sync>(
     rt: &R,
     alloc: Global,
+    left: &mut Left,
     line: &str,
     count: u32,
-    left: &mut Left,
 ) -> Result<(), Fail> {
     let text = lines(alloc, line, count)?;
-    left.folder.hold("s", text.as_slice())?;
-    speak(rt, alloc, "build j", left)?;
-    Ok(())
+    hold(left, "s", text.as_slice())?;
+    speak(rt, alloc, "build j", left)
+}
+
+/// The same over these files.
+fn left_over<R: Threads + Sync>(
+    rt: &R,
+    alloc: Global,
+    files: Files,
+    line: &str,
+    count: u32,
+) -> Result<Left, Fail> {
+    let mut left = start(alloc, files, NONE)?;
+    build_over(rt, alloc, &mut left, line, count)?;
+    Ok(left)
+}
+
+/// Whether it stops so.
+fn stops_over<R: Threads + Sync>(
+    rt: &R,
+    alloc: Global,
+    files: Files,
+    (line, count): (&str, u32),
+    (status, printed): (Status, &str),
+) -> Result<bool, Fail> {
+    let left = left_over(rt, alloc, files, line, count)?;
+    Ok(is_so(&left, status, printed))
 }
 
 #[test]
 fn too_many_delegations(rt: HostRuntime) -> Result<(), Fail> {
-    let mut left = start(rt.alloc(), &[("j", "epoch 1\nstats x s\nemit o\n")], NONE)?;
-    build_over(
-        &rt,
-        rt.alloc(),
-        "|DE|ipv4|1.0.0.0|1||allocated\n",
-        2_097_153,
-        &mut left,
-    )?;
-    agrees(&rt, &left, Status::Source, "stop source 2 statements\n");
+    let files = &[("j", "epoch 1\nstats x s\nemit o\n")];
+    let lines = ("|DE|ipv4|1.0.0.0|1||allocated\n", 2_097_153);
+    let end = (Status::Source, "stop source 2 statements\n");
+    assert!(rt; stops_over(&rt, rt.alloc(), files, lines, end)?);
     Ok(())
 }
 
 #[test]
 fn too_many_bytes(rt: HostRuntime) -> Result<(), Fail> {
-    let mut left = start(
-        rt.alloc(),
-        &[("j", "epoch 1\nfeed https://e.example/ s\n")],
-        NONE,
-    )?;
-    build_over(
-        &rt,
-        rt.alloc(),
+    let files = &[("j", "epoch 1\nfeed https://e.example/ s\n")];
+    let lines = (
         "192.0.2.0/24,DE,,,# no statement of this feed reads.\n",
         1_266_205,
-        &mut left,
-    )?;
-    agrees(&rt, &left, Status::Source, "stop source 2 bytes\n");
+    );
+    let end = (Status::Source, "stop source 2 bytes\n");
+    assert!(rt; stops_over(&rt, rt.alloc(), files, lines, end)?);
     Ok(())
 }
 
 /// Of a group of feeds all are read before any line is counted.
 #[test]
 fn read_before_counted(rt: HostRuntime) -> Result<(), Fail> {
-    let mut left = start(rt.alloc(), GROUP, NONE)?;
-    build_over(&rt, rt.alloc(), "::1:0:0/96\n", 2_097_153, &mut left)?;
-    agrees(&rt, &left, Status::Missing, "stop missing g\n");
+    let lines = ("::1:0:0/96\n", 2_097_153);
+    let end = (Status::Missing, "stop missing g\n");
+    assert!(rt; stops_over(&rt, rt.alloc(), sixteen(), lines, end)?);
     Ok(())
 }
 
 /// The seventeenth feed is not of the first sixteen.
 #[test]
 fn counted_before_read(rt: HostRuntime) -> Result<(), Fail> {
-    let mut left = start(rt.alloc(), GROUP, NONE)?;
-    left.folder.hold("g", b"".as_slice())?;
-    build_over(&rt, rt.alloc(), "::1:0:0/96\n", 2_097_153, &mut left)?;
-    agrees(&rt, &left, Status::Source, "stop source 3 statements\n");
+    let lines = ("::1:0:0/96\n", 2_097_153);
+    let end = (Status::Source, "stop source 3 statements\n");
+    assert!(rt; stops_over(&rt, rt.alloc(), seventeen(), lines, end)?);
     Ok(())
 }
 
-/// How a job of these bytes stops.
-fn job_stops<R: Threads + Sync + Abort>(
+/// Whether a job of these bytes stops so.
+fn job_stops<R: Threads + Sync>(
     rt: &R,
     alloc: Global,
     job: &[u8],
     printed: &str,
-) -> Result<(), Fail> {
+) -> Result<bool, Fail> {
     let mut left = start(alloc, &[], NONE)?;
-    left.folder.hold("j", job)?;
+    hold(&mut left, "j", job)?;
     speak(rt, alloc, "build j", &mut left)?;
-    agrees(rt, &left, Status::Job, printed);
-    Ok(())
+    Ok(is_so(&left, Status::Job, printed))
 }
 
 #[test]
 fn jobs_of_other_bytes(rt: HostRuntime) -> Result<(), Fail> {
-    job_stops(&rt, rt.alloc(), b"epoch 1\nemit \xFF\n", "stop job utf8\n")?;
-    let mut text = lines(rt.alloc(), "#\n", 524_288)?;
-    job_stops(&rt, rt.alloc(), text.as_slice(), "stop job empty\n")?;
+    let alloc = rt.alloc();
+    assert!(rt; job_stops(&rt, alloc, b"epoch 1\nemit \xFF\n", "stop job utf8\n")?);
+    let mut text = lines(alloc, "#\n", 524_288)?;
+    assert!(rt; job_stops(&rt, alloc, text.as_slice(), "stop job empty\n")?);
     text.push(b'#')?;
-    job_stops(&rt, rt.alloc(), text.as_slice(), "stop job long\n")?;
+    assert!(rt; job_stops(&rt, alloc, text.as_slice(), "stop job long\n")?);
     Ok(())
 }
 
 /// One node of 24 bits: the lower half of all addresses has the number 7, the upper half none.
-const FILE: &[u8] =
+static FILE: &[u8] =
     b"\0\0\x11\0\0\x01\0\0\0\0\0\0\0\0\0\0\0\0\0\0\0\0\xA1\x07\xAB\xCD\xEFMaxMind.com\xE4\x5B\
 binary_format_major_version\xA1\x02\x4Aip_version\xA1\x06\x4Anode_count\xC1\x01\x4B\
 record_size\xA1\x18";
 
+fn file() -> &'static [u8] {
+    FILE
+}
+
 /// The read and the print that fail, the command, and how it ends.
-const LOOKED_UP: [(u64, u64, &str, Status, &str); 6] = [
+type LookedUp = (u64, u64, &'static str, Status, &'static str);
+
+static LOOKED_UP: [LookedUp; 6] = [
     (0, 0, "lookup f ::", Status::Done, "7\n"),
     (0, 0, "lookup f 8000::", Status::Done, "none\n"),
     (1, 0, "lookup f ::", Status::ReadFault, "stop read f\n"),
@@ -201,13 +233,21 @@ const LOOKED_UP: [(u64, u64, &str, Status, &str); 6] = [
     (0, 1, "lookup g ::", Status::Missing, ""),
 ];
 
+fn looked_up() -> &'static [LookedUp] {
+    &LOOKED_UP
+}
+
+fn lookup_ends<R: Threads + Sync>(rt: &R, alloc: Global, row: &LookedUp) -> Result<bool, Fail> {
+    let mut left = start(alloc, &[], (row.0, 0, row.1))?;
+    hold(&mut left, "f", file())?;
+    speak(rt, alloc, row.2, &mut left)?;
+    Ok(is_so(&left, row.3, row.4))
+}
+
 #[test]
 fn how_a_lookup_ends(rt: HostRuntime) -> Result<(), Fail> {
-    for (read, print, command, status, printed) in LOOKED_UP {
-        let mut left = start(rt.alloc(), &[], (read, 0, print))?;
-        left.folder.hold("f", FILE)?;
-        speak(&rt, rt.alloc(), command, &mut left)?;
-        agrees(&rt, &left, status, printed);
+    for (at, row) in looked_up().iter().enumerate() {
+        assert!(rt; lookup_ends(&rt, rt.alloc(), row)?, "row {at}");
     }
     Ok(())
 }
