@@ -29,7 +29,7 @@ use crate::status::Status;
 use crate::stop::no_command;
 use command_words::{Spoken, command_in};
 use geo_outside::{Folder, Gate, Sink, Steps};
-use publish_move::is_plain;
+use published::is_plain;
 use std::alloc::Global;
 use std::marker::Sync;
 use std::sync::ledger::Ledger;

@@ -1,5 +1,6 @@
 pub mod CleanSources
 pub mod FeedText
 pub mod PlaceLines
+pub mod Publishing
 pub mod Reread
 pub mod Shortest

@@ -19,7 +19,7 @@ use Rattle.job_run.specs.Sources.{unreadable}
 use Rattle.job_run.specs.World.{World, printing}
 use Rattle.command_words.specs.Commands.{Command, build, lookup, explain, gen, publish, check}
 use Rattle.command_words.specs.Commands.{census}
-use Rattle.publish_move.specs.Publishing.{publishing}
+use Rattle.published.specs.Publishing.{publishing}
 use Rattle.geofeed_cmd.specs.Commands.Census.{counting}
 use Rattle.geofeed_cmd.specs.Commands.Check.{checking}
 use Rattle.geofeed_cmd.specs.Commands.Explain.{explaining}

@@ -9,7 +9,7 @@ ghost use Rattle.job_run.specs.Acts.{shows};
 ghost use Rattle.job_run.specs.Moves.{read_rooms, source_moves};
 ghost use Rattle.job_run.specs.Seen.{seen};
 ghost use Rattle.publish_least.specs.Lines.{IsPlain};
-ghost use Rattle.publish_move.specs.Publishing.{publishing};
+ghost use Rattle.published.specs.Publishing.{publishing};
 ghost use Rattle.geofeed_cmd.specs.Run.Answers.{Comes};
 ghost use Rattle.geofeed_cmd.specs.Run.Plans.{held_job, job_room, plan_of, planned, start_of};
 
@@ -21,7 +21,7 @@ use fan_work::Forks;
 use geo_addr::Block;
 use geo_outside::{Folder, Gate, Sink, Steps};
 use job_lines::Job;
-use publish_move::write_feed;
+use published::write_feed;
 use std::alloc::Global;
 use std::marker::Sync;
 use std::sync::ledger::Ledger;

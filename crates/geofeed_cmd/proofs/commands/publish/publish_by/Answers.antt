@@ -4,7 +4,7 @@ use Rattle.geo_outside.specs.Count.{Rose}
 use Rattle.job_run.specs.Acts.{shows}
 use Rattle.job_run.specs.Moves.{source_moves}
 use Rattle.job_run.specs.Seen.{seen}
-use Rattle.publish_move.specs.Publishing.{publishing}
+use Rattle.published.specs.Publishing.{publishing}
 use Rattle.geofeed_cmd.specs.Run.Lines.{stop_line}
 use Rattle.geofeed_cmd.specs.Run.Plans.{start_of}
 use Rattle.geofeed_cmd.proofs.LastLemmas.{comes_last, comes_unmade}

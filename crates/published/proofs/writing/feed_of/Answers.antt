@@ -5,7 +5,7 @@ use Rattle.mmdb_file.specs.Writing.{place_tree}
 use Rattle.published.specs.PlaceLines.{published, published_lines}
 use Rattle.trie_core.specs.Store.{leaf_at}
 use Rattle.update_session.proofs.WriteLemmas.{leaf_is}
-use Rattle.publish_move.proofs.writing.feed_of.Goals as goal
+use Rattle.published.proofs.writing.feed_of.Goals as goal
 
 pub publish-requires-clause-numbers : goal.publish-requires-clause-numbers
 publish-requires-clause-numbers g c = λ address k below is.

@@ -10,13 +10,14 @@ ghost use Rattle.job_run.specs.Acts.{effect, shows};
 ghost use Rattle.job_run.specs.Seen.{seen};
 ghost use Rattle.job_run.specs.Stops.{Does, Fails, IsIn, IsPaid};
 ghost use Rattle.job_run.specs.World.{World};
-ghost use Rattle.publish_move.specs.Publishing.{publishing};
+ghost use Rattle.published.specs.Publishing.{publishing};
 
+use crate::line::printed_line;
+use crate::publication::{Publication, publish};
 use fan_work::Forks;
 use geo_addr::{Block, Memory};
 use geo_outside::{Folder, Gate, Sink, Steps};
 use job_run::{Cause, Stop, print, put};
-use published::{Publication, printed_line, publish};
 use std::marker::Sync;
 use std::sync::ledger::Ledger;
 use std::thread::Threads;

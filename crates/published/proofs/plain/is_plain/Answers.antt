@@ -3,8 +3,8 @@ use Rattle.std.proofs.Common.{◌≡◌, ◌≤◌, ℕ, ◌||◌, ◌^◌, true
 use Rattle.std.proofs.lemmas.Bool.Decides.{nat_tests}
 use Rattle.geo_addr.specs.Ranges.{Prefix}
 use Rattle.publish_least.specs.Lines.{IsPlain}
-use Rattle.publish_move.proofs.PlainLemmas.{plain_from}
-use Rattle.publish_move.proofs.plain.is_plain.Goals as goal
+use Rattle.published.proofs.PlainLemmas.{plain_from}
+use Rattle.published.proofs.plain.is_plain.Goals as goal
 
 is_long : (len first : ℕ) → 96 ≤ len → (nat_le 96 len || nat_le (2 ^ 32) first) ≡ true
 is_long len first long = grind (arith, nat_tests)

@@ -2,9 +2,9 @@ use Rattle.std.proofs.Common.{◌∙◌, Err, ap, refl}
 use Rattle.published.specs.FeedText.{printed_line}
 use Rattle.job_run.specs.Seen.{seen}
 use Rattle.job_run.proofs.ActLemmas.{for_both, for_ok}
-use Rattle.publish_move.proofs.FeedLemmas.{does_feed, fails_early, fails_print, fails_put}
-use Rattle.publish_move.proofs.FeedLemmas.{paid_feed}
-use Rattle.publish_move.proofs.writing.write_feed.Goals as goal
+use Rattle.published.proofs.MoveLemmas.{does_feed, fails_early, fails_print, fails_put}
+use Rattle.published.proofs.MoveLemmas.{paid_feed}
+use Rattle.published.proofs.writing.write_feed.Goals as goal
 
 pub returns-in-Ok-put-clause-done : goal.returns-in-Ok-put-clause-done
 returns-in-Ok-put-clause-done g c world here =
