@@ -1,6 +1,7 @@
 #!/usr/bin/env bash
-# The real folder and the real output: what no contract sees. What a put keeps and what not, what stands in its way, what a
-# run that is killed leaves behind, pipes, and the limit of file size. docs/outside.md says each of these in words.
+# The real folder and the real output: what no contract sees. What a put keeps and what not, that reads are of what was put
+# last, what stands in a put's way, what a run that is killed leaves behind, pipes, an output that takes nothing more, and the
+# limit of file size. docs/outside.md says each of these in words. The program has no tests beside these.
 set -u
 cd "$(dirname "${BASH_SOURCE[0]}")/.." || exit 1
 . checks/with_program.bash
@@ -45,6 +46,12 @@ is_whole() { cmp -s "$1" first || cmp -s "$1" second || fail "${BASH_LINENO[0]}:
 # job FILE [SOURCE]: a job on standard output.
 job() { printf 'epoch 1700000000\nstats x %s\nemit %s\n' "${2:-s.txt}" "$1"; }
 
+# many LINES TURN: statistics of so many IPv4 blocks side by side, whose countries follow no pattern.
+many() {
+    awk -v lines="$1" -v turn="$2" 'BEGIN { for (n = 0; n < lines; n++) printf "x|%c%c|ipv4|10.%d.%d.0|256||allocated\n",
+        65 + int(n * n / 13 + turn) % 25, 65 + int(n * n / 101) % 25, n / 256, n % 256 }'
+}
+
 printf 'x|DE|ipv4|192.0.2.0|256||allocated\n' > s.txt
 printf 'x|AT|ipv4|198.51.100.0|512||allocated\nx|CH|ipv6|2001:db8::|32||allocated\n' > t.txt
 job first > job && puts 0 'emit first'
@@ -55,12 +62,31 @@ job out.mmdb t.txt > other
 # Modes: of the umask, and then the old file's, without what lets it run as its owner or group.
 (umask 027 && "$program" build job > printed)
 has_mode 640 out.mmdb
-for mode in 600 4755 2640 1644 444 0; do
+for mode in 600 640 4755 2640 1644 444 0; do
     chmod "$mode" out.mmdb
     puts 0 'emit out.mmdb'
     has_mode "$(printf %o $((0$mode & 0777)))" out.mmdb
 done
 rm -f out.mmdb
+
+# Reads are of what was put last, in pieces of 65,536 bytes: of two sources that the same run put files in the place of, and of
+# a file that is looked up in each time it was emitted anew.
+many 14000 0 > m.txt && many 13000 1 > n.txt && cp m.txt f && cp n.txt g
+printf 'epoch 1700000000\nstats x f\nemit f\nstats y g\nemit g\nstats x f\nstats y g\nreport\nemit h\n' > both
+printf 'epoch 1700000000\nstats x f\nstats y g\nreport\nemit i\n' > anew
+"$program" build both 2> told | grep -v '^emit' > before
+"$program" build anew 2> told | grep -v '^emit' > behind
+[ "$(wc -c < f)" -gt 65536 ] && grep -q '^stats x 2 S' before && grep -q '^stats y 2 S' before && cmp before behind && cmp h i \
+    || fail "a run reads otherwise what it put itself"
+for source in m n m; do
+    job out.mmdb "$source.txt" > bad && puts 0 'emit out.mmdb' bad
+    for at in 0 6543 12999; do
+        wanted=$(sed -nE "$((at + 1))s/^x.(..).*/{\"country\":{\"iso_code\":\"\1\"}}/p" "$source.txt")
+        found=$("$program" lookup out.mmdb "10.$((at / 256)).$((at % 256)).255" 2>&1)
+        [ "$found" = "$wanted" ] || fail "line $((at + 1)) of $source.txt is $found and not $wanted"
+    done
+done
+rm -f f g h i out.mmdb
 
 # Links: a put takes the place of the last name, and follows the others; a read follows all.
 mkdir below && ln -s below linked && echo secret > kept && chmod 600 kept && ln -s ../kept below/out.mmdb
@@ -81,9 +107,14 @@ mkdir full full/out.mmdb && job full/out.mmdb > bad
 puts 5 'stop write full/out.mmdb' bad && told 'is a directory'
 left 0 full
 job none/out.mmdb > bad && puts 5 'stop write none/out.mmdb' bad && told 'No such file'
+{ job out.mmdb t.txt && echo 'emit none/out.mmdb' && echo 'emit out.mmdb'; } > bad && puts 5 'stop write none/out.mmdb' bad
+cmp -s out.mmdb second && [ ! -e none ] || fail "a put that stops spoils what was put before it"
 job s.txt/out.mmdb > bad && puts 5 'stop write s.txt/out.mmdb' bad && told 'Not a directory'
 
-# New files that were left behind: a hundred of them, and one that another run still holds.
+# New files that were left behind: one, a hundred of them, and one that another run still holds.
+echo half > '.geofeed new 0' && job new.mmdb > bad && puts 0 'emit new.mmdb' bad
+is_whole new.mmdb
+left 0
 for ((n = 0; n < 100; n++)); do echo half > ".geofeed new $n"; done
 puts 0 'emit out.mmdb'
 left 99
@@ -129,7 +160,21 @@ printf 'x|AT|ipv4|198.51.100.0|512||allocated\nx|CH|ipv6|2001:db8::|32||allocate
 if [ -c /dev/full ]; then
     "$program" build job > /dev/full 2> told
     [ $? -eq 5 ] && told 'standard output could not be written: No space left' && is_whole out.mmdb
+    "$program" bulid > /dev/full 2> told
+    [ $? -eq 5 ] && told 'standard output could not be written: No space left'
+    job none/out.mmdb > bad && "$program" build bad > /dev/full 2> told
+    [ $? -eq 5 ] && told '"none/out.mmdb" could not be written' || fail "a stop line that is not written is not said either"
 fi
+
+# A pipe that is closed: before anything is written, and when it took the first bytes of many notes.
+mkfifo shut
+{ read -r < shut; "$program" build job 2> told; echo $? > ended; } | { exec 0<&-; echo > shut; }
+[ "$(cat ended)" -eq 5 ] && told 'standard output could not be written: Broken pipe' || fail "a closed pipe ends with $(cat ended)"
+is_whole out.mmdb
+for ((n = 0; n < 9000; n++)); do echo 'x|DE|ipv4|here|256||allocated'; done > notes.txt
+printf 'epoch 1700000000\nstats x notes.txt\nreport\n' > bad
+{ "$program" build bad 2> told; echo $? > ended; } | head -c 5 > taken
+[ "$(cat ended taken)" = $'5\nstats' ] && told 'Broken pipe' || fail "a pipe that takes 5 bytes ends with '$(cat ended taken)'"
 
 # Runs that are killed at any moment, and two that write one name.
 for ((n = 0; n < 60; n++)); do

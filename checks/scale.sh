@@ -6,7 +6,6 @@ set -u
 cd "$(dirname "${BASH_SOURCE[0]}")/.." || exit 1
 made=$PWD/bench/statistics.awk
 world=$PWD/bench/world.awk
-bench=$PWD/crates/geo_bench/out/geo_bench
 . checks/with_program.bash
 
 # runs SECONDS KILOBYTES WORDS..: what the program prints, in the file `printed`, and its status in `status`.
@@ -62,24 +61,35 @@ runs 5 200000 build job
 runs 5 200000 lookup claims 192.0.2.1
 [[ "$status $(cat printed)" == '9 stop file '* ]] || fail "a list that claims 16.8 million values ends with status $status and '$(cat printed)'"
 
-# Records of 28 bits, in a file that geo_bench writes: each of its ranges, with the city that its leaf has by the case's own
-# rule, which stands in crates/geo_bench/src/ranges.rt and is done anew here.
-if [ ! -x "$bench" ]; then
-    echo "$check: not tried: records of 28 bits: $bench is not built"
-elif ! command -v perl > /dev/null; then
+# Records of 28 bits: 100,000 ranges of 16 addresses, each with one of 20,000 cities, whose names have 1,000 bytes. Two feeds
+# have them, and a dump the references to both. Perl makes the feeds, and of some ranges the city of their ends and none beside.
+if ! command -v perl > /dev/null; then
     echo "$check: not tried: records of 28 bits: there is no perl"
 else
-    "$bench" wide 100000 wide.mmdb > printed || fail "the case wide ends with status $?"
-    grep -q ' bits 28$' printed || fail "the case wide prints '$(cat printed)', and no records of 28 bits"
-    perl -Minteger -e 'for (my $n = 7; $n < 100000; $n += 4999) {
-        my $once = (($n ^ $n >> 16) * 0x7feb352d) & 0xffffffff;
-        my $twice = (($once ^ $once >> 15) * 0x846ca68b) & 0xffffffff;
-        my $mixed = $twice ^ $twice >> 16;
-        my $first = 0x10000000 + $n * 32 + ($mixed & 1) * 16;
-        my $city = sprintf "%d", ($mixed >> 1) % 20000;
-        for ([$first, $city], [$first + 15, $city], [$first + ($mixed & 1 ? -1 : 16), ""]) {
-            my ($at, $name) = @$_;
-            printf "%s %s\n", join(".", map { $at >> $_ & 255 } 24, 16, 8, 0), $name } }' > places
+    perl -Minteger -e '
+        sub text { my $at = shift; join ".", map { $at >> $_ & 255 } 24, 16, 8, 0 }
+        my @feeds = map { open(my $feed, ">", "wide$_.csv") or die; $feed } 0, 1;
+        open(my $places, ">", "places") or die;
+        for my $n (0 .. 99999) {
+            my $once = (($n ^ $n >> 16) * 0x7feb352d) & 0xffffffff;
+            my $twice = (($once ^ $once >> 15) * 0x846ca68b) & 0xffffffff;
+            my $mixed = $twice ^ $twice >> 16;
+            my $first = 0x10000000 + $n * 32 + ($mixed & 1) * 16;
+            my $city = sprintf "%d", ($mixed >> 1) % 20000;
+            printf { $feeds[$n / 50000] } "%s/28,DE,,%s%s,\n", text($first), "x" x (1000 - length $city), $city;
+            next if ($n - 7) % 4999;
+            for ([$first, $city], [$first + 15, $city], [$first + ($mixed & 1 ? -1 : 16), ""]) {
+                printf $places "%s %s\n", text($$_[0]), $$_[1];
+            }
+        }'
+    printf 'inetnum: %s\ngeofeed: https://made.example/wide%d.csv\nsource: MADE\n\n' \
+        '16.0.0.0 - 16.24.105.255' 0 '16.24.106.0 - 16.255.255.255' 1 > wide.db
+    printf 'epoch 1700000000\nrpsl made wide.db\n' > job
+    printf 'feed https://made.example/wide%d.csv wide%d.csv\n' 0 0 1 1 >> job
+    printf 'report\nemit wide.mmdb\n' >> job
+    runs 20 800000 build job
+    [ "$status" -eq 0 ] && [ "$(head -n 1 printed)" = 'notes 0' ] && grep -q '^emit wide.mmdb nodes .* bits 28 bytes ' printed \
+        || fail "records of 28 bits end with status $status and '$(cat printed)'"
     while read -r at city; do
         wanted=none
         [ -z "$city" ] || wanted="{\"city\":{\"names\":{\"en\":\"$(printf '%1000s' "$city" | tr ' ' x)\"}},\"country\":{\"iso_code\":\"DE\"}}"
@@ -88,6 +98,7 @@ else
         other=$(mmdblookup --file wide.mmdb --ip "$at" city names en 2>&1 | sed -n 's/^ *"x*\([0-9]*\)" <utf8_string>.*/\1/p')
         [ "$other" = "$city" ] || fail "records of 28 bits: mmdblookup of $at finds '$other', and not $city"
     done < places
+    [ "$(wc -l < places)" -eq 63 ] || fail "records of 28 bits: $(wc -l < places) addresses are looked up, and not 63"
 fi
 
 verdict

@@ -15,12 +15,12 @@ const ITEMS: u32 = 64;
 
 /// Does the work of so many rounds for each item in one piece, or side by side in four, and prints
 /// how many results there are and what they come to together.
-pub(crate) fn run<R: Threads + Sync + Print>(
-    alloc: Global,
+pub(crate) fn run<R: Threads + Sync + Print + AllocGlobal>(
     rt: &R,
     rounds: u32,
     is_parallel: bool,
 ) -> Result<(), Fault> {
+    let alloc = rt.alloc();
     let items = all_items(alloc)?;
     let pieces = if is_parallel { 4 } else { 1 };
     let forks = Forks {

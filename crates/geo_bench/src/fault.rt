@@ -1,15 +1,13 @@
 //! Why a case is not run to its end.
 
 use geo_addr::Memory;
-use geo_terms::{PlaceFault, PlacesFault};
-use mmdb_file::FileFault;
 use std::alloc::AllocError;
 use std::io;
 use thiserror::Error;
 use trie_core::StoreFault;
 
 /// Why a case is not run to its end.
-#[derive(Debug, Drop, Error)]
+#[derive(Clone, Copy, Debug, Error)]
 pub(crate) enum Fault {
     /// The first word is to be a case, and the second a size.
     #[error("the words are no case")]
@@ -17,17 +15,11 @@ pub(crate) enum Fault {
     /// A case takes no more than that.
     #[error("the size is too large")]
     Size,
-    #[error("a place is refused")]
-    Place(#[from] PlaceFault),
-    #[error("there are too many places")]
-    Places(#[from] PlacesFault),
     #[error("the store is full")]
     Store(#[from] StoreFault),
-    #[error("no file is written")]
-    File(#[from] FileFault),
     #[error("out of memory")]
     Memory(#[from] Memory),
-    #[error("a file or the output fails")]
+    #[error("the output fails")]
     Io(#[from] io::Error),
 }
 

@@ -4,22 +4,18 @@
 #![tactic(auto)]
 
 mod case;
+mod count;
 mod fan;
 mod fault;
 mod order;
-mod pack;
 mod paint;
-mod publish;
 mod ranges;
-mod wide;
-mod write;
 
-use crate::case::{Case, SizedCase, case_of};
+use crate::case::{Case, case_of};
 use crate::fault::Fault;
 use std::env::Env;
 use std::io::Print;
 use std::marker::Sync;
-use std::rt::Files;
 use std::thread::Threads;
 use std::{env, io};
 
@@ -39,50 +35,24 @@ fn words_of<R: Env + AllocGlobal>(rt: &R) -> io::Result<Vec<String>> {
     Ok(words)
 }
 
-fn run<R: Threads + Sync + Files + Print + AllocGlobal>(
-    rt: &R,
-    words: &[String],
-) -> Result<(), Fault> {
-    let [case, rest @ ..] = words else {
+fn run<R: Threads + Sync + Print + AllocGlobal>(rt: &R, words: &[String]) -> Result<(), Fault> {
+    let [case, size] = words else {
         return Err(Fault::Words);
     };
-    match case_of(case.as_str()) {
-        Some(Case::Sized(case)) => run_sized(rt, case, size_in(rest)?),
-        Some(Case::Wide) => run_wide(rt, rest),
-        None => Err(Fault::Words),
-    }
-}
-
-fn size_in(words: &[String]) -> Result<u32, Fault> {
-    let [word, ..] = words else {
-        return Err(Fault::Words);
-    };
-    match word.as_str().parse::<u32>() {
-        Ok(size) => Ok(size),
-        Err(_) => Err(Fault::Words),
-    }
-}
-
-fn run_wide<R: Files + Print + AllocGlobal>(rt: &R, words: &[String]) -> Result<(), Fault> {
-    let size = size_in(words)?;
-    match words {
-        [_, name] => wide::run(rt, size, name.as_str()),
+    match (case_of(case.as_str()), size.as_str().parse::<u32>()) {
+        (Some(case), Ok(size)) => run_case(rt, case, size),
         _ => Err(Fault::Words),
     }
 }
 
-fn run_sized<R: Threads + Sync + Print + AllocGlobal>(
+fn run_case<R: Threads + Sync + Print + AllocGlobal>(
     rt: &R,
-    case: SizedCase,
+    case: Case,
     size: u32,
 ) -> Result<(), Fault> {
-    let alloc = rt.alloc();
     match case {
-        SizedCase::Paint => paint::run(alloc, rt, size),
-        SizedCase::Order { times } => order::run(alloc, rt, size, times),
-        SizedCase::Places { is_packed } => pack::run(alloc, rt, size, is_packed),
-        SizedCase::Write { is_written } => write::run(alloc, rt, size, is_written),
-        SizedCase::Publish { is_published } => publish::run(alloc, rt, size, is_published),
-        SizedCase::Fan { is_parallel } => fan::run(alloc, rt, size, is_parallel),
+        Case::Paint => paint::run(rt, size),
+        Case::Order { times } => order::run(rt, size, times),
+        Case::Fan { is_parallel } => fan::run(rt, size, is_parallel),
     }
 }

@@ -3,8 +3,10 @@ ghost use Rattle.std.specs.Prelude.{◌≡◌, ◌<◌};
 ghost use Rattle.trie_core.specs.Paint.{IsAscending};
 ghost use Rattle.trie_core.specs.Store.{IsRootOf};
 
+use crate::count::count_nodes;
 use crate::fault::Fault;
 use crate::ranges::{MOST, scattered};
+use geo_addr::Memory;
 use geo_outside::Steps;
 use std::alloc::Global;
 use std::io::Print;
@@ -14,10 +16,11 @@ use trie_core::{Part, Root, Store};
 
 /// Fills a store from so many ranges with leaves of their own, orders a root of one range in it so
 /// many times, and prints how many nodes the store has, and how many of them that root has.
-pub(crate) fn run(alloc: Global, rt: &impl Print, size: u32, times: u32) -> Result<(), Fault> {
+pub(crate) fn run<R: Print + AllocGlobal>(rt: &R, size: u32, times: u32) -> Result<(), Fault> {
     if size > MOST {
         return Err(Fault::Size);
     }
+    let alloc = rt.alloc();
     let many = scattered(alloc, size, u32::MAX)?;
     let one = scattered(alloc, 1, 3)?;
     let (stored, few) = ordered::<Brand>(alloc, &many, &one, times, Blank::new(1))?;
@@ -46,24 +49,17 @@ fn ordered<L: Ledger>(
     let empty = store.empty();
     let _large = store.paint_all(empty, many, &mut steps)?;
     let small = store.paint_all(empty, few, &mut steps)?;
-    let nodes = nodes_under(alloc, &store, small, times)?;
+    let nodes = count_often(alloc, &store, small, times)?;
     Ok((store.len(), nodes))
 }
 
 // The number of nodes under a root, which is ordered so many times.
-fn nodes_under(alloc: Global, store: &Store, root: Root, times: u32) -> Result<usize, Fault>
+fn count_often(alloc: Global, store: &Store, root: Root, times: u32) -> Result<usize, Memory>
     requires of { IsRootOf store.now root }
 {
     let mut nodes = 0;
     for _ in 0..times {
-        nodes = ordered_nodes(alloc, store, root)?;
+        nodes = count_nodes(alloc, store, root)?;
     }
     Ok(nodes)
-}
-
-fn ordered_nodes(alloc: Global, store: &Store, root: Root) -> Result<usize, Fault>
-    requires of { IsRootOf store.now root }
-{
-    let layout = least_nodes::order(alloc, store, root)?;
-    Ok(layout.nodes.as_slice().len())
 }

@@ -3,6 +3,7 @@
 ghost use Rattle.std.specs.Prelude.{◌≡◌, ◌≤◌, ◌<◌, ◌^◌, IfOk};
 ghost use Rattle.trie_core.specs.Paint.{IsAscending};
 
+use crate::count::count_nodes;
 use crate::fault::Fault;
 use crate::ranges::{MOST, scattered};
 use geo_outside::Steps;
@@ -14,10 +15,11 @@ use trie_core::{Part, Store};
 
 /// Paints so many ranges, and prints how many nodes the store has then, and how many of them stand
 /// under the root.
-pub(crate) fn run(alloc: Global, rt: &impl Print, size: u32) -> Result<(), Fault> {
+pub(crate) fn run<R: Print + AllocGlobal>(rt: &R, size: u32) -> Result<(), Fault> {
     if size > MOST {
         return Err(Fault::Size);
     }
+    let alloc = rt.alloc();
     let parts = scattered(alloc, size, 3)?;
     let (stored, under) = painted::<Brand>(alloc, &parts, Blank::new(1))?;
     println!(rt; "ranges {size}")?;
@@ -39,6 +41,6 @@ fn painted<L: Ledger>(alloc: Global, parts: &[Part], blank: Blank) -> Result<(u3
     let mut store = Store::new(alloc);
     let root = store.empty();
     let root = store.paint_all(root, parts, &mut steps)?;
-    let layout = least_nodes::order(alloc, &store, root)?;
-    Ok((store.len(), layout.nodes.as_slice().len()))
+    let nodes = count_nodes(alloc, &store, root)?;
+    Ok((store.len(), nodes))
 }

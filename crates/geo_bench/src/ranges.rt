@@ -43,7 +43,7 @@ fn part_at(index: u32, leaves: u32) -> Part
     ensures leaf { result.leaf ≤ leaves }
 {
     let mixed = mixed(index);
-    let half = u128::from(mixed & 1) * 16;
+    let half = u128::from(mixed % 2) * 16;
     let first = BASE + u128::from(index) * 32 + half;
     Part {
         range: Range {

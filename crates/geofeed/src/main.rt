@@ -11,8 +11,6 @@ mod host;
 mod limit;
 mod output;
 mod sink;
-#[cfg(test)]
-mod tests;
 mod told;
 mod whole;
 
