@@ -181,6 +181,20 @@ fn answers<L: Ledger>(
     }
 }
 
+fn answers_so<L: Ledger>(
+    rt: &impl Abort,
+    alloc: Global,
+    store: &mut Store,
+    parts: &[Painted],
+    asked: &Asked,
+    steps: &mut Steps<L>,
+) -> bool {
+    match painted(rt, store, parts, steps) {
+        Ok(root) => answers(rt, alloc, store, root, asked, steps),
+        Err(_) => false,
+    }
+}
+
 /// Whether the tree that is painted so answers so.
 fn holds<L: Ledger>(
     rt: &impl Abort,
@@ -195,15 +209,17 @@ fn holds<L: Ledger>(
 {
     let mut steps: Steps<L> = Steps::new(blank);
     let mut store = Store::new(alloc);
-    match painted(rt, &mut store, parts, &mut steps) {
-        Ok(root) => answers(rt, alloc, &mut store, root, asked, &mut steps),
-        Err(_) => false,
-    }
+    answers_so(rt, alloc, &mut store, parts, asked, &mut steps)
 }
 
 type Row = (&'static [Painted], Asked);
 
-static TREES: [Row; 2] = [
+/// The lower half of all addresses ends before this one, and its lower half before the other.
+const HALF: u128 = 1 << 127;
+
+const QUARTER: u128 = 1 << 126;
+
+static ROWS: [Row; 18] = [
     (
         &[(0, 3, 1), (2, 9, 2)],
         Asked::Leaves(&[(0, 1), (1, 1), (2, 2), (9, 2), (10, 0), (u128::MAX, 0)]),
@@ -220,14 +236,6 @@ static TREES: [Row; 2] = [
             (0x2003_c000_0207 << 80, 0),
         ]),
     ),
-];
-
-/// The lower half of all addresses ends before this one, and its lower half before the other.
-const HALF: u128 = 1 << 127;
-
-const QUARTER: u128 = 1 << 126;
-
-static ORDERS: [Row; 7] = [
     (&[], Asked::Order(0, &[])),
     (&[(0, u128::MAX, 1)], Asked::Order(0, &[1])),
     // 128 addresses from 10.0.0.0 and 128 from 10.0.1.0
@@ -251,10 +259,7 @@ static ORDERS: [Row; 7] = [
         &[(QUARTER, HALF - 1, 2), (HALF + QUARTER, u128::MAX, 2)],
         Asked::Order(2, &[2]),
     ),
-];
-
-// The addresses of 10.0.0.0/24 by halves and quarters, and a block of IPv6.
-static LINES: [Row; 9] = [
+    // the addresses of 10.0.0.0/24 by halves and quarters, and a block of IPv6
     (&[], Asked::Lines(b"10.0.0.0/8", 0, &[])),
     (
         &[(0x0a00_0000, 0x0a00_00ff, 1), (0x0a00_0080, 0x0a00_00bf, 2)],
@@ -326,17 +331,15 @@ static LINES: [Row; 9] = [
     ),
 ];
 
-fn tables() -> [&'static [Row]; 3] {
-    [&TREES, &ORDERS, &LINES]
+fn rows() -> &'static [Row] {
+    &ROWS
 }
 
 #[test]
 fn trees_and_answers(rt: HostRuntime) {
-    for rows in tables() {
-        for (at, row) in rows.iter().enumerate() {
-            let is_so = holds::<Brand>(&rt, rt.alloc(), row.0, &row.1, Blank::new(1));
-            assert!(rt; is_so, "row {at} of {}", rows.len());
-        }
+    for (at, row) in rows().iter().enumerate() {
+        let is_so = holds::<Brand>(&rt, rt.alloc(), row.0, &row.1, Blank::new(1));
+        assert!(rt; is_so, "row {at}");
     }
 }
 
