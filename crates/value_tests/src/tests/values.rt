@@ -71,6 +71,7 @@ fn bits_and_large_numbers(rt: HostRuntime) {
     assert!(rt; has_bytes(alloc, four, b"\x04\x08\x01\x02\x03\x04"));
     let eight = Value::Raw8([0; 8]);
     assert!(rt; has_bytes(alloc, eight, b"\x68\x00\x00\x00\x00\x00\x00\x00\x00"));
+    assert!(rt; is_outside(alloc, b"\xA0", 1));
     assert!(rt; is_outside(alloc, b"\xA0", u64::MAX));
 }
 
