@@ -1,4 +1,4 @@
-//! Tests of the tree and the file, apart, so that a change of a test proves no crate again.
+//! Tests of whole files, apart, so that a change of a test proves no crate again.
 #![tactic(auto)]
 
 #[cfg(test)]

@@ -1,9 +1,3 @@
-//! The tree, the data section and the file, each by its own calls.
+//! The file and its nodes, each by its own calls.
 mod files;
-mod layouts;
-mod least;
-mod lookups;
-mod printed;
 mod records;
-mod stores;
-mod values;

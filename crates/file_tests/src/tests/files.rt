@@ -1,77 +1,17 @@
-//! Whole files: their bytes and sizes, and damaged ones.
+//! Whole files: their bytes and sizes.
 ghost use Rattle.std.specs.Prelude.{◌≡◌, ℕ, ◌^◌, ◌<◌, ◌≤◌, Some, length, IfOk};
 ghost use Rattle.trie_core.specs.Store.{IsRootOf, leaf_at};
 
-use geo_addr::{Addr, Range, Text};
+use geo_addr::{Range, Text};
 use geo_outside::Steps;
 use geo_terms::{Places, Texts, country_place};
-use mmdb_file::{Emitted, Meta, Mmdb, OpenFault, WalkFault, write_file};
-use std::alloc::Global;
+use mmdb_file::{Emitted, Meta, write_file};
+use std::alloc::{AllocError, Global};
 use std::marker::Brand;
 use std::process::Abort;
 use std::sync::ledger::{Blank, Ledger};
 use std::test::Fail;
 use trie_core::{Root, Store, StoreFault};
-
-/// The file of no data of the epoch 1700000000 and the type `Geofeed-City`.
-const NO_DATA: &[u8; 225] =
-    b"\x00\x00\x01\x00\x00\x01\0\0\0\0\0\0\0\0\0\0\0\0\0\0\0\0\xAB\xCD\xEFMaxMind.com\xE9\x5Bbinary_format_major_version\xA1\x02\x5Bbinary_format_minor_version\xA0\x4Bbuild_epoch\x04\x02\x65\x53\xF1\x00\x4Ddatabase_type\x4CGeofeed-City\x4Bdescription\xE1\x42en\x4CGeofeed-City\x4Aip_version\xA1\x06\x49languages\x01\x04\x42en\x4Anode_count\xC1\x01\x4Brecord_size\xA1\x18";
-
-#[test]
-fn the_file_of_no_data(rt: HostRuntime) -> Result<(), Fail> {
-    let store = Store::new(rt.alloc());
-    let places = Places::new(rt.alloc());
-    let meta = Meta {
-        epoch: 1_700_000_000,
-        name: Text::of(rt.alloc(), "Geofeed-City")?,
-    };
-    let file = write_file(rt.alloc(), &store, store.empty(), &places, &meta)?;
-    assert_eq!(rt; (file.nodes, file.section, file.bits), (1, 0, 24));
-    assert_eq!(rt; file.bytes.as_slice(), NO_DATA.as_slice());
-    Ok(())
-}
-
-// What a file has for an address, where it can be opened.
-fn found(alloc: Global, file: &[u8], at: u128) -> Result<Result<Option<u64>, WalkFault>, Fail> {
-    let opened = Mmdb::adopt(alloc, file)?;
-    Ok(opened.find(Addr(at)))
-}
-
-fn section_len(alloc: Global, file: &[u8]) -> Result<usize, Fail> {
-    let opened = Mmdb::adopt(alloc, file)?;
-    Ok(opened.section().len())
-}
-
-fn open_fault(alloc: Global, file: &[u8]) -> Option<OpenFault> {
-    Mmdb::adopt(alloc, file).err()
-}
-
-// The file of no data, whose node has these records.
-fn with_records(left: u8, right: u8) -> [u8; 225] {
-    let mut bytes = *NO_DATA;
-    bytes[2] = left;
-    bytes[5] = right;
-    bytes
-}
-
-#[test]
-fn faults_of_a_walk(rt: HostRuntime) -> Result<(), Fail> {
-    let alloc = rt.alloc();
-    assert!(rt; found(alloc, &with_records(1, 1), 0)? == Ok(None));
-    assert!(rt; section_len(alloc, &with_records(1, 1))? == 0);
-    assert!(rt; found(alloc, &with_records(0, 0), 7)? == Err(WalkFault::NotEnded));
-    assert!(rt; found(alloc, &with_records(2, 0), 7)? == Err(WalkFault::OutOfSection));
-    Ok(())
-}
-
-#[test]
-fn faults_of_a_file(rt: HostRuntime) {
-    let alloc = rt.alloc();
-    let whole: &[u8] = NO_DATA;
-    assert!(rt; open_fault(alloc, b"") == Some(OpenFault::NoMarker));
-    assert!(rt; open_fault(alloc, &whole[..60]) == Some(OpenFault::Metadata));
-    assert!(rt; open_fault(alloc, &whole[1..]) == Some(OpenFault::TreeCut));
-}
 
 /// A first and a last address.
 type Ends = (u128, u128);
@@ -138,11 +78,23 @@ fn written(alloc: Global, store: &Store, root: Root, places: &Places) -> Result<
 }
 
 /// The file in which the addresses of these ranges have the country, and no others have a place.
+fn file_in<L: Ledger>(
+    rt: &impl Abort,
+    alloc: Global,
+    store: &mut Store,
+    places: &mut Places,
+    row: &Row,
+    steps: &mut Steps<L>,
+) -> Result<Emitted, Fail> {
+    let leaf = number(alloc, places, row.0)?;
+    let root = painted(rt, store, row.1, leaf, steps)?;
+    written(alloc, store, root, places)
+}
+
 fn file_of<L: Ledger>(
     rt: &impl Abort,
     alloc: Global,
-    country: &[u8],
-    ranges: &[Ends],
+    row: &Row,
     blank: Blank,
 ) -> Result<Emitted, Fail>
     requires name { blank.name ≡ L.name }
@@ -152,130 +104,150 @@ fn file_of<L: Ledger>(
     let mut steps: Steps<L> = Steps::new(blank);
     let mut store = Store::new(alloc);
     let mut places = Places::new(alloc);
-    let leaf = number(alloc, &mut places, country)?;
-    let root = painted(rt, &mut store, ranges, leaf, &mut steps)?;
-    written(alloc, &store, root, &places)
+    file_in(rt, alloc, &mut store, &mut places, row, &mut steps)
 }
 
-// Ranges, and the nodes and the length of their file.
-type SizeRow = (&'static [Ends], u64, usize);
+// A country and its ranges; how many nodes their file has, the bytes of its data section and all of
+// its bytes; and, where the bytes are compared, the last node, 16 zero bytes and the data section.
+type Row = (
+    &'static [u8],
+    &'static [Ends],
+    u8,
+    u64,
+    usize,
+    &'static [u8],
+);
 
-static SIZES: [SizeRow; 6] = [
-    // 128.0.0.0/1
-    (&[(0x8000_0000, 0xffff_ffff)], 97, 823),
+static FILES: [Row; 8] = [
+    // no data
+    (
+        b"",
+        &[],
+        1,
+        0,
+        225,
+        b"\0\0\x01\0\0\x01\0\0\0\0\0\0\0\0\0\0\0\0\0\0\0\0",
+    ),
+    // 128.0.0.0/1: a node for each of the first 96 bits, which are 0, and for the last one, which
+    // is 1
+    (
+        b"DE",
+        &[(0x8000_0000, 0xffff_ffff)],
+        97,
+        22,
+        823,
+        b"\0\0\x61\0\0\x71\0\0\0\0\0\0\0\0\0\0\0\0\0\0\0\0\xE1\x47country\xE1\x48iso_code\x42DE",
+    ),
+    // all addresses: one node, whose records are the one place
+    (
+        b"FR",
+        &[(0, 0xffff_ffff), (1 << 32, u128::MAX)],
+        1,
+        22,
+        247,
+        b"\0\0\x11\0\0\x11\0\0\0\0\0\0\0\0\0\0\0\0\0\0\0\0\xE1\x47country\xE1\x48iso_code\x42FR",
+    ),
+    (
+        b"DE",
+        &[(0, 0xffff_ffff), (1 << 32, u128::MAX)],
+        1,
+        22,
+        247,
+        b"",
+    ),
     // 768 addresses from 192.0.2.0
-    (&[(0xc000_0200, 0xc000_04ff)], 121, 967),
+    (b"DE", &[(0xc000_0200, 0xc000_04ff)], 121, 22, 967, b""),
     // 128 addresses from 10.0.0.0 and from 10.0.1.0
     (
+        b"DE",
         &[(0x0a00_0000, 0x0a00_007f), (0x0a00_0100, 0x0a00_017f)],
         121,
+        22,
         967,
+        b"",
     ),
     // 128 addresses from 192.0.2.0 and from 192.0.2.128
     (
+        b"DE",
         &[(0xc000_0200, 0xc000_027f), (0xc000_0280, 0xc000_02ff)],
         120,
+        22,
         961,
+        b"",
     ),
     // 256 addresses from 192.0.2.0
-    (&[(0xc000_0200, 0xc000_02ff)], 120, 961),
-    // 0.0.0.0/0 and all other addresses
-    (&[(0, 0xffff_ffff), (1 << 32, u128::MAX)], 1, 247),
+    (b"DE", &[(0xc000_0200, 0xc000_02ff)], 120, 22, 961, b""),
 ];
 
-fn sizes() -> &'static [SizeRow] {
-    &SIZES
+fn files() -> &'static [Row] {
+    &FILES
 }
 
-fn has_sizes(file: &Emitted, row: &SizeRow) -> bool {
-    let is_small = (file.nodes, file.section, file.bits) == (row.1, 22, 24);
-    is_small && file.bytes.len() == row.2
+fn has_sizes(file: &Emitted, row: &Row) -> bool {
+    let is_small = (file.nodes, file.section, file.bits) == (u64::from(row.2), row.3, 24);
+    is_small && file.bytes.len() == row.4
 }
 
-#[test]
-fn sizes_of_files(rt: HostRuntime) -> Result<(), Fail> {
-    for (at, row) in sizes().iter().enumerate() {
-        let file = file_of::<Brand>(&rt, rt.alloc(), b"DE", row.0, Blank::new(1))?;
-        assert!(rt; has_sizes(&file, row), "row {at}");
+/// The marker and the metadata of the epoch 1700000000 and the type `Geofeed-City`, before and
+/// behind the number of nodes.
+static METADATA: &[u8] =
+    b"\xAB\xCD\xEFMaxMind.com\xE9\x5Bbinary_format_major_version\xA1\x02\x5Bbinary_format_minor_version\xA0\x4Bbuild_epoch\x04\x02\x65\x53\xF1\x00\x4Ddatabase_type\x4CGeofeed-City\x4Bdescription\xE1\x42en\x4CGeofeed-City\x4Aip_version\xA1\x06\x49languages\x01\x04\x42en\x4Anode_count\xC1";
+
+fn metadata() -> &'static [u8] {
+    METADATA
+}
+
+const RECORD_SIZE: &[u8] = b"\x4Brecord_size\xA1\x18";
+
+// The bytes of a file of so many nodes of 24 bits, of which all but the last have no data on their
+// right, the bits of 1, and the next one on their left.
+fn wanted(alloc: Global, nodes: u8, behind: &[u8]) -> Result<Vec<u8>, AllocError> {
+    let mut bytes = Vec::new(alloc);
+    for next in 1..nodes {
+        bytes.extend_from_slice(&[0, 0, next, 0, 0, nodes])?;
     }
-    Ok(())
-}
-
-/// Two records of 24 bits.
-fn put_node(bytes: &mut Vec<u8>, left: u8, right: u8) -> Result<(), Fail> {
-    bytes.extend_from_slice(&[0, 0, left, 0, 0, right])?;
-    Ok(())
-}
-
-/// What stands after the tree: 16 zero bytes, the place of the country, and the marker and the
-/// metadata of so many nodes.
-fn put_rest(bytes: &mut Vec<u8>, country: &[u8], nodes: u8) -> Result<(), Fail> {
-    let no_data: &[u8] = NO_DATA;
-    bytes.extend_from_slice(&[0; 16])?;
-    bytes.extend_from_slice(b"\xE1\x47country\xE1\x48iso_code\x42")?;
-    bytes.extend_from_slice(country)?;
-    bytes.extend_from_slice(&no_data[22..210])?;
+    bytes.extend_from_slice(behind)?;
+    bytes.extend_from_slice(metadata())?;
     bytes.push(nodes)?;
-    bytes.extend_from_slice(&no_data[211..])?;
-    Ok(())
+    bytes.extend_from_slice(RECORD_SIZE)?;
+    Ok(bytes)
 }
 
-// 128.0.0.0/1: a node for each of the first 96 bits, which are 0, and for the last one, which is 1.
-fn bytes_of_half(alloc: Global) -> Result<Vec<u8>, Fail> {
-    let mut wanted = Vec::new(alloc);
-    for node in 0..96 {
-        put_node(&mut wanted, node + 1, 97)?;
+fn has_bytes(alloc: Global, file: &Emitted, row: &Row) -> bool {
+    match wanted(alloc, row.2, row.5) {
+        Ok(bytes) => file.bytes.as_slice() == bytes.as_slice(),
+        Err(_) => false,
     }
-    put_node(&mut wanted, 97, 97 + 16)?;
-    put_rest(&mut wanted, b"DE", 97)?;
-    Ok(wanted)
 }
 
-// All addresses: one node, whose records are the one place.
-fn bytes_of_all(alloc: Global) -> Result<Vec<u8>, Fail> {
-    let mut wanted = Vec::new(alloc);
-    put_node(&mut wanted, 1 + 16, 1 + 16)?;
-    put_rest(&mut wanted, b"FR", 1)?;
-    Ok(wanted)
+fn is_so(alloc: Global, file: &Emitted, row: &Row) -> bool {
+    has_sizes(file, row) && (row.5.is_empty() || has_bytes(alloc, file, row))
 }
 
 #[test]
-fn bytes_of_files(rt: HostRuntime) -> Result<(), Fail> {
-    let alloc = rt.alloc();
-    let half = [(0x8000_0000, 0xffff_ffff)];
-    let file = file_of::<Brand>(&rt, alloc, b"DE", &half, Blank::new(1))?;
-    assert!(rt; file.bytes.as_slice() == bytes_of_half(alloc)?.as_slice());
+fn sizes_and_bytes(rt: HostRuntime) -> Result<(), Fail> {
+    for (at, row) in files().iter().enumerate() {
+        let file = file_of::<Brand>(&rt, rt.alloc(), row, Blank::new(1))?;
+        assert!(rt; is_so(rt.alloc(), &file, row), "row {at}");
+    }
     Ok(())
 }
 
-#[test]
-fn bytes_of_a_whole_tree(rt: HostRuntime) -> Result<(), Fail> {
-    let alloc = rt.alloc();
-    let all = [(0, 0xffff_ffff), (1 << 32, u128::MAX)];
-    let file = file_of::<Brand>(&rt, alloc, b"FR", &all, Blank::new(1))?;
-    assert!(rt; file.bytes.as_slice() == bytes_of_all(alloc)?.as_slice());
-    Ok(())
-}
+static WHOLE: Row = (b"DE", &[(0xc000_0200, 0xc000_02ff)], 120, 22, 961, b"");
+
+static HALVES: Row = (
+    b"DE",
+    &[(0xc000_0280, 0xc000_02ff), (0xc000_0200, 0xc000_027f)],
+    120,
+    22,
+    961,
+    b"",
+);
 
 #[test]
 fn equal_trees_equal_files(rt: HostRuntime) -> Result<(), Fail> {
-    let whole = [(0xc000_0200, 0xc000_02ff)];
-    let halves = [(0xc000_0280, 0xc000_02ff), (0xc000_0200, 0xc000_027f)];
-    let one = file_of::<Brand>(&rt, rt.alloc(), b"DE", &whole, Blank::new(1))?;
-    let two = file_of::<Brand>(&rt, rt.alloc(), b"DE", &halves, Blank::new(1))?;
+    let one = file_of::<Brand>(&rt, rt.alloc(), &WHOLE, Blank::new(1))?;
+    let two = file_of::<Brand>(&rt, rt.alloc(), &HALVES, Blank::new(1))?;
     assert!(rt; one.bytes == two.bytes);
-    Ok(())
-}
-
-#[test]
-fn places_in_a_file(rt: HostRuntime) -> Result<(), Fail> {
-    let half = [(0x8000_0000, 0xffff_ffff)];
-    let file = file_of::<Brand>(&rt, rt.alloc(), b"DE", &half, Blank::new(1))?;
-    let bytes = file.bytes.as_slice();
-    assert!(rt; found(rt.alloc(), bytes, 0x8000_0001)? == Ok(Some(0)));
-    assert!(rt; found(rt.alloc(), bytes, 0x7fff_ffff)? == Ok(None));
-    // without its first byte the left record of the first node is 256
-    assert!(rt; !bytes.is_empty());
-    assert!(rt; found(rt.alloc(), &bytes[1..], 0x8000_0001)? == Err(WalkFault::OutOfSection));
     Ok(())
 }
