@@ -1,7 +1,5 @@
 //! Lines that stand elsewhere between two emits, what an emit touches, and what is not there.
-use crate::tests::acts::Act::{
-    self, Absent, Drop, Edges, Emit, Lines, Nodes, Report, Same, Set, Touched,
-};
+use crate::tests::acts::Act::{self, Absent, Drop, Edges, Emit, Lines, Nodes, Same, Set, Touched};
 use crate::tests::acts::first_wrong_job;
 use crate::tests::given::FEED;
 use crate::tests::given::Kind::{Feed, Overrides, Rpsl, Stats};
@@ -31,7 +29,6 @@ static ORDERS: [&[Act]; 4] = [
             "x",
             "x|DE|ipv4|10.0.0.0|256||allocated\nx|ZZ|ipv4|10.0.1.0|256||allocated\n",
         ),
-        Report("stats x 2 S06\n"),
         Emit(1123),
         Drop(Stats, "x"),
         Set(
@@ -39,7 +36,6 @@ static ORDERS: [&[Act]; 4] = [
             "x",
             "x|ZZ|ipv4|10.0.1.0|256||allocated\nx|DE|ipv4|10.0.0.0|256||allocated\n",
         ),
-        Report("stats x 1 S06\n"),
         Same,
     ],
     // A large first emit, and a small second one.

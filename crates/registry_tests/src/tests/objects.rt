@@ -76,7 +76,7 @@ fn read_bytes(alloc: Global, text: &[u8]) -> Result<String, Fail> {
 // A text and its items.
 type TextRow = (&'static [u8], &'static str);
 
-static TEXTS: [TextRow; 14] = [
+static TEXTS: [TextRow; 15] = [
     (b"", ""),
     (b"\n\n \t\n", ""),
     (
@@ -120,102 +120,135 @@ static TEXTS: [TextRow; 14] = [
     (b"role: a\rb\n", "1|1 role=a\rb\n"),
     // not UTF-8
     (b"descr: M\xFCnchen\n", "1|1 descr=M\u{FFFD}nchen\n"),
+    (
+        b"\xEF\xBB\xBF% an extract\n\nfoo\r\ninetnum: 192.0.2.0/24\r\n# note\n+ b # c\n\nrole: d\n",
+        "3 P02\n4|4 inetnum=192.0.2.0/24 b\n8|8 role=d\n",
+    ),
 ];
 
 fn text_rows() -> &'static [TextRow] {
     &TEXTS
 }
 
+// Whether a text gives its items, cut at every place.
+fn gives_at_every_cut(alloc: Global, row: &TextRow) -> Result<bool, Fail> {
+    for at in 0..row.0.len() + 1 {
+        if read_cut(alloc, row.0, at)?.as_str() != row.1 {
+            return Ok(false);
+        }
+    }
+    Ok(true)
+}
+
+fn gives_by_bytes(alloc: Global, row: &TextRow) -> Result<bool, Fail> {
+    Ok(read_bytes(alloc, row.0)?.as_str() == row.1)
+}
+
 #[test]
 fn texts(rt: HostRuntime) -> Result<(), Fail> {
-    let alloc = rt.alloc();
-    for (at, (text, wanted)) in text_rows().iter().enumerate() {
-        assert!(rt;
-            read_cut(alloc, text, text.len())?.as_str() == *wanted,
-            "row {at}"
-        );
-        assert!(rt;
-            read_bytes(alloc, text)?.as_str() == *wanted,
-            "row {at}, by bytes"
-        );
+    for (at, row) in text_rows().iter().enumerate() {
+        assert!(rt; gives_at_every_cut(rt.alloc(), row)?, "row {at}");
+        assert!(rt; gives_by_bytes(rt.alloc(), row)?, "row {at}");
     }
     Ok(())
 }
 
-#[test]
-fn every_cutting(rt: HostRuntime) -> Result<(), Fail> {
-    let alloc = rt.alloc();
-    let text =
-        b"\xEF\xBB\xBF% an extract\n\nfoo\r\ninetnum: 192.0.2.0/24\r\n# note\n+ b # c\n\nrole: d\n".as_slice();
-    let wanted = "3 P02\n4|4 inetnum=192.0.2.0/24 b\n8|8 role=d\n";
-    for at in 0..text.len() + 1 {
-        assert!(rt;
-            read_cut(alloc, text, at)?.as_str() == wanted,
-            "cut at {at}"
-        );
-    }
-    Ok(())
+// A text: how it begins, a letter and how often it follows, and how the text ends. Then where it is
+// cut, how many items it gives, and whether the first is a note on line 1.
+type LongRow = (&'static [u8], u8, usize, &'static [u8], usize, usize, bool);
+
+static LONG: [LongRow; 9] = [
+    // a line of 1,048,576 bytes and more, which an empty line and a short object follow
+    (
+        b"remarks: ",
+        b'x',
+        1_048_567,
+        b"\n\nrole: good\n",
+        0,
+        2,
+        false,
+    ),
+    (
+        b"remarks: ",
+        b'x',
+        1_048_567,
+        b"\n\nrole: good\n",
+        1_048_000,
+        2,
+        false,
+    ),
+    (
+        b"remarks: ",
+        b'x',
+        1_048_568,
+        b"\n\nrole: good\n",
+        0,
+        2,
+        true,
+    ),
+    (
+        b"remarks: ",
+        b'x',
+        1_048_568,
+        b"\n\nrole: good\n",
+        1_048_577,
+        2,
+        true,
+    ),
+    (
+        b"remarks: ",
+        b'x',
+        1_048_591,
+        b"\n\nrole: good\n",
+        1_048_590,
+        2,
+        true,
+    ),
+    (
+        b"remarks: ",
+        b'x',
+        1_099_991,
+        b"\n\nrole: good\n",
+        1_099_999,
+        2,
+        true,
+    ),
+    // a name of 64 letters and more
+    (b"", b'n', 63, b": v\n", 3, 1, false),
+    (b"", b'n', 64, b": v\n", 3, 1, false),
+    (b"", b'n', 65, b": v\n", 3, 1, true),
+];
+
+fn long_rows() -> &'static [LongRow] {
+    &LONG
 }
 
-// A line of a name, a colon and so many bytes in all, which an empty
-// line and a short object follow.
-fn long_text(alloc: Global, name: &[u8], length: usize) -> Result<Vec<u8>, Fail> {
-    let mut text = Vec::from_slice(alloc, name)?;
-    let rest = vec![in alloc; b'x'; length.saturating_sub(name.len())]?;
-    text.extend_from_slice(rest.as_slice())?;
-    text.extend_from_slice(b"\n\nrole: good\n")?;
+fn long_text(alloc: Global, row: &LongRow) -> Result<Vec<u8>, Fail> {
+    let mut text = Vec::from_slice(alloc, row.0)?;
+    let letters = vec![in alloc; row.1; row.2]?;
+    text.extend_from_slice(letters.as_slice())?;
+    text.extend_from_slice(row.3)?;
     Ok(text)
 }
 
-// How many items a text gives, and whether the first is a note on line 1.
-fn summary(alloc: Global, text: &[u8], at: usize) -> Result<(usize, bool), Fail> {
-    let items = items_cut(alloc, text, at)?;
-    let noted = match items.as_slice() {
+// Whether there are so many items, and the first is a note on line 1, or is none.
+fn are_counted(items: &[Item], count: usize, noted: bool) -> bool {
+    let found = match items {
         [Item::Passed { line, .. }, ..] => *line == 1,
         _ => false,
     };
-    Ok((items.len(), noted))
+    items.len() == count && found == noted
+}
+
+fn gives_long(alloc: Global, row: &LongRow, text: &[u8]) -> Result<bool, Fail> {
+    Ok(are_counted(items_cut(alloc, text, row.4)?.as_slice(), row.5, row.6))
 }
 
 #[test]
-fn long_objects(rt: HostRuntime) -> Result<(), Fail> {
-    let alloc = rt.alloc();
-    // The bytes of a line, where the text is cut, and whether the object is too long.
-    let table: [(usize, usize, bool); 6] = [
-        (1_048_576, 0, false),
-        (1_048_576, 1_048_000, false),
-        (1_048_577, 0, true),
-        (1_048_577, 1_048_577, true),
-        (1_048_600, 1_048_590, true),
-        (1_100_000, 1_099_999, true),
-    ];
-    for (length, at, noted) in table {
-        let text = long_text(alloc, b"remarks: ", length)?;
-        assert!(rt;
-            summary(alloc, text.as_slice(), at)? == (2, noted),
-            "{length} {at}"
-        );
-    }
-    Ok(())
-}
-
-fn text_of_name(alloc: Global, letters: usize) -> Result<Vec<u8>, Fail> {
-    let mut text = vec![in alloc; b'n'; letters]?;
-    text.extend_from_slice(b": v\n")?;
-    Ok(text)
-}
-
-#[test]
-fn long_names(rt: HostRuntime) -> Result<(), Fail> {
-    let alloc = rt.alloc();
-    // The letters of a name, and whether it is one.
-    let table: [(usize, bool); 3] = [(63, true), (64, true), (65, false)];
-    for (letters, wanted) in table {
-        let text = text_of_name(alloc, letters)?;
-        assert!(rt;
-            summary(alloc, text.as_slice(), 3)? == (1, !wanted),
-            "{letters} letters"
-        );
+fn long_objects_and_names(rt: HostRuntime) -> Result<(), Fail> {
+    for (at, row) in long_rows().iter().enumerate() {
+        let text = long_text(rt.alloc(), row)?;
+        assert!(rt; gives_long(rt.alloc(), row, text.as_slice())?, "row {at}");
     }
     Ok(())
 }
@@ -227,37 +260,46 @@ fn selection(alloc: Global) -> Result<Selection, Fail> {
     Ok(selection)
 }
 
-// What a reader gives of a text, which is accepted.
-fn given(
+// Whether a reader gives these items of a text, which is accepted.
+fn gives(
     alloc: Global,
     reader: &mut Reader,
-    text: &[u8],
+    row: &TextRow,
     selection: &Selection,
-) -> Result<String, Fail> {
-    if reader.fed() >= 10_000_000 || text.len() >= 10_000_000 {
+) -> Result<bool, Fail> {
+    if reader.fed() >= 10_000_000 || row.0.len() >= 10_000_000 {
         return Err(Fail::from("a long text"));
     }
-    let progress = reader.read(text, selection)?;
-    let given = shown(alloc, progress.items())?;
+    let progress = reader.read(row.0, selection)?;
+    let same = shown(alloc, progress.items())?.as_str() == row.1;
     reader.accept(progress)?;
-    Ok(given)
+    Ok(same)
 }
 
-fn given_at_end(alloc: Global, reader: &mut Reader, selection: &Selection) -> Result<String, Fail> {
+fn gives_at_end(
+    alloc: Global,
+    reader: &Reader,
+    selection: &Selection,
+    wanted: &str,
+) -> Result<bool, Fail> {
     let end = reader.read_end(selection)?;
-    shown(alloc, end.as_slice())
+    Ok(shown(alloc, end.as_slice())?.as_str() == wanted)
+}
+
+static WANTED: TextRow = (
+    b"Inetnum: a\ndescr: b\nGEOFEED: c\nstray\n\nrole: d\ngeofeed: e\nstray\n\ninetnum: f\n",
+    "1|1 inetnum=a|3 geofeed=c\n4 P02\n8 P02\n",
+);
+
+fn wanted_row() -> &'static TextRow {
+    &WANTED
 }
 
 #[test]
 fn what_is_wanted(rt: HostRuntime) -> Result<(), Fail> {
-    let alloc = rt.alloc();
-    let selection = selection(alloc)?;
-    let mut reader = Reader::new(alloc);
-    let text =
-        b"Inetnum: a\ndescr: b\nGEOFEED: c\nstray\n\nrole: d\ngeofeed: e\nstray\n\ninetnum: f\n";
-    let first = given(alloc, &mut reader, text.as_slice(), &selection)?;
-    assert!(rt; first.as_str() == "1|1 inetnum=a|3 geofeed=c\n4 P02\n8 P02\n");
-    let rest = given_at_end(alloc, &mut reader, &selection)?;
-    assert!(rt; rest.as_str() == "10|10 inetnum=f\n");
+    let selection = selection(rt.alloc())?;
+    let mut reader = Reader::new(rt.alloc());
+    assert!(rt; gives(rt.alloc(), &mut reader, wanted_row(), &selection)?);
+    assert!(rt; gives_at_end(rt.alloc(), &reader, &selection, "10|10 inetnum=f\n")?);
     Ok(())
 }

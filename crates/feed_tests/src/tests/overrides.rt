@@ -1,34 +1,32 @@
 //! Files of overrides: rows and notes.
-use crate::tests::shown::{notes_text, said_text};
-use geo_addr::{Addr, range_text};
-use geo_terms::Override;
+use crate::tests::shown::{line_text, push_notes};
+use geo_addr::{Addr, Range, range_text};
+use geo_terms::{Note, Override};
 use override_rows::read_overrides;
 use std::alloc::Global;
 use std::test::Fail;
 
 fn row_text(alloc: Global, row: &Override) -> Result<String, Fail> {
     let range = range_text(alloc, row.range)?;
-    let said = said_text(alloc, &row.said, "void")?;
-    Ok(format!(in alloc; "{} {} {}\n", row.line, range.as_str(), said.as_str())?)
+    line_text(alloc, row.line, range.as_str(), &row.said, "void")
 }
 
-// The line, the range and the place of each row.
-fn rows_text(alloc: Global, rows: &[Override]) -> Result<String, Fail> {
+// The line, the range and the place of each row, and the notes.
+fn shown(alloc: Global, rows: &[Override], notes: &[Note]) -> Result<String, Fail> {
     let mut text = String::new(alloc);
     for row in rows {
         text.push_str(row_text(alloc, row)?.as_str())?;
     }
+    push_notes(alloc, notes, &mut text)?;
     Ok(text)
 }
 
-// What overrides say: their rows, and the notes as a report prints them.
 fn read(alloc: Global, file: &[u8]) -> Result<String, Fail> {
     let overrides = read_overrides(alloc, file)?;
-    let mut text = rows_text(alloc, overrides.rows.as_slice())?;
-    text.push_str(notes_text(alloc, overrides.notes.as_slice())?.as_str())?;
-    Ok(text)
+    shown(alloc, overrides.rows.as_slice(), overrides.notes.as_slice())
 }
 
+// A file, and what it says.
 type Row = (&'static [u8], &'static str);
 
 static ROWS: [Row; 20] = [
@@ -76,23 +74,29 @@ fn rows() -> &'static [Row] {
     &ROWS
 }
 
+fn says(alloc: Global, row: &Row) -> Result<bool, Fail> {
+    Ok(read(alloc, row.0)?.as_str() == row.1)
+}
+
 #[test]
 fn rows_and_notes(rt: HostRuntime) -> Result<(), Fail> {
-    let alloc = rt.alloc();
     for (at, row) in rows().iter().enumerate() {
-        assert!(rt; read(alloc, row.0)?.as_str() == row.1, "row {at}");
+        assert!(rt; says(rt.alloc(), row)?, "row {at}");
     }
     Ok(())
 }
 
+fn only_range(alloc: Global, file: &[u8]) -> Result<Range, Fail> {
+    match read_overrides(alloc, file)?.rows.as_slice() {
+        [row] => Ok(row.range),
+        _ => Err(Fail::from("not one row")),
+    }
+}
+
 #[test]
 fn a_span_speaks_on_its_ground(rt: HostRuntime) -> Result<(), Fail> {
-    let alloc = rt.alloc();
-    let overrides = read_overrides(alloc, b"::5-::1:0:0,void")?;
-    let [row] = overrides.rows.as_slice() else {
-        return Err(Fail::from("not one row"));
-    };
-    assert!(rt; row.range.ground_first() == 1 << 32);
-    assert!(rt; !row.range.holds(Addr(5)));
+    let range = only_range(rt.alloc(), b"::5-::1:0:0,void")?;
+    assert!(rt; range.ground_first() == 1 << 32);
+    assert!(rt; !range.holds(Addr(5)));
     Ok(())
 }

@@ -1,20 +1,16 @@
 //! What pieces side by side leave and do not leave.
 ghost use Rattle.std.specs.Prelude.{◌<◌, ◌≤◌};
 
-use crate::tests::emits::{begun, emitted_by};
-use crate::tests::given::Kind::Overrides;
-use crate::tests::given::set;
-use crate::tests::lines::Shape::Networks;
-use crate::tests::lines::set_lines;
-use fan_work::Forks;
+use crate::tests::emits::{Seen, begun, emit_by};
 use geo_outside::{Gate, OpenGate};
-use std::alloc::Global;
+use override_rows::read_overrides;
+use std::alloc::{AllocError, Global};
 use std::marker::Sync;
 use std::sync::atomic::{AtomicU64, Ordering};
 use std::test::Fail;
 use std::thread;
 use std::thread::Threads;
-use update_session::{EmitFault, Session};
+use update_session::Session;
 
 /// A gate with a flag for each piece.
 #[derive(Drop)]
@@ -62,48 +58,41 @@ impl Gate for Meeting {
     }
 }
 
-// The bytes of an emit by so many pieces.
-fn bytes_by<R: Threads + Sync, G: Gate>(
-    rt: &R,
-    alloc: Global,
-    gate: &G,
-    session: &mut Session,
-    pieces: u32,
-) -> Result<Vec<u8>, EmitFault>
-    requires some { 0 < pieces }
-    requires few { pieces ≤ 64 }
-{
-    let forks = Forks {
-        rt,
-        alloc,
-        gate,
-        pieces,
-    };
-    Ok(emitted_by(&forks, session)?.bytes)
+fn set_overrides(alloc: Global, session: &mut Session, text: &str) -> Result<(), Fail> {
+    Ok(session.set_overrides(read_overrides(alloc, text.as_bytes())?)?)
 }
 
-// How many flags an emit by 64 pieces sets.
-fn flags_of<R: Threads + Sync>(
-    rt: &R,
-    alloc: Global,
-    session: &mut Session,
-) -> Result<u32, EmitFault> {
-    let gate = Flags {
-        came: AtomicU64::new(0),
-    };
-    bytes_by(rt, alloc, &gate, session, 64)?;
-    Ok(gate.count())
+// The line of one of 64 networks, the first of which has a country of its own.
+fn line(alloc: Global, at: u32, first: &str) -> Result<String, AllocError> {
+    let code = if at == 0 { first } else { "FR" };
+    format!(in alloc; "{}.0.0.0/8,set,{code}\n", at % 64 + 1)
 }
 
-// The same after the overrides of 64 networks were set, of which the first has this country.
+fn networks(alloc: Global, first: &str) -> Result<String, Fail> {
+    let mut text = String::new(alloc);
+    for at in 0..64 {
+        text.push_str(line(alloc, at, first)?.as_str())?;
+    }
+    Ok(text)
+}
+
+fn set_networks(alloc: Global, session: &mut Session, first: &str) -> Result<(), Fail> {
+    set_overrides(alloc, session, networks(alloc, first)?.as_str())
+}
+
+// How many flags an emit by 64 pieces sets, after the overrides of 64 networks were set.
 fn flags_of_networks<R: Threads + Sync>(
     rt: &R,
     alloc: Global,
     session: &mut Session,
     first: &str,
 ) -> Result<u32, Fail> {
-    set_lines(alloc, session, Networks, first, 0)?;
-    Ok(flags_of(rt, alloc, session)?)
+    set_networks(alloc, session, first)?;
+    let gate = Flags {
+        came: AtomicU64::new(0),
+    };
+    emit_by(rt, alloc, &gate, session, 64)?;
+    Ok(gate.count())
 }
 
 // Of the second emit one network alone has changed.
@@ -124,7 +113,7 @@ fn two_rows() -> &'static str {
 // A session with overrides of two networks.
 fn two_networks(alloc: Global) -> Result<Session, Fail> {
     let mut session = begun(alloc)?;
-    set(alloc, &mut session, (Overrides, "", two_rows()))?;
+    set_overrides(alloc, &mut session, two_rows())?;
     Ok(session)
 }
 
@@ -134,12 +123,12 @@ fn file_by<R: Threads + Sync, G: Gate>(
     alloc: Global,
     gate: &G,
     pieces: u32,
-) -> Result<Vec<u8>, Fail>
+) -> Result<Seen, Fail>
     requires some { 0 < pieces }
     requires few { pieces ≤ 64 }
 {
     let mut session = two_networks(alloc)?;
-    Ok(bytes_by(rt, alloc, gate, &mut session, pieces)?)
+    Ok(emit_by(rt, alloc, gate, &mut session, pieces)?)
 }
 
 // How many pieces met while that file was written by two.
@@ -155,16 +144,14 @@ fn meetings<R: Threads + Sync>(rt: &R, alloc: Global) -> Result<u64, Fail> {
 
 #[test]
 fn two_pieces_meet(rt: HostRuntime) -> Result<(), Fail> {
-    assert_eq!(rt; meetings(&rt, rt.alloc())?, 2);
+    assert!(rt; meetings(&rt, rt.alloc())? == 2);
     Ok(())
 }
 
 #[test]
 fn pieces_change_no_byte(rt: HostRuntime) -> Result<(), Fail> {
     let one = file_by(&rt, rt.alloc(), &OpenGate, 1)?;
-    for pieces in [3, 64] {
-        let file = file_by(&rt, rt.alloc(), &OpenGate, pieces)?;
-        assert!(rt; file.as_slice() == one.as_slice());
-    }
+    assert!(rt; file_by(&rt, rt.alloc(), &OpenGate, 3)? == one);
+    assert!(rt; file_by(&rt, rt.alloc(), &OpenGate, 64)? == one);
     Ok(())
 }

@@ -1,27 +1,20 @@
 //! Statistics files: delegations, notes, and which delegation decides.
-use crate::tests::shown::notes_text;
 use fan_work::Forks;
 use geo_addr::Addr;
 use geo_outside::OpenGate;
 use geo_terms::plain::{AllSources, spoken_at};
-use geo_terms::{Delegation, Note, Stats};
+use geo_terms::{Delegation, Note, Stats, note_text};
 use nro_stats::{read_stats, read_stats_by_parts};
 use std::alloc::Global;
 use std::test::Fail;
 
-// The notes on a file, as a report prints them.
-fn notes(alloc: Global, file: &[u8]) -> Result<String, Fail> {
-    let stats = read_stats(alloc, "x", file)?;
-    notes_text(alloc, stats.notes.as_slice())
-}
-
-// The line, the ends and the country of the only delegation of a file, or else how many there are.
-fn only_row(alloc: Global, file: &[u8]) -> Result<(u64, u128, u128), Fail> {
-    let stats = read_stats(alloc, "x", file)?;
-    match stats.rows.as_slice() {
-        [row] => Ok((row.line, row.range.first, row.range.last)),
-        _ => Err(Fail::from("not one delegation")),
+// The notes as a report prints them.
+fn notes_text(alloc: Global, notes: &[Note]) -> Result<String, Fail> {
+    let mut text = String::new(alloc);
+    for note in notes {
+        text.push_str(note_text(alloc, note)?.as_str())?;
     }
+    Ok(text)
 }
 
 // A file, the line of its only delegation, and the ends of the range.
@@ -107,17 +100,25 @@ fn delegations() -> &'static [DelegationRow] {
     &DELEGATIONS
 }
 
-fn is_one(alloc: Global, row: &DelegationRow) -> Result<bool, Fail> {
-    let (line, first, last) = only_row(alloc, row.0)?;
-    Ok(line == row.1 && first == row.2 && last == row.3)
+// Whether this is the only delegation.
+fn are_one(rows: &[Delegation], row: &DelegationRow) -> bool {
+    match rows {
+        [found] => {
+            found.line == row.1 && found.range.first == row.2 && found.range.last == row.3
+        }
+        _ => false,
+    }
+}
+
+fn says_one(alloc: Global, row: &DelegationRow) -> Result<bool, Fail> {
+    let stats = read_stats(alloc, "x", row.0)?;
+    Ok(are_one(stats.rows.as_slice(), row) && stats.notes.as_slice().is_empty())
 }
 
 #[test]
 fn one_delegation(rt: HostRuntime) -> Result<(), Fail> {
-    let alloc = rt.alloc();
     for (at, row) in delegations().iter().enumerate() {
-        assert!(rt; is_one(alloc, row)?, "row {at}");
-        assert!(rt; notes(alloc, row.0)?.is_empty(), "row {at}");
+        assert!(rt; says_one(rt.alloc(), row)?, "row {at}");
     }
     Ok(())
 }
@@ -157,76 +158,93 @@ fn rules() -> &'static [RuleRow] {
     &RULES
 }
 
+fn notes(alloc: Global, row: &RuleRow) -> Result<bool, Fail> {
+    let stats = read_stats(alloc, "x", row.0)?;
+    Ok(notes_text(alloc, stats.notes.as_slice())?.as_str() == row.1)
+}
+
 #[test]
 fn first_rule_of_a_line(rt: HostRuntime) -> Result<(), Fail> {
-    let alloc = rt.alloc();
     for (at, row) in rules().iter().enumerate() {
-        assert!(rt; notes(alloc, row.0)?.as_str() == row.1, "row {at}");
+        assert!(rt; notes(rt.alloc(), row)?, "row {at}");
     }
     Ok(())
 }
 
-// The country that the delegations decide on at an address; none where they do not speak.
-fn country_at(alloc: Global, stats: &[Stats], address: u128) -> Result<String, Fail> {
+// Whether the delegations decide on this country at an address, or on none where it is empty.
+fn decide(stats: &[Stats], address: u128, wanted: &str) -> bool {
     let sources = AllSources {
         dumps: &[],
         feeds: &[],
         stats,
         overrides: None,
     };
-    let found = match spoken_at(&sources, Addr(address)) {
-        Some(place) => place.country().as_str(),
-        None => "",
-    };
-    Ok(String::from_str(alloc, found)?)
+    match spoken_at(&sources, Addr(address)) {
+        Some(place) => place.country().as_str() == wanted,
+        None => wanted.is_empty(),
+    }
+}
+
+static NESTED: &[u8] = b"x|DE|ipv4|10.0.0.0|512||allocated\n\
+x|AT|ipv4|10.0.0.0|256||allocated\n\
+x|CH|ipv4|10.0.1.0|256||allocated";
+
+fn nested() -> &'static [u8] {
+    NESTED
+}
+
+fn decide_as_nested(stats: &[Stats]) -> bool {
+    decide(stats, 0x0A00_0000, "AT")
+        && decide(stats, 0x0A00_01FF, "CH")
+        && decide(stats, 0x0A00_0200, "")
 }
 
 #[test]
 fn a_delegation_decides(rt: HostRuntime) -> Result<(), Fail> {
-    let alloc = rt.alloc();
-    let stats = [read_stats(
-        alloc,
-        "x",
-        b"x|DE|ipv4|10.0.0.0|512||allocated\nx|AT|ipv4|10.0.0.0|256||allocated\nx|CH|ipv4|10.0.1.0|256||allocated",
-    )?];
-    for (address, wanted) in [(0x0A00_0000, "AT"), (0x0A00_01FF, "CH"), (0x0A00_0200, "")] {
-        assert!(rt; country_at(alloc, &stats, address)?.as_str() == wanted);
-    }
+    let stats = [read_stats(rt.alloc(), "x", nested())?];
+    assert!(rt; decide_as_nested(&stats));
     Ok(())
+}
+
+fn two_lines() -> &'static str {
+    "x|DE|ipv4|192.0.2.0|256||allocated\nx|DE|none|192.0.2.0|256||allocated\n"
+}
+
+// Two lines, so many times.
+fn made_lines(alloc: Global, count: u32) -> Result<String, Fail> {
+    let mut file = String::new(alloc);
+    for _ in 0..count {
+        file.push_str(two_lines())?;
+    }
+    Ok(file)
+}
+
+// How many delegations there are, and the line of the last one.
+fn count_of_rows(rows: &[Delegation]) -> (usize, u64) {
+    match rows.last() {
+        Some(row) => (rows.len(), row.line),
+        None => (0, 0),
+    }
+}
+
+fn count_of_notes(notes: &[Note]) -> (usize, u64) {
+    match notes.last() {
+        Some(note) => (notes.len(), note.line),
+        None => (0, 0),
+    }
 }
 
 #[test]
 fn a_file_by_parts(rt: HostRuntime) -> Result<(), Fail> {
-    let alloc = rt.alloc();
-    let mut file = String::new(alloc);
-    for _ in 0..20_000 {
-        file.push_str("x|DE|ipv4|192.0.2.0|256||allocated\nx|DE|none|192.0.2.0|256||allocated\n")?;
-    }
+    let file = made_lines(rt.alloc(), 20_000)?;
     let forks = Forks {
         rt: &rt,
-        alloc,
+        alloc: rt.alloc(),
         gate: &OpenGate,
         pieces: 4,
     };
     let stats = read_stats_by_parts(&forks, "x", file.as_bytes())?;
-    let (rows, notes) = (stats.rows.as_slice(), stats.notes.as_slice());
-    assert_eq!(rt; (rows.len(), last_row(rows)), (20_000, 39_999));
-    assert_eq!(rt; (notes.len(), last_note(notes)), (20_000, 40_000));
+    assert_eq!(rt; count_of_rows(stats.rows.as_slice()), (20_000, 39_999));
+    assert_eq!(rt; count_of_notes(stats.notes.as_slice()), (20_000, 40_000));
     Ok(())
-}
-
-// The line of the last row, or 0 where there is none.
-fn last_row(rows: &[Delegation]) -> u64 {
-    match rows.last() {
-        Some(row) => row.line,
-        None => 0,
-    }
-}
-
-// The line of the last note, or 0 where there is none.
-fn last_note(notes: &[Note]) -> u64 {
-    match notes.last() {
-        Some(note) => note.line,
-        None => 0,
-    }
 }

@@ -103,14 +103,14 @@ fn smallest() -> &'static [SmallestRow] {
     &SMALLEST
 }
 
-#[test]
-fn smallest_then_latest_then_slot(rt: HostRuntime) -> Result<(), Fail> {
-    let alloc = rt.alloc();
-    let index = index(alloc)?;
+// The first row of the table that the index answers otherwise.
+fn first_wrong_address(index: &Index) -> Option<usize> {
     for (at, row) in smallest().iter().enumerate() {
-        assert!(rt; best_line(&index, row.0) == row.1, "row {at}");
+        if best_line(index, row.0) != row.1 {
+            return Some(at);
+        }
     }
-    Ok(())
+    None
 }
 
 // The line of the reference that covers a block; 0 where none does, and where the two calls differ.
@@ -144,13 +144,21 @@ fn covered() -> &'static [CoveredRow] {
     &COVERED
 }
 
-#[test]
-fn covered_by_the_first_that_contains(rt: HostRuntime) -> Result<(), Fail> {
-    let alloc = rt.alloc();
-    let index = index(alloc)?;
+fn first_wrong_block(index: &Index) -> Result<Option<usize>, Fail> {
     for (at, row) in covered().iter().enumerate() {
-        assert!(rt; covering_line(&index, row.0, row.1)? == row.2, "row {at}");
+        if covering_line(index, row.0, row.1)? != row.2 {
+            return Ok(Some(at));
+        }
     }
+    Ok(None)
+}
+
+// By size, then date, then slot; and by the first that contains a block.
+#[test]
+fn best_and_covering(rt: HostRuntime) -> Result<(), Fail> {
+    let index = index(rt.alloc())?;
+    assert!(rt; first_wrong_address(&index).is_none());
+    assert!(rt; first_wrong_block(&index)?.is_none());
     Ok(())
 }
 
@@ -182,14 +190,20 @@ fn plain_line(refs: &[Reference], number: u128) -> u64 {
     line_of(first_at(refs, Addr(number), None))
 }
 
-#[test]
-fn as_the_plain_look_up(rt: HostRuntime) -> Result<(), Fail> {
-    let alloc = rt.alloc();
-    let refs = made(alloc, 2000)?;
-    let index = Index::build(alloc, made(alloc, 2000)?)?;
+fn first_unlike(index: &Index, refs: &[Reference]) -> Option<u32> {
     for step in 0..600 {
         let at = (TOP_V4 - 0x900) + u128::from(step * 8u32);
-        assert!(rt; best_line(&index, at) == plain_line(refs.as_slice(), at));
+        if best_line(index, at) != plain_line(refs, at) {
+            return Some(step);
+        }
     }
+    None
+}
+
+#[test]
+fn as_the_plain_look_up(rt: HostRuntime) -> Result<(), Fail> {
+    let refs = made(rt.alloc(), 2000)?;
+    let index = Index::build(rt.alloc(), made(rt.alloc(), 2000)?)?;
+    assert!(rt; first_unlike(&index, refs.as_slice()).is_none());
     Ok(())
 }
