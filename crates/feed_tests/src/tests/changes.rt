@@ -11,9 +11,9 @@ use std::test::Fail;
 // A reference: its line, first and last address, date, and whether its URL is the first one.
 type Row = (u64, u128, u128, u64, bool);
 
-const FIRST: &str = "https://a.example/";
+const FIRST: &str = "a";
 
-const OTHER: &str = "https://b.example/";
+const OTHER: &str = "b";
 
 const A: Row = (1, 10, 19, 7, true);
 

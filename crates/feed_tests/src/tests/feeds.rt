@@ -1,35 +1,45 @@
 //! Feeds: entries and notes.
-use crate::tests::shown::{line_text, push_notes};
+use crate::tests::wanted::{Noted, Texts, are_notes, is_said};
 use fan_work::Forks;
 use feed_csv::{read_feed, read_feed_by_parts};
-use geo_addr::block_text;
 use geo_outside::OpenGate;
-use geo_terms::{Entry, Feed, Note};
+use geo_terms::{Entry, Feed};
 use std::alloc::Global;
 use std::test::Fail;
 
-fn entry_text(alloc: Global, entry: &Entry) -> Result<String, Fail> {
-    let block = block_text(alloc, entry.block)?;
-    line_text(alloc, entry.line, block.as_str(), &entry.said, "-")
+// A line, the first address and the length of a block, and the place that is said of it; the length
+// of an IPv4 prefix is 96 more than its own.
+type Line = (u64, u128, u8, Option<Texts>);
+
+// A file, its entries and its notes.
+type Row = (&'static [u8], &'static [Line], &'static [Noted]);
+
+fn is_entry(entry: &Entry, wanted: &Line) -> bool {
+    entry.line == wanted.0
+        && entry.block.first == wanted.1
+        && entry.block.len == wanted.2
+        && is_said(&entry.said, &wanted.3)
 }
 
-// The line, the block and the texts of each entry, and the notes.
-fn shown(alloc: Global, entries: &[Entry], notes: &[Note]) -> Result<String, Fail> {
-    let mut text = String::new(alloc);
-    for entry in entries {
-        text.push_str(entry_text(alloc, entry)?.as_str())?;
+fn are_entries(entries: &[Entry], wanted: &[Line]) -> bool {
+    for (at, entry) in entries.iter().enumerate() {
+        let Some(wanted) = wanted.get(at) else {
+            return false;
+        };
+        if !is_entry(entry, wanted) {
+            return false;
+        }
     }
-    push_notes(alloc, notes, &mut text)?;
-    Ok(text)
+    entries.len() == wanted.len()
 }
 
-fn read(alloc: Global, file: &[u8]) -> Result<String, Fail> {
-    let feed = read_feed(alloc, "u", file)?;
-    shown(alloc, feed.entries.as_slice(), feed.notes.as_slice())
+fn is_feed(feed: &Feed, row: &Row) -> bool {
+    are_entries(feed.entries.as_slice(), row.1) && are_notes(feed.notes.as_slice(), "u", row.2)
 }
 
-// A file, and what it says.
-type Row = (&'static [u8], &'static str);
+fn read(alloc: Global, file: &[u8]) -> Result<Feed, Fail> {
+    Ok(read_feed(alloc, "u", file)?)
+}
 
 static FEEDS: [Row; 35] = [
     // each fault, behind a byte order mark
@@ -46,86 +56,198 @@ static FEEDS: [Row; 35] = [
 ::1.2.3.0/120,DE,,,\r\n\
 10.0.0.0/8,DEU,,,\r\n\
 10.0.0.0/8,,DE_BY,,\r\n",
-        "1 192.0.2.0/24 DE,,,\n7 203.0.113.0/24 AT,,Wien,\nfeed u 2 F07\nfeed u 3 F08\n\
-feed u 4 F08\nfeed u 5 F04\nfeed u 6 F03\nfeed u 8 F02\nfeed u 9 F01\nfeed u 10 F11\n\
-feed u 11 F05\nfeed u 12 F06\n",
+        &[
+            (1, 0xC000_0200, 120, Some((b"DE", b"", b"", b""))),
+            (7, 0xCB00_7100, 120, Some((b"AT", b"", b"Wien", b""))),
+        ],
+        &[
+            (2, b"F07"),
+            (3, b"F08"),
+            (4, b"F08"),
+            (5, b"F04"),
+            (6, b"F03"),
+            (8, b"F02"),
+            (9, b"F01"),
+            (10, b"F11"),
+            (11, b"F05"),
+            (12, b"F06"),
+        ],
     ),
     // one line
-    (b"\"", "feed u 1 F02\n"),
-    (b"a\"b,DE", "feed u 1 F02\n"),
-    (b"\"192.0.2.0/24\",DE", "1 192.0.2.0/24 DE,,,\n"),
-    (b"192.0.2.0/24,\"D\"\"E\"", "feed u 1 F05\n"),
-    (b"\0", "feed u 1 F04\n"),
-    (b",,,,", "feed u 1 F03\n"),
-    (b"192.0.2.0/24,DE\r,,", "feed u 1 F02\n"),
-    (b"192.0.2.0/24,DE\r\r\n", "feed u 1 F02\n"),
-    (b"192.0.2.0/24,DE,,\"a # b\",", "feed u 1 F02\n"),
-    (b"192.0.2.0/24,DE # ,,\"a\"", "1 192.0.2.0/24 DE,,,\n"),
-    (b" # comment", ""),
-    (b" \t192.0.2.0/24 , zz,,x,", "1 192.0.2.0/24 -\n"),
-    (b"192.0.2.0/24", "1 192.0.2.0/24 -\n"),
-    (b"192.0.2.0/24,,de-by", "1 192.0.2.0/24 DE,DE-BY,,\n"),
+    (b"\"", &[], &[(1, b"F02")]),
+    (b"a\"b,DE", &[], &[(1, b"F02")]),
+    (
+        b"\"192.0.2.0/24\",DE",
+        &[(1, 0xC000_0200, 120, Some((b"DE", b"", b"", b"")))],
+        &[],
+    ),
+    (b"192.0.2.0/24,\"D\"\"E\"", &[], &[(1, b"F05")]),
+    (b"\0", &[], &[(1, b"F04")]),
+    (b",,,,", &[], &[(1, b"F03")]),
+    (b"192.0.2.0/24,DE\r,,", &[], &[(1, b"F02")]),
+    (b"192.0.2.0/24,DE\r\r\n", &[], &[(1, b"F02")]),
+    (b"192.0.2.0/24,DE,,\"a # b\",", &[], &[(1, b"F02")]),
+    (
+        b"192.0.2.0/24,DE # ,,\"a\"",
+        &[(1, 0xC000_0200, 120, Some((b"DE", b"", b"", b"")))],
+        &[],
+    ),
+    (b" # comment", &[], &[]),
+    (
+        b" \t192.0.2.0/24 , zz,,x,",
+        &[(1, 0xC000_0200, 120, None)],
+        &[],
+    ),
+    (b"192.0.2.0/24", &[(1, 0xC000_0200, 120, None)], &[]),
+    (
+        b"192.0.2.0/24,,de-by",
+        &[(1, 0xC000_0200, 120, Some((b"DE", b"DE-BY", b"", b"")))],
+        &[],
+    ),
     (
         b"192.0.2.0/24,DE,DE-BY,\"a, \"\"b\"\"\",1,x,y",
-        "1 192.0.2.0/24 DE,DE-BY,a, \"b\",1\n",
+        &[(
+            1,
+            0xC000_0200,
+            120,
+            Some((b"DE", b"DE-BY", b"a, \"b\"", b"1")),
+        )],
+        &[],
     ),
-    (b"192.0.2.7,DE,,\"  a  \",", "1 192.0.2.7/32 DE,,a,\n"),
-    (b"0.0.0.0/0,DE", "1 0.0.0.0/0 DE,,,\n"),
-    (b"::/0,DE", "1 ::/0 DE,,,\n"),
-    (b"2001:db8::/128,DE", "1 2001:db8::/128 DE,,,\n"),
-    (b"192.0.2.0/31,DE", "1 192.0.2.0/31 DE,,,\n"),
-    (b"::ffff:192.0.2.0/120,DE", "1 ::ffff:c000:200/120 DE,,,\n"),
-    (b"#\n\xEF\xBB\xBF192.0.2.0/24,DE", "feed u 2 F04\n"),
-    (b"#\n\xEF\xBB\xBF\xFF", "feed u 2 F01\n"),
-    (b"#\n\xEF\xBB\xBF\"", "feed u 2 F02\n"),
+    (
+        b"192.0.2.7,DE,,\"  a  \",",
+        &[(1, 0xC000_0207, 128, Some((b"DE", b"", b"a", b"")))],
+        &[],
+    ),
+    (
+        b"0.0.0.0/0,DE",
+        &[(1, 0, 96, Some((b"DE", b"", b"", b"")))],
+        &[],
+    ),
+    (b"::/0,DE", &[(1, 0, 0, Some((b"DE", b"", b"", b"")))], &[]),
+    (
+        b"2001:db8::/128,DE",
+        &[(
+            1,
+            0x2001_0DB8_0000_0000_0000_0000_0000_0000,
+            128,
+            Some((b"DE", b"", b"", b"")),
+        )],
+        &[],
+    ),
+    (
+        b"192.0.2.0/31,DE",
+        &[(1, 0xC000_0200, 127, Some((b"DE", b"", b"", b"")))],
+        &[],
+    ),
+    (
+        b"::ffff:192.0.2.0/120,DE",
+        &[(1, 0xFFFF_C000_0200, 120, Some((b"DE", b"", b"", b"")))],
+        &[],
+    ),
+    (b"#\n\xEF\xBB\xBF192.0.2.0/24,DE", &[], &[(2, b"F04")]),
+    (b"#\n\xEF\xBB\xBF\xFF", &[], &[(2, b"F01")]),
+    (b"#\n\xEF\xBB\xBF\"", &[], &[(2, b"F02")]),
     // lines of one prefix
     (
         b"10.0.0.0/8,FR\n10.0.0.0/8,DE\n10.0.0.0/8,DE\n10.0.0.0/8,DE",
-        "feed u 1 F08\nfeed u 2 F08\nfeed u 3 F08\nfeed u 4 F08\n",
+        &[],
+        &[(1, b"F08"), (2, b"F08"), (3, b"F08"), (4, b"F08")],
     ),
     (
         b"10.0.0.0/8,DE\n10.0.0.0/8,FR\n10.0.0.0/8,DE\n10.0.0.0/8,DE",
-        "feed u 1 F08\nfeed u 2 F08\nfeed u 3 F08\nfeed u 4 F08\n",
+        &[],
+        &[(1, b"F08"), (2, b"F08"), (3, b"F08"), (4, b"F08")],
     ),
     (
         b"10.0.0.0/8,DE\n10.0.0.0/8,DE\n10.0.0.0/8,FR\n10.0.0.0/8,DE",
-        "feed u 1 F08\nfeed u 2 F08\nfeed u 3 F08\nfeed u 4 F08\n",
+        &[],
+        &[(1, b"F08"), (2, b"F08"), (3, b"F08"), (4, b"F08")],
     ),
     (
         b"10.0.0.0/8,DE\n10.0.0.0/8,DE\n10.0.0.0/8,DE\n10.0.0.0/8,FR",
-        "feed u 1 F08\nfeed u 2 F08\nfeed u 3 F08\nfeed u 4 F08\n",
+        &[],
+        &[(1, b"F08"), (2, b"F08"), (3, b"F08"), (4, b"F08")],
     ),
     (
         b"10.0.0.0/8,DE\nx\n10.0.0.0/9,DE\n10.0.0.0/8,de\n10.0.0.0/8,,DE\n10.0.0.0/8,DE",
-        "1 10.0.0.0/8 DE,,,\n3 10.0.0.0/9 DE,,,\nfeed u 2 F04\nfeed u 4 F07\n\
-feed u 5 F06\nfeed u 6 F07\n",
+        &[
+            (1, 0xA00_0000, 104, Some((b"DE", b"", b"", b""))),
+            (3, 0xA00_0000, 105, Some((b"DE", b"", b"", b""))),
+        ],
+        &[(2, b"F04"), (4, b"F07"), (5, b"F06"), (6, b"F07")],
     ),
     (
         b"10.0.0.0/8\n10.0.0.0/8,zz\n10.0.0.0/7",
-        "1 10.0.0.0/8 -\n3 10.0.0.0/7 -\nfeed u 2 F07\n",
+        &[(1, 0xA00_0000, 104, None), (3, 0xA00_0000, 103, None)],
+        &[(2, b"F07")],
     ),
     (
         b"10.0.0.0/9\n10.0.0.0/8,DE\n10.0.0.0/9,DE",
-        "2 10.0.0.0/8 DE,,,\nfeed u 1 F08\nfeed u 3 F08\n",
+        &[(2, 0xA00_0000, 104, Some((b"DE", b"", b"", b"")))],
+        &[(1, b"F08"), (3, b"F08")],
     ),
     // feeds of an operator
     (
         b"# geofeed of Example Net\n192.0.2.0/25,de,DE-BY,M\xC3\xBCnchen,\n\
 192.0.2.128/26,DE,DE-BE,Berlin,10115\n192.0.2.192/26,,,,\n192.0.3.0/24,DE,,,\n\
 # signature lines are comments\n",
-        "2 192.0.2.0/25 DE,DE-BY,M\u{FC}nchen,\n3 192.0.2.128/26 DE,DE-BE,Berlin,10115\n\
-4 192.0.2.192/26 -\n5 192.0.3.0/24 DE,,,\n",
+        &[
+            (
+                2,
+                0xC000_0200,
+                121,
+                Some((b"DE", b"DE-BY", b"M\xC3\xBCnchen", b"")),
+            ),
+            (
+                3,
+                0xC000_0280,
+                122,
+                Some((b"DE", b"DE-BE", b"Berlin", b"10115")),
+            ),
+            (4, 0xC000_02C0, 122, None),
+            (5, 0xC000_0300, 120, Some((b"DE", b"", b"", b""))),
+        ],
+        &[],
     ),
     (
         b"192.0.0.0/16,FR,,,\n192.0.2.0/24,US,US-CA,Los Angeles,\n\
 192.0.8.0/22,CH,CH-ZH,\"Z\xC3\xBCrich\",\n",
-        "1 192.0.0.0/16 FR,,,\n2 192.0.2.0/24 US,US-CA,Los Angeles,\n\
-3 192.0.8.0/22 CH,CH-ZH,Z\u{FC}rich,\n",
+        &[
+            (1, 0xC000_0000, 112, Some((b"FR", b"", b"", b""))),
+            (
+                2,
+                0xC000_0200,
+                120,
+                Some((b"US", b"US-CA", b"Los Angeles", b"")),
+            ),
+            (
+                3,
+                0xC000_0800,
+                118,
+                Some((b"CH", b"CH-ZH", b"Z\xC3\xBCrich", b"")),
+            ),
+        ],
+        &[],
     ),
     (
         b"2001:DB8::/33,NL,NL-NH,Amsterdam,\n2001:db8:8000::/33,JP,,Tokyo,,extra\n\
 2001:db8::/32,,XX-1234,,\n",
-        "1 2001:db8::/33 NL,NL-NH,Amsterdam,\n2 2001:db8:8000::/33 JP,,Tokyo,\nfeed u 3 F06\n",
+        &[
+            (
+                1,
+                0x2001_0DB8_0000_0000_0000_0000_0000_0000,
+                33,
+                Some((b"NL", b"NL-NH", b"Amsterdam", b"")),
+            ),
+            (
+                2,
+                0x2001_0DB8_8000_0000_0000_0000_0000_0000,
+                33,
+                Some((b"JP", b"", b"Tokyo", b"")),
+            ),
+        ],
+        &[(3, b"F06")],
     ),
 ];
 
@@ -134,7 +256,7 @@ fn feeds() -> &'static [Row] {
 }
 
 fn says(alloc: Global, row: &Row) -> Result<bool, Fail> {
-    Ok(read(alloc, row.0)?.as_str() == row.1)
+    Ok(is_feed(&read(alloc, row.0)?, row))
 }
 
 #[test]
@@ -153,19 +275,22 @@ fn feed_of_city(alloc: Global, count: usize) -> Result<Vec<u8>, Fail> {
     Ok(file)
 }
 
-fn notes_text(alloc: Global, feed: &Feed) -> Result<String, Fail> {
-    shown(alloc, &[], feed.notes.as_slice())
+// Whether such a feed is noted, and has no other note.
+fn is_noted(alloc: Global, count: usize) -> Result<bool, Fail> {
+    let file = feed_of_city(alloc, count)?;
+    let feed = read(alloc, file.as_slice())?;
+    Ok(are_notes(feed.notes.as_slice(), "u", &[(1, b"F10")]))
 }
 
-fn notes_of_city(alloc: Global, count: usize) -> Result<String, Fail> {
+fn is_not_noted(alloc: Global, count: usize) -> Result<bool, Fail> {
     let file = feed_of_city(alloc, count)?;
-    notes_text(alloc, &read_feed(alloc, "u", file.as_slice())?)
+    Ok(read(alloc, file.as_slice())?.notes.as_slice().is_empty())
 }
 
 #[test]
 fn a_city_of_1024_bytes(rt: HostRuntime) -> Result<(), Fail> {
-    assert!(rt; notes_of_city(rt.alloc(), 1024)?.is_empty());
-    assert!(rt; notes_of_city(rt.alloc(), 1025)?.as_str() == "feed u 1 F10\n");
+    assert!(rt; is_not_noted(rt.alloc(), 1024)?);
+    assert!(rt; is_noted(rt.alloc(), 1025)?);
     Ok(())
 }
 

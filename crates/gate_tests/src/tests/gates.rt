@@ -4,7 +4,7 @@ ghost use Rattle.std.specs.Prelude.{◌<◌, ◌≤◌};
 use crate::tests::emits::{Seen, begun, emit_by};
 use geo_outside::{Gate, OpenGate};
 use override_rows::read_overrides;
-use std::alloc::{AllocError, Global};
+use std::alloc::Global;
 use std::marker::Sync;
 use std::sync::atomic::{AtomicU64, Ordering};
 use std::test::Fail;
@@ -58,26 +58,33 @@ impl Gate for Meeting {
     }
 }
 
-fn set_overrides(alloc: Global, session: &mut Session, text: &str) -> Result<(), Fail> {
-    Ok(session.set_overrides(read_overrides(alloc, text.as_bytes())?)?)
+fn set_overrides(alloc: Global, session: &mut Session, text: &[u8]) -> Result<(), Fail> {
+    Ok(session.set_overrides(read_overrides(alloc, text)?)?)
 }
 
-// The line of one of 64 networks, the first of which has a country of its own.
-fn line(alloc: Global, at: u32, first: &str) -> Result<String, AllocError> {
-    let code = if at == 0 { first } else { "FR" };
-    format!(in alloc; "{}.0.0.0/8,set,{code}\n", at % 64 + 1)
+// The line of a network `N.0.0.0/8`, where N has two digits.
+fn push_network(number: u8, code: &[u8], text: &mut Vec<u8>) -> Result<(), Fail> {
+    let digits = [b'0' + number / 10 % 10, b'0' + number % 10];
+    text.extend_from_slice(&digits)?;
+    text.extend_from_slice(b".0.0.0/8,set,")?;
+    text.extend_from_slice(code)?;
+    text.push(b'\n')?;
+    Ok(())
 }
 
-fn networks(alloc: Global, first: &str) -> Result<String, Fail> {
-    let mut text = String::new(alloc);
-    for at in 0..64 {
-        text.push_str(line(alloc, at, first)?.as_str())?;
+// 64 networks, the first of which has a country of its own.
+fn push_networks(first: &[u8], text: &mut Vec<u8>) -> Result<(), Fail> {
+    push_network(10, first, text)?;
+    for number in 11..74 {
+        push_network(number, b"FR", text)?;
     }
-    Ok(text)
+    Ok(())
 }
 
-fn set_networks(alloc: Global, session: &mut Session, first: &str) -> Result<(), Fail> {
-    set_overrides(alloc, session, networks(alloc, first)?.as_str())
+fn set_networks(alloc: Global, session: &mut Session, first: &[u8]) -> Result<(), Fail> {
+    let mut text = Vec::new(alloc);
+    push_networks(first, &mut text)?;
+    set_overrides(alloc, session, text.as_slice())
 }
 
 // How many flags an emit by 64 pieces sets, after the overrides of 64 networks were set.
@@ -85,7 +92,7 @@ fn flags_of_networks<R: Threads + Sync>(
     rt: &R,
     alloc: Global,
     session: &mut Session,
-    first: &str,
+    first: &[u8],
 ) -> Result<u32, Fail> {
     set_networks(alloc, session, first)?;
     let gate = Flags {
@@ -99,15 +106,17 @@ fn flags_of_networks<R: Threads + Sync>(
 #[test]
 fn each_piece_with_segments_enters(rt: HostRuntime) -> Result<(), Fail> {
     let mut session = begun(rt.alloc())?;
-    assert!(rt; flags_of_networks(&rt, rt.alloc(), &mut session, "FR")? == 64);
-    let second = flags_of_networks(&rt, rt.alloc(), &mut session, "DE")?;
+    assert!(rt; flags_of_networks(&rt, rt.alloc(), &mut session, b"FR")? == 64);
+    let second = flags_of_networks(&rt, rt.alloc(), &mut session, b"DE")?;
     assert!(rt; matches!(second, 1..=3));
     Ok(())
 }
 
+static TWO_ROWS: &[u8] = b"10.0.0.0/8,set,FR\n12.0.0.0/8,set,DE\n";
+
 // The text, by a function of its own, so that its letters stand in no other proof.
-fn two_rows() -> &'static str {
-    "10.0.0.0/8,set,FR\n12.0.0.0/8,set,DE\n"
+fn two_rows() -> &'static [u8] {
+    TWO_ROWS
 }
 
 // A session with overrides of two networks.

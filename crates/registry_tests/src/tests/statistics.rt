@@ -3,19 +3,10 @@ use fan_work::Forks;
 use geo_addr::Addr;
 use geo_outside::OpenGate;
 use geo_terms::plain::{AllSources, spoken_at};
-use geo_terms::{Delegation, Note, Stats, note_text};
+use geo_terms::{Delegation, Note, Origin, Stats};
 use nro_stats::{read_stats, read_stats_by_parts};
 use std::alloc::Global;
 use std::test::Fail;
-
-// The notes as a report prints them.
-fn notes_text(alloc: Global, notes: &[Note]) -> Result<String, Fail> {
-    let mut text = String::new(alloc);
-    for note in notes {
-        text.push_str(note_text(alloc, note)?.as_str())?;
-    }
-    Ok(text)
-}
 
 // A file, the line of its only delegation, and the ends of the range.
 type DelegationRow = (&'static [u8], u64, u128, u128);
@@ -123,50 +114,69 @@ fn one_delegation(rt: HostRuntime) -> Result<(), Fail> {
     Ok(())
 }
 
-type RuleRow = (&'static [u8], &'static str);
+// A file, the line of its only note, and the code of the rule.
+type RuleRow = (&'static [u8], u64, &'static [u8]);
 
 static RULES: [RuleRow; 17] = [
-    (b"x|DE|ipv4|255.255.255.255|2||allocated", "stats x 1 S05\n"),
-    (
-        b"x|DE|ipv4|0.0.0.1|4294967296||allocated",
-        "stats x 1 S05\n",
-    ),
+    (b"x|DE|ipv4|255.255.255.255|2||allocated", 1, b"S05"),
+    (b"x|DE|ipv4|0.0.0.1|4294967296||allocated", 1, b"S05"),
     (
         b"x|DE|ipv4|10.0.0.0|256||allocated\nx|ZZ|ipv4|10.0.1.0|256||allocated\n",
-        "stats x 2 S06\n",
+        2,
+        b"S06",
     ),
     (
         b"x|ZZ|ipv4|10.0.1.0|256||allocated\nx|DE|ipv4|10.0.0.0|256||allocated\n",
-        "stats x 1 S06\n",
+        1,
+        b"S06",
     ),
-    (b"x|zz|ipv4|10.0.1.0|256||allocated", "stats x 1 S06\n"),
-    (b"x||ipv4|10.0.1.0|256||allocated", "stats x 1 S06\n"),
-    (b"x|DE|ipv4|10.0.0.0|256|", "stats x 1 S01\n"),
-    (b" #", "stats x 1 S01\n"),
-    (b"2.|DE|IPV4|x|0||held", "stats x 1 S02\n"),
-    (b"x|ZZ|ipv4|x|0||Allocated", "stats x 1 S03\n"),
-    (b"x|ZZ|ipv4|::1|0||allocated", "stats x 1 S04\n"),
-    (b"x|ZZ|ipv6|10.0.0.0|32||allocated", "stats x 1 S04\n"),
-    (b"x|ZZ|ipv4|10.0.0.0|0||allocated", "stats x 1 S07\n"),
-    (b"x|ZZ|ipv6|::1.2.3.0|120||allocated", "stats x 1 S07\n"),
-    (b"x|DE|ipv6|::|96||allocated", "stats x 1 S07\n"),
-    (b"x|DE|ipv6|2001:db8::1|32||allocated", "stats x 1 S07\n"),
-    (b"x|DE|ipv6|2001:db8::|129||allocated", "stats x 1 S07\n"),
+    (b"x|zz|ipv4|10.0.1.0|256||allocated", 1, b"S06"),
+    (b"x||ipv4|10.0.1.0|256||allocated", 1, b"S06"),
+    (b"x|DE|ipv4|10.0.0.0|256|", 1, b"S01"),
+    (b" #", 1, b"S01"),
+    (b"2.|DE|IPV4|x|0||held", 1, b"S02"),
+    (b"x|ZZ|ipv4|x|0||Allocated", 1, b"S03"),
+    (b"x|ZZ|ipv4|::1|0||allocated", 1, b"S04"),
+    (b"x|ZZ|ipv6|10.0.0.0|32||allocated", 1, b"S04"),
+    (b"x|ZZ|ipv4|10.0.0.0|0||allocated", 1, b"S07"),
+    (b"x|ZZ|ipv6|::1.2.3.0|120||allocated", 1, b"S07"),
+    (b"x|DE|ipv6|::|96||allocated", 1, b"S07"),
+    (b"x|DE|ipv6|2001:db8::1|32||allocated", 1, b"S07"),
+    (b"x|DE|ipv6|2001:db8::|129||allocated", 1, b"S07"),
 ];
 
 fn rules() -> &'static [RuleRow] {
     &RULES
 }
 
-fn notes(alloc: Global, row: &RuleRow) -> Result<bool, Fail> {
+fn is_of_the_slot(origin: &Origin) -> bool {
+    match origin {
+        Origin::Stats(slot) => slot.as_str() == "x",
+        _ => false,
+    }
+}
+
+// Whether this is the only note.
+fn are_noted(notes: &[Note], row: &RuleRow) -> bool {
+    match notes {
+        [note] => {
+            is_of_the_slot(&note.origin)
+                && note.line == row.1
+                && note.rule.code().as_bytes() == row.2
+        }
+        _ => false,
+    }
+}
+
+fn notes_one(alloc: Global, row: &RuleRow) -> Result<bool, Fail> {
     let stats = read_stats(alloc, "x", row.0)?;
-    Ok(notes_text(alloc, stats.notes.as_slice())?.as_str() == row.1)
+    Ok(are_noted(stats.notes.as_slice(), row))
 }
 
 #[test]
 fn first_rule_of_a_line(rt: HostRuntime) -> Result<(), Fail> {
     for (at, row) in rules().iter().enumerate() {
-        assert!(rt; notes(rt.alloc(), row)?, "row {at}");
+        assert!(rt; notes_one(rt.alloc(), row)?, "row {at}");
     }
     Ok(())
 }
@@ -206,15 +216,18 @@ fn a_delegation_decides(rt: HostRuntime) -> Result<(), Fail> {
     Ok(())
 }
 
-fn two_lines() -> &'static str {
-    "x|DE|ipv4|192.0.2.0|256||allocated\nx|DE|none|192.0.2.0|256||allocated\n"
+static TWO_LINES: &[u8] =
+    b"x|DE|ipv4|192.0.2.0|256||allocated\nx|DE|none|192.0.2.0|256||allocated\n";
+
+fn two_lines() -> &'static [u8] {
+    TWO_LINES
 }
 
 // Two lines, so many times.
-fn made_lines(alloc: Global, count: u32) -> Result<String, Fail> {
-    let mut file = String::new(alloc);
+fn made_lines(alloc: Global, count: u32) -> Result<Vec<u8>, Fail> {
+    let mut file = Vec::new(alloc);
     for _ in 0..count {
-        file.push_str(two_lines())?;
+        file.extend_from_slice(two_lines())?;
     }
     Ok(file)
 }
@@ -243,7 +256,7 @@ fn a_file_by_parts(rt: HostRuntime) -> Result<(), Fail> {
         gate: &OpenGate,
         pieces: 4,
     };
-    let stats = read_stats_by_parts(&forks, "x", file.as_bytes())?;
+    let stats = read_stats_by_parts(&forks, "x", file.as_slice())?;
     assert_eq!(rt; count_of_rows(stats.rows.as_slice()), (20_000, 39_999));
     assert_eq!(rt; count_of_notes(stats.notes.as_slice()), (20_000, 40_000));
     Ok(())

@@ -13,7 +13,7 @@ use update_session::{BackFault, DropFault, Session};
 #[derive(Clone, Copy)]
 pub enum Act {
     /// Sets the source of a kind, under a slot or a URL, to what this text says.
-    Set(Kind, &'static str, &'static str),
+    Set(Kind, &'static str, &'static [u8]),
     /// Sets the source of many lines, with the country of its first one, and gone round by so many.
     Lines(Shape, &'static str, u32),
     Drop(Kind, &'static str),

@@ -28,9 +28,7 @@ pub type Seen = (usize, u64);
 fn seen(bytes: &[u8]) -> Seen {
     let mut sum = 0u64;
     for byte in bytes {
-        sum = sum
-            .wrapping_mul(6_364_136_223_846_793_005)
-            .wrapping_add(u64::from(*byte));
+        sum = sum.wrapping_mul(1_000_003).wrapping_add(u64::from(*byte));
     }
     (bytes.len(), sum)
 }

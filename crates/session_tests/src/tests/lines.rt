@@ -50,5 +50,5 @@ pub fn set_lines(
         Shape::Blocks => (Kind::Feed, FEED, 1000),
     };
     let text = lines(alloc, shape, count, first, round)?;
-    set(alloc, session, (kind, name, text.as_str()))
+    set(alloc, session, (kind, name, text.as_bytes()))
 }

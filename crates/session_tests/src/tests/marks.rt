@@ -5,14 +5,14 @@ use crate::tests::given::Kind::Stats;
 use std::test::Fail;
 
 /// Half of the IPv4 addresses.
-const HALF: &str = "x|DE|ipv4|128.0.0.0|2147483648||allocated\n";
+const HALF: &[u8] = b"x|DE|ipv4|128.0.0.0|2147483648||allocated\n";
 
-const FRENCH_HALF: &str = "x|FR|ipv4|128.0.0.0|2147483648||allocated\n";
+const FRENCH_HALF: &[u8] = b"x|FR|ipv4|128.0.0.0|2147483648||allocated\n";
 
 /// 256 addresses.
-const NET: &str = "x|DE|ipv4|192.0.2.0|256||allocated\n";
+const NET: &[u8] = b"x|DE|ipv4|192.0.2.0|256||allocated\n";
 
-const AUSTRIAN_NET: &str = "x|AT|ipv4|192.0.2.0|256||allocated\n";
+const AUSTRIAN_NET: &[u8] = b"x|AT|ipv4|192.0.2.0|256||allocated\n";
 
 static MARKED: [&[Act]; 9] = [
     &[

@@ -27,24 +27,24 @@ static ORDERS: [&[Act]; 4] = [
         Set(
             Stats,
             "x",
-            "x|DE|ipv4|10.0.0.0|256||allocated\nx|ZZ|ipv4|10.0.1.0|256||allocated\n",
+            b"x|DE|ipv4|10.0.0.0|256||allocated\nx|ZZ|ipv4|10.0.1.0|256||allocated\n",
         ),
         Emit(1123),
         Drop(Stats, "x"),
         Set(
             Stats,
             "x",
-            "x|ZZ|ipv4|10.0.1.0|256||allocated\nx|DE|ipv4|10.0.0.0|256||allocated\n",
+            b"x|ZZ|ipv4|10.0.1.0|256||allocated\nx|DE|ipv4|10.0.0.0|256||allocated\n",
         ),
         Same,
     ],
     // A large first emit, and a small second one.
     &[
-        Set(Stats, "all", "x|US|ipv4|10.0.0.0|16777216||allocated\n"),
+        Set(Stats, "all", b"x|US|ipv4|10.0.0.0|16777216||allocated\n"),
         Set(
             Rpsl,
             "r",
-            "inetnum: 10.0.0.0/8\ngeofeed: https://e.example/f.csv\n",
+            b"inetnum: 10.0.0.0/8\ngeofeed: https://e.example/f.csv\n",
         ),
         Lines(Blocks, "DE", 0),
         Touched(1002),
@@ -56,7 +56,7 @@ static ORDERS: [&[Act]; 4] = [
     ],
     // What is not there is not dropped.
     &[
-        Set(Stats, "x", "x|DE|ipv4|10.0.0.0|16777216||allocated\n"),
+        Set(Stats, "x", b"x|DE|ipv4|10.0.0.0|16777216||allocated\n"),
         Absent(Stats, "y"),
         Absent(Rpsl, "x"),
         Absent(Feed, FEED),
