@@ -1,9 +1,8 @@
 //! The grounds that an old and a new source of each kind differ on.
-use feed_csv::read_feed;
+use crate::tests::{feeds, overrides};
 use geo_addr::{Range, Text};
-use geo_terms::Reference;
+use geo_terms::{Reference, Stats};
 use nro_stats::read_stats;
-use override_rows::read_overrides;
 use source_changes::{Compared, changed_grounds, keep_all};
 use std::alloc::Global;
 use std::test::Fail;
@@ -57,10 +56,13 @@ fn references(alloc: Global, rows: &[Row]) -> Result<Vec<Reference>, Fail> {
 type Grounds = (u128, u128, usize);
 
 fn count_of(grounds: &[Range], wanted: &Grounds) -> usize {
-    grounds
-        .iter()
-        .filter(|r| r.first == wanted.0 && r.last == wanted.1)
-        .count()
+    let mut count = 0usize;
+    for ground in grounds {
+        if ground.first == wanted.0 && ground.last == wanted.1 {
+            count = count.wrapping_add(1);
+        }
+    }
+    count
 }
 
 // Whether these are the grounds, and no others.
@@ -210,20 +212,24 @@ fn sources() -> &'static [SourceRow] {
 }
 
 fn overrides_differ(alloc: Global, row: &SourceRow) -> Result<bool, Fail> {
-    let old = read_overrides(alloc, row.2)?;
-    let new = read_overrides(alloc, row.3)?;
+    let old = overrides::read(alloc, row.2)?;
+    let new = overrides::read(alloc, row.3)?;
     differ(alloc, old.rows.as_slice(), new.rows.as_slice(), row.4)
 }
 
 fn feeds_differ(alloc: Global, row: &SourceRow) -> Result<bool, Fail> {
-    let old = read_feed(alloc, "u", row.2)?;
-    let new = read_feed(alloc, "u", row.3)?;
+    let old = feeds::read(alloc, row.2)?;
+    let new = feeds::read(alloc, row.3)?;
     differ(alloc, old.entries.as_slice(), new.entries.as_slice(), row.4)
 }
 
+fn delegations(alloc: Global, slot: &str, file: &[u8]) -> Result<Stats, Fail> {
+    Ok(read_stats(alloc, slot, file)?)
+}
+
 fn stats_differ(alloc: Global, row: &SourceRow) -> Result<bool, Fail> {
-    let old = read_stats(alloc, "ripe", row.2)?;
-    let new = read_stats(alloc, row.1, row.3)?;
+    let old = delegations(alloc, "ripe", row.2)?;
+    let new = delegations(alloc, row.1, row.3)?;
     keep_all(new.rows.as_slice());
     differ(alloc, old.rows.as_slice(), new.rows.as_slice(), row.4)
 }

@@ -37,7 +37,8 @@ fn is_feed(feed: &Feed, row: &Row) -> bool {
     are_entries(feed.entries.as_slice(), row.1) && are_notes(feed.notes.as_slice(), "u", row.2)
 }
 
-fn read(alloc: Global, file: &[u8]) -> Result<Feed, Fail> {
+/// The feed of the URL `u`, by a function that promises nothing.
+pub fn read(alloc: Global, file: &[u8]) -> Result<Feed, Fail> {
     Ok(read_feed(alloc, "u", file)?)
 }
 

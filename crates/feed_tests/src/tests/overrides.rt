@@ -35,7 +35,8 @@ fn are_overrides(overrides: &Overrides, row: &Row) -> bool {
     are_rows(overrides.rows.as_slice(), row.1) && are_notes(overrides.notes.as_slice(), "", row.2)
 }
 
-fn read(alloc: Global, file: &[u8]) -> Result<Overrides, Fail> {
+/// Overrides, by a function that promises nothing.
+pub fn read(alloc: Global, file: &[u8]) -> Result<Overrides, Fail> {
     Ok(read_overrides(alloc, file)?)
 }
 
