@@ -3,4 +3,4 @@ mod changes;
 mod feeds;
 mod overrides;
 mod rests;
-mod wanted;
+mod shown;

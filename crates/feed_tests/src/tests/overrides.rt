@@ -1,38 +1,27 @@
 //! Files of overrides: rows and notes.
-use crate::tests::wanted::{Noted, Texts, are_notes, is_said};
-use geo_addr::{Addr, Range};
+use crate::tests::shown::{push_line, push_notes};
+use geo_addr::{Addr, Range, range_text};
 use geo_terms::{Override, Overrides};
 use override_rows::read_overrides;
 use std::alloc::Global;
 use std::test::Fail;
 
-// A line, the first and the last address of its range, and the place that is said of it.
-type Line = (u64, u128, u128, Option<Texts>);
-
-// A file, its rows and its notes.
-type Row = (&'static [u8], &'static [Line], &'static [Noted]);
-
-fn is_row(row: &Override, wanted: &Line) -> bool {
-    row.line == wanted.0
-        && row.range.first == wanted.1
-        && row.range.last == wanted.2
-        && is_said(&row.said, &wanted.3)
+fn push_row(alloc: Global, text: &mut Vec<u8>, row: &Override) -> Result<(), Fail> {
+    let range = range_text(alloc, row.range)?;
+    push_line(text, row.line, range.as_str(), &row.said, b"void")
 }
 
-fn are_rows(rows: &[Override], wanted: &[Line]) -> bool {
-    for (at, row) in rows.iter().enumerate() {
-        let Some(wanted) = wanted.get(at) else {
-            return false;
-        };
-        if !is_row(row, wanted) {
-            return false;
-        }
+fn push_rows(alloc: Global, text: &mut Vec<u8>, rows: &[Override]) -> Result<(), Fail> {
+    for row in rows {
+        push_row(alloc, text, row)?;
     }
-    rows.len() == wanted.len()
+    Ok(())
 }
 
-fn are_overrides(overrides: &Overrides, row: &Row) -> bool {
-    are_rows(overrides.rows.as_slice(), row.1) && are_notes(overrides.notes.as_slice(), "", row.2)
+// The line, the range and the texts of each row, and the notes.
+fn push_overrides(alloc: Global, text: &mut Vec<u8>, said: &Overrides) -> Result<(), Fail> {
+    push_rows(alloc, text, said.rows.as_slice())?;
+    push_notes(text, said.notes.as_slice())
 }
 
 /// Overrides, by a function that promises nothing.
@@ -40,58 +29,48 @@ pub fn read(alloc: Global, file: &[u8]) -> Result<Overrides, Fail> {
     Ok(read_overrides(alloc, file)?)
 }
 
+// A file, and what it says.
+type Row = (&'static [u8], &'static [u8]);
+
 static ROWS: [Row; 20] = [
     (
         b"192.0.2.10-192.0.2.19,set,AT,,Wien,\n203.0.113.0/24,void\n",
-        &[
-            (
-                1,
-                0xC000_020A,
-                0xC000_0213,
-                Some((b"AT", b"", b"Wien", b"")),
-            ),
-            (2, 0xCB00_7100, 0xCB00_71FF, None),
-        ],
-        &[],
+        b"1 192.0.2.10-192.0.2.19 AT,,Wien,\n2 203.0.113.0-203.0.113.255 void\n",
     ),
     (
         b"0.0.0.0/0,set,FR\n::/0,set,FR",
-        &[
-            (1, 0, 0xFFFF_FFFF, Some((b"FR", b"", b"", b""))),
-            (2, 0, u128::MAX, Some((b"FR", b"", b"", b""))),
-        ],
-        &[],
+        b"1 0.0.0.0-255.255.255.255 FR,,,\n2 ::-ffff:ffff:ffff:ffff:ffff:ffff:ffff:ffff FR,,,\n",
     ),
     (
         b"\xEF\xBB\xBF# all\r\n10.0.0.0/8, void ,DEU\r\n",
-        &[(2, 0xA00_0000, 0xAFF_FFFF, None)],
-        &[],
+        b"2 10.0.0.0-10.255.255.255 void\n",
     ),
-    (b"10.0.0.0/8,void,\"x", &[], &[(1, b"O02")]),
-    (b"10.0.0.0/8,void,\xFF", &[], &[(1, b"O01")]),
-    (b",void", &[], &[(1, b"O03")]),
-    (b"10.0.0.1/8,set", &[], &[(1, b"O03")]),
-    (b"::1-0.0.0.5,void", &[], &[(1, b"O03")]),
-    (b"::1-::5,void", &[], &[(1, b"O03")]),
-    (b"10.0.0.9-10.0.0.1,void", &[], &[(1, b"O03")]),
-    (b"::5-::1:0:0,void", &[(1, 5, 0x1_0000_0000, None)], &[]),
-    (b"10.0.0.0/8,SET,DE", &[], &[(1, b"O04")]),
-    (b"10.0.0.0/8", &[], &[(1, b"O04")]),
-    (b"10.0.0.0/8,set,DEU", &[], &[(1, b"O05")]),
-    (b"10.0.0.0/8,set,,DE_BY", &[], &[(1, b"O05")]),
-    (b"10.0.0.0/8,set", &[], &[(1, b"O06")]),
-    (b"10.0.0.0/8,set,zz,,x", &[], &[(1, b"O06")]),
+    (b"10.0.0.0/8,void,\"x", b"overrides - 1 O02\n"),
+    (b"10.0.0.0/8,void,\xFF", b"overrides - 1 O01\n"),
+    (b",void", b"overrides - 1 O03\n"),
+    (b"10.0.0.1/8,set", b"overrides - 1 O03\n"),
+    (b"::1-0.0.0.5,void", b"overrides - 1 O03\n"),
+    (b"::1-::5,void", b"overrides - 1 O03\n"),
+    (b"10.0.0.9-10.0.0.1,void", b"overrides - 1 O03\n"),
+    (b"::5-::1:0:0,void", b"1 ::5-::1:0:0 void\n"),
+    (b"10.0.0.0/8,SET,DE", b"overrides - 1 O04\n"),
+    (b"10.0.0.0/8", b"overrides - 1 O04\n"),
+    (b"10.0.0.0/8,set,DEU", b"overrides - 1 O05\n"),
+    (b"10.0.0.0/8,set,,DE_BY", b"overrides - 1 O05\n"),
+    (b"10.0.0.0/8,set", b"overrides - 1 O06\n"),
+    (b"10.0.0.0/8,set,zz,,x", b"overrides - 1 O06\n"),
     (
         b"10.0.0.0/8,set,de,,a,1,x\n10.0.0.0-10.255.255.255,set,DE,,a,1",
-        &[(1, 0xA00_0000, 0xAFF_FFFF, Some((b"DE", b"", b"a", b"1")))],
-        &[(2, b"O07")],
+        b"1 10.0.0.0-10.255.255.255 DE,,a,1\noverrides - 2 O07\n",
     ),
     (
         b"10.0.0.1,set,DE\n10.0.0.0/8,void\n10.0.0.1/32,void\n10.0.0.1,set,DE",
-        &[(2, 0xA00_0000, 0xAFF_FFFF, None)],
-        &[(1, b"O08"), (3, b"O08"), (4, b"O08")],
+        b"2 10.0.0.0-10.255.255.255 void\noverrides - 1 O08\noverrides - 3 O08\noverrides - 4 O08\n",
     ),
-    (b"\n \n#\n\xEF\xBB\xBF10.0.0.0/8,void", &[], &[(4, b"O03")]),
+    (
+        b"\n \n#\n\xEF\xBB\xBF10.0.0.0/8,void",
+        b"overrides - 4 O03\n",
+    ),
 ];
 
 fn rows() -> &'static [Row] {
@@ -99,7 +78,10 @@ fn rows() -> &'static [Row] {
 }
 
 fn says(alloc: Global, row: &Row) -> Result<bool, Fail> {
-    Ok(are_overrides(&read(alloc, row.0)?, row))
+    let overrides = read(alloc, row.0)?;
+    let mut text = Vec::new(alloc);
+    push_overrides(alloc, &mut text, &overrides)?;
+    Ok(text.as_slice() == row.1)
 }
 
 #[test]

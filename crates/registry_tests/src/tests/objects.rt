@@ -5,7 +5,7 @@ use std::alloc::Global;
 use std::test::Fail;
 
 // An attribute: its line, its name and its value.
-type Part = (u64, &'static str, &'static [u8]);
+type Part = (u64, &'static [u8], &'static [u8]);
 
 // What comes of a text.
 enum Wanted {
@@ -18,7 +18,9 @@ enum Wanted {
 use Wanted::{Object, Passed};
 
 fn is_part(part: &Attribute, wanted: &Part) -> bool {
-    part.line == wanted.0 && part.name.as_str() == wanted.1 && part.value.as_slice() == wanted.2
+    part.line == wanted.0
+        && part.name.as_str().as_bytes() == wanted.1
+        && part.value.as_slice() == wanted.2
 }
 
 fn are_parts(parts: &[Attribute], wanted: &[Part]) -> bool {
@@ -38,7 +40,8 @@ fn is_item(item: &Item, wanted: &Wanted) -> bool {
         (Item::Whole(object), Object(line, parts)) => {
             object.line == *line && are_parts(object.parts.as_slice(), parts)
         }
-        (Item::Passed { line, rule }, Passed(wanted)) => line == wanted && rule.code() == "P02",
+        (Item::Passed { line, rule }, Passed(wanted)) => line == wanted
+            && rule.code().as_bytes() == b"P02".as_slice(),
         _ => false,
     }
 }
@@ -105,7 +108,7 @@ static TEXTS: [TextRow; 15] = [
         b"foo\ninetnum: 192.0.2.0/24\nbar",
         &[
             Passed(1),
-            Object(2, &[(2, "inetnum", b"192.0.2.0/24")]),
+            Object(2, &[(2, b"inetnum", b"192.0.2.0/24")]),
             Passed(3),
         ],
     ),
@@ -113,8 +116,8 @@ static TEXTS: [TextRow; 15] = [
     (
         b"\xEF\xBB\xBFinetnum: a\r\nsource: b\r\n\r\nrole: c\r\n",
         &[
-            Object(1, &[(1, "inetnum", b"a"), (2, "source", b"b")]),
-            Object(4, &[(4, "role", b"c")]),
+            Object(1, &[(1, b"inetnum", b"a"), (2, b"source", b"b")]),
+            Object(4, &[(4, b"role", b"c")]),
         ],
     ),
     // continuations, also first in an object, and a value that begins on a later line
@@ -123,37 +126,37 @@ static TEXTS: [TextRow; 15] = [
         &[Object(
             1,
             &[
-                (1, "descr", b"first line second line third"),
-                (5, "remarks", b"last"),
+                (1, b"descr", b"first line second line third"),
+                (5, b"remarks", b"last"),
             ],
         )],
     ),
     (
         b"+ lost\n lost\nrole: a\n",
-        &[Passed(1), Passed(2), Object(3, &[(3, "role", b"a")])],
+        &[Passed(1), Passed(2), Object(3, &[(3, b"role", b"a")])],
     ),
     // comments inside an object and inside a continuation
     (
         b"role: a\n% passed\n# passed\n b\n%\n+c\nsource: d\n",
-        &[Object(1, &[(1, "role", b"a b c"), (7, "source", b"d")])],
+        &[Object(1, &[(1, b"role", b"a b c"), (7, b"source", b"d")])],
     ),
     (b"% one\n% two\n\n% three\n", &[]),
     // a line of blanks alone ends an object, and one with a `+` does not
     (
         b"role: a\n+\nadmin-c: b\n \t \nrole: c\n",
         &[
-            Object(1, &[(1, "role", b"a"), (3, "admin-c", b"b")]),
-            Object(5, &[(5, "role", b"c")]),
+            Object(1, &[(1, b"role", b"a"), (3, b"admin-c", b"b")]),
+            Object(5, &[(5, b"role", b"c")]),
         ],
     ),
     // a stray line inside a value
     (
         b"role: a\nstray\n b\n",
-        &[Object(1, &[(1, "role", b"a b")]), Passed(2)],
+        &[Object(1, &[(1, b"role", b"a b")]), Passed(2)],
     ),
     (
         b"stray\n\nrole: a\n\n\nstray\n",
-        &[Passed(1), Object(3, &[(3, "role", b"a")]), Passed(6)],
+        &[Passed(1), Object(3, &[(3, b"role", b"a")]), Passed(6)],
     ),
     // names
     (
@@ -162,9 +165,9 @@ static TEXTS: [TextRow; 15] = [
             Object(
                 1,
                 &[
-                    (1, "inetnum", b"a"),
-                    (2, "last-modified", b"b"),
-                    (3, "x_1", b""),
+                    (1, b"inetnum", b"a"),
+                    (2, b"last-modified", b"b"),
+                    (3, b"x_1", b""),
                 ],
             ),
             Passed(4),
@@ -173,18 +176,18 @@ static TEXTS: [TextRow; 15] = [
         ],
     ),
     // a carriage return inside a line is a byte of it, and two at its end leave one
-    (b"role: a\rb\n", &[Object(1, &[(1, "role", b"a\rb")])]),
+    (b"role: a\rb\n", &[Object(1, &[(1, b"role", b"a\rb")])]),
     // not UTF-8
     (
         b"descr: M\xFCnchen\n",
-        &[Object(1, &[(1, "descr", b"M\xFCnchen")])],
+        &[Object(1, &[(1, b"descr", b"M\xFCnchen")])],
     ),
     (
         b"\xEF\xBB\xBF% an extract\n\nfoo\r\ninetnum: 192.0.2.0/24\r\n# note\n+ b # c\n\nrole: d\n",
         &[
             Passed(3),
-            Object(4, &[(4, "inetnum", b"192.0.2.0/24 b")]),
-            Object(8, &[(8, "role", b"d")]),
+            Object(4, &[(4, b"inetnum", b"192.0.2.0/24 b")]),
+            Object(8, &[(8, b"role", b"d")]),
         ],
     ),
 ];
@@ -324,7 +327,7 @@ fn gives_at_end(reader: &Reader, selection: &Selection, wanted: &[Wanted]) -> Re
 static WANTED: TextRow = (
     b"Inetnum: a\ndescr: b\nGEOFEED: c\nstray\n\nrole: d\ngeofeed: e\nstray\n\ninetnum: f\n",
     &[
-        Object(1, &[(1, "inetnum", b"a"), (3, "geofeed", b"c")]),
+        Object(1, &[(1, b"inetnum", b"a"), (3, b"geofeed", b"c")]),
         Passed(4),
         Passed(8),
     ],
@@ -334,7 +337,7 @@ fn wanted_row() -> &'static TextRow {
     &WANTED
 }
 
-static AT_END: [Wanted; 1] = [Object(10, &[(10, "inetnum", b"f")])];
+static AT_END: [Wanted; 1] = [Object(10, &[(10, b"inetnum", b"f")])];
 
 fn wanted_at_end() -> &'static [Wanted] {
     &AT_END

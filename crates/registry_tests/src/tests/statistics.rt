@@ -151,7 +151,7 @@ fn rules() -> &'static [RuleRow] {
 
 fn is_of_the_slot(origin: &Origin) -> bool {
     match origin {
-        Origin::Stats(slot) => slot.as_str() == "x",
+        Origin::Stats(slot) => slot.as_str().as_bytes() == b"x".as_slice(),
         _ => false,
     }
 }
@@ -182,7 +182,7 @@ fn first_rule_of_a_line(rt: HostRuntime) -> Result<(), Fail> {
 }
 
 // Whether the delegations decide on this country at an address, or on none where it is empty.
-fn decide(stats: &[Stats], address: u128, wanted: &str) -> bool {
+fn decide(stats: &[Stats], address: u128, wanted: &[u8]) -> bool {
     let sources = AllSources {
         dumps: &[],
         feeds: &[],
@@ -190,7 +190,7 @@ fn decide(stats: &[Stats], address: u128, wanted: &str) -> bool {
         overrides: None,
     };
     match spoken_at(&sources, Addr(address)) {
-        Some(place) => place.country().as_str() == wanted,
+        Some(place) => place.country().as_str().as_bytes() == wanted,
         None => wanted.is_empty(),
     }
 }
@@ -204,9 +204,9 @@ fn nested() -> &'static [u8] {
 }
 
 fn decide_as_nested(stats: &[Stats]) -> bool {
-    decide(stats, 0x0A00_0000, "AT")
-        && decide(stats, 0x0A00_01FF, "CH")
-        && decide(stats, 0x0A00_0200, "")
+    decide(stats, 0x0A00_0000, b"AT")
+        && decide(stats, 0x0A00_01FF, b"CH")
+        && decide(stats, 0x0A00_0200, b"")
 }
 
 #[test]
