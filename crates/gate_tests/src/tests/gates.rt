@@ -62,21 +62,29 @@ fn set_overrides(alloc: Global, session: &mut Session, text: &[u8]) -> Result<()
     Ok(session.set_overrides(read_overrides(alloc, text)?)?)
 }
 
-// The line of a network `N.0.0.0/8`, where N has two digits.
-fn push_network(number: u8, code: &[u8], text: &mut Vec<u8>) -> Result<(), Fail> {
-    let digits = [b'0' + number / 10 % 10, b'0' + number % 10];
-    text.extend_from_slice(&digits)?;
+// The line of a network `N.0.0.0/8`, where N has these two digits.
+fn push_network(digits: &[u8], code: &[u8], text: &mut Vec<u8>) -> Result<(), Fail> {
+    text.extend_from_slice(digits)?;
     text.extend_from_slice(b".0.0.0/8,set,")?;
     text.extend_from_slice(code)?;
-    text.push(b'\n')?;
+    text.extend_from_slice(b"\n")?;
+    Ok(())
+}
+
+// Eight networks whose N begins with this digit, the first of which has a country of its own.
+fn push_eight(digit: u8, first: &[u8], text: &mut Vec<u8>) -> Result<(), Fail> {
+    for last in b"01234567".as_slice() {
+        let code = if *last == b'0' { first } else { b"FR" };
+        push_network(&[digit, *last], code, text)?;
+    }
     Ok(())
 }
 
 // 64 networks, the first of which has a country of its own.
 fn push_networks(first: &[u8], text: &mut Vec<u8>) -> Result<(), Fail> {
-    push_network(10, first, text)?;
-    for number in 11..74 {
-        push_network(number, b"FR", text)?;
+    for digit in b"12345678".as_slice() {
+        let code = if *digit == b'1' { first } else { b"FR" };
+        push_eight(*digit, code, text)?;
     }
     Ok(())
 }
