@@ -1,5 +1,5 @@
 //! A session, and the files of its emits.
-ghost use Rattle.std.specs.Prelude.{◌≡◌, ◌<◌, ◌≤◌, length, IfOk};
+ghost use Rattle.std.specs.Prelude.{◌≡◌, ◌<◌};
 
 use fan_work::Forks;
 use geo_addr::Text;
@@ -12,24 +12,25 @@ use std::test::Fail;
 use std::thread::Threads;
 use update_session::{EmitFault, Session};
 
-// The epoch and the name of the worked files.
-fn meta(alloc: Global) -> Result<Meta, Fail>
-    ensures { IfOk result (λ meta. length meta.name ≤ 64) }
-{
+/// A session with the name and the epoch of the worked files.
+pub fn begun(alloc: Global) -> Result<Session, Fail> {
     let name = Text::of(alloc, "Geofeed-City")?;
     if name.as_str().len() > 64 {
         return Err(Fail::from("a long name"));
     }
-    Ok(Meta {
-        epoch: 1_700_000_000,
-        name,
-    })
+    let epoch = 1_700_000_000;
+    Ok(Session::new(alloc, Meta { epoch, name })?)
 }
 
-/// A session with the name and the epoch of the worked files.
-pub fn begun(alloc: Global) -> Result<Session, Fail> {
-    let meta = meta(alloc)?;
-    Ok(Session::new(alloc, meta)?)
+/// What a file is told by: its length, and a sum of its bytes in which their order counts.
+pub type Seen = (usize, u64);
+
+fn seen(bytes: &[u8]) -> Seen {
+    let mut sum = 0u64;
+    for byte in bytes {
+        sum = sum.wrapping_mul(1_000_003).wrapping_add(u64::from(*byte));
+    }
+    (bytes.len(), sum)
 }
 
 // An emit with a counter of steps of its own.
@@ -46,25 +47,26 @@ fn counted<R: Threads + Sync, G: Gate, L: Ledger>(
     session.emit(forks, &mut steps)
 }
 
-/// The file of the sources in force.
-pub fn emitted_by<R: Threads + Sync, G: Gate>(
+// The file of the sources in force.
+fn emitted_by<R: Threads + Sync, G: Gate>(
     forks: &Forks<R, G>,
     session: &mut Session,
 ) -> Result<Emitted, EmitFault> {
     counted::<R, G, Brand>(forks, session, Blank::new(1))
 }
 
-/// The same, by four pieces.
-pub fn emitted<R: Threads + Sync>(
+/// An emit by four pieces.
+pub fn emit<R: Threads + Sync>(
     rt: &R,
     alloc: Global,
     session: &mut Session,
-) -> Result<Emitted, EmitFault> {
+) -> Result<Seen, EmitFault> {
     let forks = Forks {
         rt,
         alloc,
         gate: &OpenGate,
         pieces: 4,
     };
-    emitted_by(&forks, session)
+    let file = emitted_by(&forks, session)?;
+    Ok(seen(file.bytes.as_slice()))
 }

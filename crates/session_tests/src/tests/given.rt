@@ -21,33 +21,33 @@ pub enum Kind {
 }
 
 /// A source: its kind, its slot or URL, and its text.
-pub type Given<'a> = (Kind, &'a str, &'a str);
+pub type Given<'a> = (Kind, &'a str, &'a [u8]);
 
-fn fed(alloc: Global, slot: &str, text: &str) -> Result<DumpReader, SourceFault> {
+fn fed(alloc: Global, slot: &str, text: &[u8]) -> Result<DumpReader, SourceFault> {
     let mut reader = DumpReader::new(alloc, slot)?;
-    reader.feed(text.as_bytes())?;
+    reader.feed(text)?;
     Ok(reader)
 }
 
-fn dump(alloc: Global, slot: &str, text: &str) -> Result<Dump, SourceFault> {
+fn dump(alloc: Global, slot: &str, text: &[u8]) -> Result<Dump, SourceFault> {
     let reader = fed(alloc, slot, text)?;
     reader.finish()
 }
 
-fn set_dump(alloc: Global, session: &mut Session, slot: &str, text: &str) -> Result<(), Fail> {
+fn set_dump(alloc: Global, session: &mut Session, slot: &str, text: &[u8]) -> Result<(), Fail> {
     Ok(session.set_rpsl(dump(alloc, slot, text)?)?)
 }
 
-fn set_stats(alloc: Global, session: &mut Session, slot: &str, text: &str) -> Result<(), Fail> {
-    Ok(session.set_stats(read_stats(alloc, slot, text.as_bytes())?)?)
+fn set_stats(alloc: Global, session: &mut Session, slot: &str, text: &[u8]) -> Result<(), Fail> {
+    Ok(session.set_stats(read_stats(alloc, slot, text)?)?)
 }
 
-fn set_feed(alloc: Global, session: &mut Session, url: &str, text: &str) -> Result<(), Fail> {
-    Ok(session.set_feed(read_feed(alloc, url, text.as_bytes())?)?)
+fn set_feed(alloc: Global, session: &mut Session, url: &str, text: &[u8]) -> Result<(), Fail> {
+    Ok(session.set_feed(read_feed(alloc, url, text)?)?)
 }
 
-fn set_overrides(alloc: Global, session: &mut Session, text: &str) -> Result<(), Fail> {
-    Ok(session.set_overrides(read_overrides(alloc, text.as_bytes())?)?)
+fn set_overrides(alloc: Global, session: &mut Session, text: &[u8]) -> Result<(), Fail> {
+    Ok(session.set_overrides(read_overrides(alloc, text)?)?)
 }
 
 /// Sets a source.

@@ -8,52 +8,52 @@ use std::test::Fail;
 const OTHER: &str = "https://e.example/g.csv";
 
 /// References of `10.0.0.0/8`, `10.3.0.0/17` and `10.3.0.0/16` to the feed.
-const WIDE: &str = "\n\n\n\ninetnum: 10.0.0.0/8\ngeofeed: https://e.example/f.csv\n";
+const WIDE: &[u8] = b"\n\n\n\ninetnum: 10.0.0.0/8\ngeofeed: https://e.example/f.csv\n";
 
-const NARROW: &str = "\n\n\n\ninetnum: 10.3.0.0/17\ngeofeed: https://e.example/f.csv\n";
+const NARROW: &[u8] = b"\n\n\n\ninetnum: 10.3.0.0/17\ngeofeed: https://e.example/f.csv\n";
 
-const HERE: &str = "\n\n\n\ninetnum: 10.3.0.0/16\ngeofeed: https://e.example/f.csv\n";
+const HERE: &[u8] = b"\n\n\n\ninetnum: 10.3.0.0/16\ngeofeed: https://e.example/f.csv\n";
 
 /// One of `10.3.0.0/16` to the other feed, and the same on the second line.
-const THERE: &str = "\n\n\n\ninetnum: 10.3.0.0/16\ngeofeed: https://e.example/g.csv\n";
+const THERE: &[u8] = b"\n\n\n\ninetnum: 10.3.0.0/16\ngeofeed: https://e.example/g.csv\n";
 
-const ABOVE: &str = "inetnum: 10.3.0.0/16\ngeofeed: https://e.example/g.csv\n";
+const ABOVE: &[u8] = b"inetnum: 10.3.0.0/16\ngeofeed: https://e.example/g.csv\n";
 
 static CALLS: [&[Act]; 1] = [&[
-    Set(Stats, "x", "x|DE|ipv4|10.0.0.0|33554432||allocated\n"),
+    Set(Stats, "x", b"x|DE|ipv4|10.0.0.0|33554432||allocated\n"),
     Anew(1),
-    Set(Overrides, "", "10.0.0.0/8,set,FR\n"),
+    Set(Overrides, "", b"10.0.0.0/8,set,FR\n"),
     Anew(1),
-    Set(Overrides, "", "11.0.0.0/8,set,FR\n"),
+    Set(Overrides, "", b"11.0.0.0/8,set,FR\n"),
     Anew(2),
     Set(Rpsl, "r", WIDE),
     Anew(1),
-    Set(Feed, FEED, "10.2.0.0/16,AT,,,\n"),
+    Set(Feed, FEED, b"10.2.0.0/16,AT,,,\n"),
     Anew(1),
-    Set(Feed, FEED, "10.3.0.0/16,AT,,,\n"),
+    Set(Feed, FEED, b"10.3.0.0/16,AT,,,\n"),
     Anew(2),
     Set(Rpsl, "r", NARROW),
     Anew(2),
     // The same on another line.
-    Set(Overrides, "", "\n\n\n\n\n\n\n\n11.0.0.0/8,set,FR\n"),
+    Set(Overrides, "", b"\n\n\n\n\n\n\n\n11.0.0.0/8,set,FR\n"),
     Anew(0),
     Set(Rpsl, "r", THERE),
     Anew(2),
-    Set(Feed, OTHER, "10.3.4.0/24,,,,\n"),
+    Set(Feed, OTHER, b"10.3.4.0/24,,,,\n"),
     Anew(1),
-    Set(Stats, "y", "x|SE|ipv6|2001::|16||allocated\n"),
+    Set(Stats, "y", b"x|SE|ipv6|2001::|16||allocated\n"),
     Anew(1),
-    Set(Feed, OTHER, "10.3.4.0/24,NL,,,\n"),
+    Set(Feed, OTHER, b"10.3.4.0/24,NL,,,\n"),
     Anew(2),
-    Set(Feed, OTHER, "\n\n\n\n\n\n10.3.4.0/24,NL,,,\n"),
+    Set(Feed, OTHER, b"\n\n\n\n\n\n10.3.4.0/24,NL,,,\n"),
     Anew(0),
-    Set(Stats, "y", "#\n#\nx|SE|ipv6|2001::|16||allocated\n"),
+    Set(Stats, "y", b"#\n#\nx|SE|ipv6|2001::|16||allocated\n"),
     Anew(0),
-    Set(Stats, "y", "#\n#\nx|NO|ipv6|2001::|16||allocated\n"),
+    Set(Stats, "y", b"#\n#\nx|NO|ipv6|2001::|16||allocated\n"),
     Anew(2),
-    Set(Stats, "z", "x|CH|ipv6|2002:a00::|24||allocated\n"),
+    Set(Stats, "z", b"x|CH|ipv6|2002:a00::|24||allocated\n"),
     Anew(1),
-    Set(Overrides, "", "2000::/3,set,IT\n"),
+    Set(Overrides, "", b"2000::/3,set,IT\n"),
     Anew(2),
     Set(Rpsl, "s", HERE),
     Anew(1),
@@ -61,21 +61,21 @@ static CALLS: [&[Act]; 1] = [&[
     Anew(0),
     Drop(Feed, FEED),
     Anew(1),
-    Set(Feed, FEED, "10.3.0.0/16,BE,,,\n"),
+    Set(Feed, FEED, b"10.3.0.0/16,BE,,,\n"),
     Anew(1),
     Drop(Overrides, ""),
     Anew(1),
     Drop(Rpsl, "r"),
     Anew(1),
-    Set(Stats, "x", "x|DE|ipv4|10.0.0.0|16777216||allocated\n"),
+    Set(Stats, "x", b"x|DE|ipv4|10.0.0.0|16777216||allocated\n"),
     Anew(2),
-    Set(Stats, "x", "x|DE|ipv4|10.0.0.0|16777216||allocated\n"),
+    Set(Stats, "x", b"x|DE|ipv4|10.0.0.0|16777216||allocated\n"),
     Anew(0),
     Drop(Stats, "x"),
     Anew(1),
     Drop(Feed, OTHER),
     Anew(1),
-    Set(Overrides, "", "0.0.0.0/0,set,ES\n"),
+    Set(Overrides, "", b"0.0.0.0/0,set,ES\n"),
     Anew(1),
     Drop(Rpsl, "s"),
     Anew(1),

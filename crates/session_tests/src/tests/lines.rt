@@ -1,6 +1,6 @@
 //! Sources of many lines, which may go round.
 use crate::tests::given::{FEED, Kind, set};
-use std::alloc::{AllocError, Global};
+use std::alloc::Global;
 use std::test::Fail;
 use update_session::Session;
 
@@ -15,25 +15,70 @@ pub enum Shape {
     Blocks,
 }
 
+fn push_all(text: &mut Vec<u8>, parts: &[&[u8]]) -> Result<(), Fail> {
+    for part in parts {
+        text.extend_from_slice(part)?;
+    }
+    Ok(())
+}
+
+// The last digit of a number.
+fn digit(number: u8) -> u8 {
+    b'0' + number % 10
+}
+
+fn push_number(text: &mut Vec<u8>, number: u8) -> Result<(), Fail> {
+    if number >= 100 {
+        text.push(digit(number / 100))?;
+    }
+    if number >= 10 {
+        text.push(digit(number / 10))?;
+    }
+    text.push(digit(number))?;
+    Ok(())
+}
+
+fn push_network(text: &mut Vec<u8>, number: u8, code: &[u8]) -> Result<(), Fail> {
+    push_number(text, number)?;
+    push_all(text, &[b".0.0.0/8,set,", code, b"\n"])
+}
+
+fn push_reference(text: &mut Vec<u8>, number: u8) -> Result<(), Fail> {
+    text.extend_from_slice(b"inetnum: ")?;
+    push_number(text, number)?;
+    push_all(text, &[b".0.0.0/8\ngeofeed: ", FEED.as_bytes(), b"\n\n"])
+}
+
+fn push_block(text: &mut Vec<u8>, third: u8, fourth: u8, code: &[u8]) -> Result<(), Fail> {
+    text.extend_from_slice(b"10.0.")?;
+    push_number(text, third)?;
+    text.push(b'.')?;
+    push_number(text, fourth)?;
+    push_all(text, &[b"/28,", code, b",,,\n"])
+}
+
 // The line of a number.
-fn line(alloc: Global, shape: Shape, at: u64, code: &str) -> Result<String, AllocError> {
-    let (next, third, fourth) = (at % 64 + 1, at / 16, at % 16 * 16);
+fn push_line(text: &mut Vec<u8>, shape: Shape, at: u32, code: &[u8]) -> Result<(), Fail> {
     match shape {
-        Shape::Networks => format!(in alloc; "{next}.0.0.0/8,set,{code}\n"),
-        Shape::References => format!(in alloc; "inetnum: {next}.0.0.0/8\ngeofeed: {FEED}\n\n"),
-        Shape::Blocks => format!(in alloc; "10.0.{third}.{fourth}/28,{code},,,\n"),
+        Shape::Networks => push_network(text, (at % 64 + 1) as u8, code),
+        Shape::References => push_reference(text, (at % 64 + 1) as u8),
+        Shape::Blocks => push_block(text, (at / 16 % 256) as u8, (at % 16 * 16) as u8, code),
     }
 }
 
 // So many lines from a number on, going round. All are of one country but that of the number 0.
-fn lines(alloc: Global, shape: Shape, count: u32, first: &str, round: u32) -> Result<String, Fail> {
-    let mut text = String::new(alloc);
-    for n in 0..u64::from(count) {
-        let at = (n + u64::from(round)) % u64::from(count);
-        let code = if at == 0 { first } else { "FR" };
-        text.push_str(line(alloc, shape, at, code)?.as_str())?;
+fn push_lines(
+    text: &mut Vec<u8>,
+    shape: Shape,
+    count: u32,
+    first: &[u8],
+    round: u32,
+) -> Result<(), Fail> {
+    for n in 0..count {
+        let at = n.wrapping_add(round) % count;
+        push_line(text, shape, at, if at == 0 { first } else { b"FR" })?;
     }
-    Ok(text)
+    Ok(())
 }
 
 /// Sets the source of a shape, with the country of its first line, and gone round by so many.
@@ -49,6 +94,7 @@ pub fn set_lines(
         Shape::References => (Kind::Rpsl, "many", 64),
         Shape::Blocks => (Kind::Feed, FEED, 1000),
     };
-    let text = lines(alloc, shape, count, first, round)?;
-    set(alloc, session, (kind, name, text.as_str()))
+    let mut text = Vec::new(alloc);
+    push_lines(&mut text, shape, count, first.as_bytes(), round)?;
+    set(alloc, session, (kind, name, text.as_slice()))
 }

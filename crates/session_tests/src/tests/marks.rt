@@ -1,20 +1,20 @@
 //! Marks, going back to them, and compaction.
-use crate::tests::acts::Act::{self, Anew, Back, Compact, Drop, Emit, Mark, Set, Unmarked};
+use crate::tests::acts::Act::{self, Again, Anew, Back, Compact, Drop, Emit, Mark, Set, Unmarked};
 use crate::tests::acts::first_wrong_job;
 use crate::tests::given::Kind::Stats;
 use std::test::Fail;
 
 /// Half of the IPv4 addresses.
-const HALF: &str = "x|DE|ipv4|128.0.0.0|2147483648||allocated\n";
+const HALF: &[u8] = b"x|DE|ipv4|128.0.0.0|2147483648||allocated\n";
 
-const FRENCH_HALF: &str = "x|FR|ipv4|128.0.0.0|2147483648||allocated\n";
+const FRENCH_HALF: &[u8] = b"x|FR|ipv4|128.0.0.0|2147483648||allocated\n";
 
 /// 256 addresses.
-const NET: &str = "x|DE|ipv4|192.0.2.0|256||allocated\n";
+const NET: &[u8] = b"x|DE|ipv4|192.0.2.0|256||allocated\n";
 
-const AUSTRIAN_NET: &str = "x|AT|ipv4|192.0.2.0|256||allocated\n";
+const AUSTRIAN_NET: &[u8] = b"x|AT|ipv4|192.0.2.0|256||allocated\n";
 
-static MARKED: [&[Act]; 8] = [
+static MARKED: [&[Act]; 9] = [
     &[
         Set(Stats, "x", HALF),
         Emit(985),
@@ -83,6 +83,9 @@ static MARKED: [&[Act]; 8] = [
         Anew(2),
     ],
     &[Unmarked("m"), Mark("m"), Unmarked("n"), Back("m")],
+    // Where an allocation of the first emit fails (`rt try --test --fail-alloc N`) the second
+    // gives the file.
+    &[Set(Stats, "x", HALF), Again(985)],
 ];
 
 // The table, by a function of its own, so that its length stands in no other proof.

@@ -1,20 +1,16 @@
 //! What pieces side by side leave and do not leave.
 ghost use Rattle.std.specs.Prelude.{◌<◌, ◌≤◌};
 
-use crate::tests::emits::{begun, emitted_by};
-use crate::tests::given::Kind::Overrides;
-use crate::tests::given::set;
-use crate::tests::lines::Shape::Networks;
-use crate::tests::lines::set_lines;
-use fan_work::Forks;
+use crate::tests::emits::{Seen, begun, emit_by};
 use geo_outside::{Gate, OpenGate};
+use override_rows::read_overrides;
 use std::alloc::Global;
 use std::marker::Sync;
 use std::sync::atomic::{AtomicU64, Ordering};
 use std::test::Fail;
 use std::thread;
 use std::thread::Threads;
-use update_session::{EmitFault, Session};
+use update_session::Session;
 
 /// A gate with a flag for each piece.
 #[derive(Drop)]
@@ -62,69 +58,79 @@ impl Gate for Meeting {
     }
 }
 
-// The bytes of an emit by so many pieces.
-fn bytes_by<R: Threads + Sync, G: Gate>(
-    rt: &R,
-    alloc: Global,
-    gate: &G,
-    session: &mut Session,
-    pieces: u32,
-) -> Result<Vec<u8>, EmitFault>
-    requires some { 0 < pieces }
-    requires few { pieces ≤ 64 }
-{
-    let forks = Forks {
-        rt,
-        alloc,
-        gate,
-        pieces,
-    };
-    Ok(emitted_by(&forks, session)?.bytes)
+fn set_overrides(alloc: Global, session: &mut Session, text: &[u8]) -> Result<(), Fail> {
+    Ok(session.set_overrides(read_overrides(alloc, text)?)?)
 }
 
-// How many flags an emit by 64 pieces sets.
-fn flags_of<R: Threads + Sync>(
-    rt: &R,
-    alloc: Global,
-    session: &mut Session,
-) -> Result<u32, EmitFault> {
-    let gate = Flags {
-        came: AtomicU64::new(0),
-    };
-    bytes_by(rt, alloc, &gate, session, 64)?;
-    Ok(gate.count())
+// The line of a network `N.0.0.0/8`, where N has these two digits.
+fn push_network(digits: &[u8], code: &[u8], text: &mut Vec<u8>) -> Result<(), Fail> {
+    text.extend_from_slice(digits)?;
+    text.extend_from_slice(b".0.0.0/8,set,")?;
+    text.extend_from_slice(code)?;
+    text.extend_from_slice(b"\n")?;
+    Ok(())
 }
 
-// The same after the overrides of 64 networks were set, of which the first has this country.
+// Eight networks whose N begins with this digit, the first of which has a country of its own.
+fn push_eight(digit: u8, first: &[u8], text: &mut Vec<u8>) -> Result<(), Fail> {
+    for last in b"01234567".as_slice() {
+        let code = if *last == b'0' { first } else { b"FR" };
+        push_network(&[digit, *last], code, text)?;
+    }
+    Ok(())
+}
+
+// 64 networks, the first of which has a country of its own.
+fn push_networks(first: &[u8], text: &mut Vec<u8>) -> Result<(), Fail> {
+    for digit in b"12345678".as_slice() {
+        let code = if *digit == b'1' { first } else { b"FR" };
+        push_eight(*digit, code, text)?;
+    }
+    Ok(())
+}
+
+fn set_networks(alloc: Global, session: &mut Session, first: &[u8]) -> Result<(), Fail> {
+    let mut text = Vec::new(alloc);
+    push_networks(first, &mut text)?;
+    set_overrides(alloc, session, text.as_slice())
+}
+
+// How many flags an emit by 64 pieces sets, after the overrides of 64 networks were set.
 fn flags_of_networks<R: Threads + Sync>(
     rt: &R,
     alloc: Global,
     session: &mut Session,
-    first: &str,
+    first: &[u8],
 ) -> Result<u32, Fail> {
-    set_lines(alloc, session, Networks, first, 0)?;
-    Ok(flags_of(rt, alloc, session)?)
+    set_networks(alloc, session, first)?;
+    let gate = Flags {
+        came: AtomicU64::new(0),
+    };
+    emit_by(rt, alloc, &gate, session, 64)?;
+    Ok(gate.count())
 }
 
 // Of the second emit one network alone has changed.
 #[test]
 fn each_piece_with_segments_enters(rt: HostRuntime) -> Result<(), Fail> {
     let mut session = begun(rt.alloc())?;
-    assert!(rt; flags_of_networks(&rt, rt.alloc(), &mut session, "FR")? == 64);
-    let second = flags_of_networks(&rt, rt.alloc(), &mut session, "DE")?;
+    assert!(rt; flags_of_networks(&rt, rt.alloc(), &mut session, b"FR")? == 64);
+    let second = flags_of_networks(&rt, rt.alloc(), &mut session, b"DE")?;
     assert!(rt; matches!(second, 1..=3));
     Ok(())
 }
 
+static TWO_ROWS: &[u8] = b"10.0.0.0/8,set,FR\n12.0.0.0/8,set,DE\n";
+
 // The text, by a function of its own, so that its letters stand in no other proof.
-fn two_rows() -> &'static str {
-    "10.0.0.0/8,set,FR\n12.0.0.0/8,set,DE\n"
+fn two_rows() -> &'static [u8] {
+    TWO_ROWS
 }
 
 // A session with overrides of two networks.
 fn two_networks(alloc: Global) -> Result<Session, Fail> {
     let mut session = begun(alloc)?;
-    set(alloc, &mut session, (Overrides, "", two_rows()))?;
+    set_overrides(alloc, &mut session, two_rows())?;
     Ok(session)
 }
 
@@ -134,12 +140,12 @@ fn file_by<R: Threads + Sync, G: Gate>(
     alloc: Global,
     gate: &G,
     pieces: u32,
-) -> Result<Vec<u8>, Fail>
+) -> Result<Seen, Fail>
     requires some { 0 < pieces }
     requires few { pieces ≤ 64 }
 {
     let mut session = two_networks(alloc)?;
-    Ok(bytes_by(rt, alloc, gate, &mut session, pieces)?)
+    Ok(emit_by(rt, alloc, gate, &mut session, pieces)?)
 }
 
 // How many pieces met while that file was written by two.
@@ -155,16 +161,14 @@ fn meetings<R: Threads + Sync>(rt: &R, alloc: Global) -> Result<u64, Fail> {
 
 #[test]
 fn two_pieces_meet(rt: HostRuntime) -> Result<(), Fail> {
-    assert_eq!(rt; meetings(&rt, rt.alloc())?, 2);
+    assert!(rt; meetings(&rt, rt.alloc())? == 2);
     Ok(())
 }
 
 #[test]
 fn pieces_change_no_byte(rt: HostRuntime) -> Result<(), Fail> {
     let one = file_by(&rt, rt.alloc(), &OpenGate, 1)?;
-    for pieces in [3, 64] {
-        let file = file_by(&rt, rt.alloc(), &OpenGate, pieces)?;
-        assert!(rt; file.as_slice() == one.as_slice());
-    }
+    assert!(rt; file_by(&rt, rt.alloc(), &OpenGate, 3)? == one);
+    assert!(rt; file_by(&rt, rt.alloc(), &OpenGate, 64)? == one);
     Ok(())
 }

@@ -8,9 +8,9 @@ use std::test::Fail;
 
 const TOP_V4: u128 = 0xFFFF_FFFF;
 
-const FEED: &str = "https://e.example/f.csv";
+const FEED: &str = "f";
 
-const OTHER: &str = "https://e.example/g.csv";
+const OTHER: &str = "g";
 
 // A reference of a range, in a slot and on a line that tell it apart.
 fn reference(
@@ -103,14 +103,14 @@ fn smallest() -> &'static [SmallestRow] {
     &SMALLEST
 }
 
-#[test]
-fn smallest_then_latest_then_slot(rt: HostRuntime) -> Result<(), Fail> {
-    let alloc = rt.alloc();
-    let index = index(alloc)?;
+// The first row of the table that the index answers otherwise.
+fn first_wrong_address(index: &Index) -> Option<usize> {
     for (at, row) in smallest().iter().enumerate() {
-        assert!(rt; best_line(&index, row.0) == row.1, "row {at}");
+        if best_line(index, row.0) != row.1 {
+            return Some(at);
+        }
     }
-    Ok(())
+    None
 }
 
 // The line of the reference that covers a block; 0 where none does, and where the two calls differ.
@@ -137,29 +137,35 @@ static COVERED: [CoveredRow; 11] = [
     (OTHER, "10.0.0.8/30", 4),
     (OTHER, "0.0.0.1/32", 0),
     (OTHER, "::/0", 10),
-    ("https://e.example/h.csv", "192.0.2.0/25", 0),
+    ("h", "192.0.2.0/25", 0),
 ];
 
 fn covered() -> &'static [CoveredRow] {
     &COVERED
 }
 
-#[test]
-fn covered_by_the_first_that_contains(rt: HostRuntime) -> Result<(), Fail> {
-    let alloc = rt.alloc();
-    let index = index(alloc)?;
+fn first_wrong_block(index: &Index) -> Result<Option<usize>, Fail> {
     for (at, row) in covered().iter().enumerate() {
-        assert!(rt; covering_line(&index, row.0, row.1)? == row.2, "row {at}");
+        if covering_line(index, row.0, row.1)? != row.2 {
+            return Ok(Some(at));
+        }
     }
+    Ok(None)
+}
+
+// By size, then date, then slot; and by the first that contains a block.
+#[test]
+fn best_and_covering(rt: HostRuntime) -> Result<(), Fail> {
+    let index = index(rt.alloc())?;
+    assert!(rt; first_wrong_address(&index).is_none());
+    assert!(rt; first_wrong_block(&index)?.is_none());
     Ok(())
 }
 
 // The next of a row of numbers that look random.
 fn next(number: &mut u64) -> u64 {
-    *number = number
-        .wrapping_mul(6_364_136_223_846_793_005)
-        .wrapping_add(1_442_695_040_888_963_407);
-    *number >> 33
+    *number = number.wrapping_mul(48_271) % 2_147_483_647;
+    *number
 }
 
 // Many references whose ranges nest, overlap and repeat, on both sides
@@ -168,11 +174,11 @@ fn made(alloc: Global, count: u64) -> Result<Vec<Reference>, Fail> {
     let mut number = 1;
     let mut refs = Vec::new(alloc);
     for line in 0..count {
-        let low = u128::from(next(&mut number) & 0xFFF);
+        let low = u128::from(next(&mut number) % 4096);
         let first = (TOP_V4 - 0x800).wrapping_add(low);
-        let size = u128::from(next(&mut number) & 0x3F);
+        let size = u128::from(next(&mut number) % 64);
         let last = first.saturating_add(size);
-        let modified = next(&mut number) & 3;
+        let modified = next(&mut number) % 4;
         refs.push(reference(alloc, ("a", line), (first, last), modified, FEED)?)?;
     }
     Ok(refs)
@@ -182,14 +188,20 @@ fn plain_line(refs: &[Reference], number: u128) -> u64 {
     line_of(first_at(refs, Addr(number), None))
 }
 
-#[test]
-fn as_the_plain_look_up(rt: HostRuntime) -> Result<(), Fail> {
-    let alloc = rt.alloc();
-    let refs = made(alloc, 2000)?;
-    let index = Index::build(alloc, made(alloc, 2000)?)?;
+fn first_unlike(index: &Index, refs: &[Reference]) -> Option<u32> {
     for step in 0..600 {
         let at = (TOP_V4 - 0x900) + u128::from(step * 8u32);
-        assert!(rt; best_line(&index, at) == plain_line(refs.as_slice(), at));
+        if best_line(index, at) != plain_line(refs, at) {
+            return Some(step);
+        }
     }
+    None
+}
+
+#[test]
+fn as_the_plain_look_up(rt: HostRuntime) -> Result<(), Fail> {
+    let refs = made(rt.alloc(), 2000)?;
+    let index = Index::build(rt.alloc(), made(rt.alloc(), 2000)?)?;
+    assert!(rt; first_unlike(&index, refs.as_slice()).is_none());
     Ok(())
 }

@@ -1,5 +1,6 @@
 //! Rests of lines, their contents, and which are handed to the `csv` reader.
 use csv_lines::{Content, all_handed, content_of, rest_of};
+use std::alloc::Global;
 use std::test::Fail;
 
 type RestRow = (&'static [u8], &'static [u8], Content);
@@ -34,19 +35,33 @@ fn has_content(row: &RestRow) -> bool {
 #[test]
 fn rests_and_contents(rt: HostRuntime) {
     for (at, row) in rests().iter().enumerate() {
-        assert!(rt; has_rest(row), "row {at}");
-        assert!(rt; has_content(row), "row {at}");
+        assert!(rt; has_rest(row) && has_content(row), "row {at}");
     }
+}
+
+// A file, and what of it is handed over.
+type HandedRow = (&'static [u8], &'static [u8]);
+
+static HANDED: [HandedRow; 2] = [
+    (
+        b"\xEF\xBB\xBF\"a\",b\r\n#\n\xEF\xBB\xBF\"c\"\"\", d \n \"c\"\"\", d \nx\"\n,\n\"\xFF\"\n",
+        b"\n\"a\",b\n\"c\"\"\", d\n",
+    ),
+    (b"a,b\nc\n", b"\n"),
+];
+
+fn handed() -> &'static [HandedRow] {
+    &HANDED
+}
+
+fn hands(alloc: Global, row: &HandedRow) -> Result<bool, Fail> {
+    Ok(all_handed(alloc, row.0)?.as_slice() == row.1)
 }
 
 #[test]
 fn rests_with_quotes_are_handed_over(rt: HostRuntime) -> Result<(), Fail> {
-    let alloc = rt.alloc();
-    let file: &[u8] =
-        b"\xEF\xBB\xBF\"a\",b\r\n#\n\xEF\xBB\xBF\"c\"\"\", d \n \"c\"\"\", d \nx\"\n,\n\"\xFF\"\n";
-    let handed = all_handed(alloc, file)?;
-    assert!(rt; handed.as_slice() == b"\n\"a\",b\n\"c\"\"\", d\n".as_slice());
-    let handed = all_handed(alloc, b"a,b\nc\n")?;
-    assert!(rt; handed.as_slice() == b"\n".as_slice());
+    for row in handed() {
+        assert!(rt; hands(rt.alloc(), row)?);
+    }
     Ok(())
 }

@@ -1,0 +1,255 @@
+//! The grounds that an old and a new source of each kind differ on.
+use crate::tests::{feeds, overrides};
+use geo_addr::{Range, Text};
+use geo_terms::{Delegation, Reference, Stats};
+use nro_stats::read_stats;
+use source_changes::{Compared, changed_grounds, keep_all};
+use std::alloc::Global;
+use std::test::Fail;
+
+// A reference: its line, first and last address, date, and whether its URL is the first one.
+type Row = (u64, u128, u128, u64, bool);
+
+const FIRST: &str = "a";
+
+const OTHER: &str = "b";
+
+const A: Row = (1, 10, 19, 7, true);
+
+const A_ON_LINE_9: Row = (9, 10, 19, 7, true);
+
+const A_LATER: Row = (1, 10, 19, 8, true);
+
+const A_ELSEWHERE: Row = (1, 10, 19, 7, false);
+
+const B: Row = (2, 20, 29, 7, true);
+
+const B_ON_LINE_1: Row = (1, 20, 29, 7, true);
+
+const C: Row = (3, 15, 24, 7, true);
+
+const BOTH_FAMILIES: Row = (4, 5, 1 << 33, 7, true);
+
+fn reference(alloc: Global, row: &Row) -> Result<Reference, Fail> {
+    let (line, first, last, modified, is_first) = *row;
+    if first > last {
+        return Err(Fail::from("no range"));
+    }
+    Ok(Reference {
+        slot: Text::of(alloc, "ripe")?,
+        line,
+        range: Range { first, last },
+        modified,
+        url: Text::of(alloc, if is_first { FIRST } else { OTHER })?,
+    })
+}
+
+fn references(alloc: Global, rows: &[Row]) -> Result<Vec<Reference>, Fail> {
+    let mut references = Vec::new(alloc);
+    for row in rows {
+        references.push(reference(alloc, row)?)?;
+    }
+    Ok(references)
+}
+
+// The first and the last address of grounds, and how many there are of these.
+type Grounds = (u128, u128, usize);
+
+fn count_of(grounds: &[Range], wanted: &Grounds) -> usize {
+    let mut count = 0usize;
+    for ground in grounds {
+        if ground.first == wanted.0 && ground.last == wanted.1 {
+            count = count.wrapping_add(1);
+        }
+    }
+    count
+}
+
+// Whether these are the grounds, and no others.
+fn are_those(grounds: &[Range], wanted: &[Grounds]) -> bool {
+    let mut left = grounds.len();
+    for row in wanted {
+        if count_of(grounds, row) != row.2 {
+            return false;
+        }
+        left = left.wrapping_sub(row.2);
+    }
+    left == 0
+}
+
+// Whether these grounds changed.
+fn differ<S: Compared>(
+    alloc: Global,
+    old: &[S],
+    new: &[S],
+    wanted: &[Grounds],
+) -> Result<bool, Fail> {
+    let grounds = changed_grounds(alloc, old, new)?;
+    Ok(are_those(grounds.as_slice(), wanted))
+}
+
+type PartnerRow = (&'static [Row], &'static [Row], &'static [Grounds]);
+
+static PARTNERS: [PartnerRow; 12] = [
+    (&[], &[], &[]),
+    (&[A, B], &[A, B], &[]),
+    (&[A, B], &[B_ON_LINE_1, A_ON_LINE_9], &[]),
+    (&[A, C, B], &[A_ON_LINE_9, B], &[(15, 24, 1)]),
+    (&[A, B], &[A, A_LATER, B], &[(10, 19, 1)]),
+    (&[A, A, B], &[B, A], &[(10, 19, 1)]),
+    (&[A, A_LATER], &[A_LATER, A_LATER, A_LATER], &[(10, 19, 3)]),
+    (&[A, C], &[A_ELSEWHERE, C], &[(10, 19, 2)]),
+    (&[], &[B, A], &[(10, 19, 1), (20, 29, 1)]),
+    (&[C, A], &[], &[(10, 19, 1), (15, 24, 1)]),
+    (&[A, C, B], &[A_LATER, C, B, B], &[(10, 19, 2), (20, 29, 1)]),
+    (&[A, BOTH_FAMILIES], &[A], &[(1 << 32, 1 << 33, 1)]),
+];
+
+fn partners() -> &'static [PartnerRow] {
+    &PARTNERS
+}
+
+fn references_differ(alloc: Global, row: &PartnerRow) -> Result<bool, Fail> {
+    let old = references(alloc, row.0)?;
+    let new = references(alloc, row.1)?;
+    differ(alloc, old.as_slice(), new.as_slice(), row.2)
+}
+
+#[test]
+fn references_without_a_partner(rt: HostRuntime) -> Result<(), Fail> {
+    for (at, row) in partners().iter().enumerate() {
+        assert!(rt; references_differ(rt.alloc(), row)?, "row {at}");
+    }
+    Ok(())
+}
+
+enum Kind {
+    Overrides,
+    Feed,
+    Stats,
+}
+
+// A kind, an old and a new source of it, and the grounds on which they differ. The first word is
+// the slot of the new statistics, where the old ones have `ripe`.
+type SourceRow = (
+    Kind,
+    &'static str,
+    &'static [u8],
+    &'static [u8],
+    &'static [Grounds],
+);
+
+const DELEGATION: &[u8] = b"x|DE|ipv4|0.0.0.1|2||allocated";
+
+static SOURCES: [SourceRow; 9] = [
+    (
+        Kind::Overrides,
+        "",
+        b"0.0.0.1-0.0.0.2,void",
+        b"\n0.0.0.1-0.0.0.2,void",
+        &[],
+    ),
+    (
+        Kind::Overrides,
+        "",
+        b"0.0.0.1-0.0.0.2,set,,,Ulm",
+        b"\n0.0.0.1-0.0.0.2,set,,,Ulm",
+        &[],
+    ),
+    (
+        Kind::Overrides,
+        "",
+        b"0.0.0.1-0.0.0.2,set,,,Ulm",
+        b"\n0.0.0.1-0.0.0.2,set,,,Bonn",
+        &[(1, 2, 2)],
+    ),
+    (
+        Kind::Overrides,
+        "",
+        b"0.0.0.1-0.0.0.2,void",
+        b"\n0.0.0.1-0.0.0.2,set,,,Ulm",
+        &[(1, 2, 2)],
+    ),
+    (
+        Kind::Overrides,
+        "",
+        b"0.0.0.1-0.0.0.2,set,,,Ulm",
+        b"\n0.0.0.1-0.0.0.2,void",
+        &[(1, 2, 2)],
+    ),
+    (
+        Kind::Feed,
+        "",
+        b"10.0.0.0/8,DE\n10.0.0.0/24,DE\n10.0.1.0/24,FR",
+        b"10.0.1.0/24,FR\n10.0.0.0/25,DE\n10.0.0.0/8,DE",
+        &[(0x0A00_0000, 0x0A00_007F, 1), (0x0A00_0000, 0x0A00_00FF, 1)],
+    ),
+    (
+        Kind::Stats,
+        "ripe",
+        DELEGATION,
+        b"\nx|DE|ipv4|0.0.0.1|2||allocated",
+        &[],
+    ),
+    (
+        Kind::Stats,
+        "ripe",
+        DELEGATION,
+        b"\nx|FR|ipv4|0.0.0.1|2||allocated",
+        &[(1, 2, 2)],
+    ),
+    (
+        Kind::Stats,
+        "arin",
+        DELEGATION,
+        b"\nx|DE|ipv4|0.0.0.1|2||allocated",
+        &[(1, 2, 2)],
+    ),
+];
+
+fn sources() -> &'static [SourceRow] {
+    &SOURCES
+}
+
+fn overrides_differ(alloc: Global, row: &SourceRow) -> Result<bool, Fail> {
+    let old = overrides::read(alloc, row.2)?;
+    let new = overrides::read(alloc, row.3)?;
+    differ(alloc, old.rows.as_slice(), new.rows.as_slice(), row.4)
+}
+
+fn feeds_differ(alloc: Global, row: &SourceRow) -> Result<bool, Fail> {
+    let old = feeds::read(alloc, row.2)?;
+    let new = feeds::read(alloc, row.3)?;
+    differ(alloc, old.entries.as_slice(), new.entries.as_slice(), row.4)
+}
+
+fn delegations(alloc: Global, slot: &str, file: &[u8]) -> Result<Stats, Fail> {
+    Ok(read_stats(alloc, slot, file)?)
+}
+
+fn keep(rows: &[Delegation]) {
+    keep_all(rows);
+}
+
+fn stats_differ(alloc: Global, row: &SourceRow) -> Result<bool, Fail> {
+    let old = delegations(alloc, "ripe", row.2)?;
+    let new = delegations(alloc, row.1, row.3)?;
+    keep(new.rows.as_slice());
+    differ(alloc, old.rows.as_slice(), new.rows.as_slice(), row.4)
+}
+
+fn sources_differ(alloc: Global, row: &SourceRow) -> Result<bool, Fail> {
+    match row.0 {
+        Kind::Overrides => overrides_differ(alloc, row),
+        Kind::Feed => feeds_differ(alloc, row),
+        Kind::Stats => stats_differ(alloc, row),
+    }
+}
+
+#[test]
+fn sources_by_what_they_say(rt: HostRuntime) -> Result<(), Fail> {
+    for (at, row) in sources().iter().enumerate() {
+        assert!(rt; sources_differ(rt.alloc(), row)?, "row {at}");
+    }
+    Ok(())
+}

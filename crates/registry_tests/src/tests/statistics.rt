@@ -1,0 +1,263 @@
+//! Statistics files: delegations, notes, and which delegation decides.
+use fan_work::Forks;
+use geo_addr::Addr;
+use geo_outside::OpenGate;
+use geo_terms::plain::{AllSources, spoken_at};
+use geo_terms::{Delegation, Note, Origin, Stats};
+use nro_stats::{read_stats, read_stats_by_parts};
+use std::alloc::Global;
+use std::test::Fail;
+
+// A file, the line of its only delegation, and the ends of the range.
+type DelegationRow = (&'static [u8], u64, u128, u128);
+
+static DELEGATIONS: [DelegationRow; 13] = [
+    (
+        b"x|DE|ipv4|192.0.2.0|768||allocated",
+        1,
+        0xC000_0200,
+        0xC000_04FF,
+    ),
+    (
+        b"x|DE|ipv4|192.0.1.0|512||assigned",
+        1,
+        0xC000_0100,
+        0xC000_02FF,
+    ),
+    (
+        b"x|DE|ipv4|255.255.255.255|1||allocated",
+        1,
+        0xFFFF_FFFF,
+        0xFFFF_FFFF,
+    ),
+    (
+        b"x|DE|ipv4|0.0.0.0|4294967296||allocated",
+        1,
+        0,
+        0xFFFF_FFFF,
+    ),
+    (
+        b"x|DE|ipv4|10.0.0.0|0000000256||allocated",
+        1,
+        0x0A00_0000,
+        0x0A00_00FF,
+    ),
+    (
+        b"x|de|ipv6|2001:db8::|32||allocated",
+        1,
+        0x2001_0DB8 << 96,
+        (0x2001_0DB9 << 96) - 1,
+    ),
+    (b"x|DE|ipv6|::|95||allocated", 1, 0, (1 << 33) - 1),
+    (
+        b"x | DE |ipv4|\t10.0.0.0 |256||allocated|A1|e-stats",
+        1,
+        0x0A00_0000,
+        0x0A00_00FF,
+    ),
+    (
+        b"#\r\n\r\nx|DE|ipv4|10.0.0.0|256||allocated\r\n",
+        3,
+        0x0A00_0000,
+        0x0A00_00FF,
+    ),
+    (
+        b"2.3|nro|20240301\nx|DE|ipv4|10.0.0.0|256||allocated\n",
+        2,
+        0x0A00_0000,
+        0x0A00_00FF,
+    ),
+    (
+        b"x|DE|ipv4|10.0.0.0|256||allocated\nnro|*|ipv4|*|4|summary\n",
+        1,
+        0x0A00_0000,
+        0x0A00_00FF,
+    ),
+    (
+        b"x|DE|asn|64496|1||allocated\nx||ipv4|x|y||available\nx|DE|ipv4|10.0.0.0|256||allocated",
+        3,
+        0x0A00_0000,
+        0x0A00_00FF,
+    ),
+    (
+        b"\xEF\xBB\xBF2\nx|DE|ipv4|10.0.0.0|256||allocated",
+        2,
+        0x0A00_0000,
+        0x0A00_00FF,
+    ),
+];
+
+fn delegations() -> &'static [DelegationRow] {
+    &DELEGATIONS
+}
+
+// Whether this is the only delegation.
+fn are_one(rows: &[Delegation], row: &DelegationRow) -> bool {
+    match rows {
+        [found] => {
+            found.line == row.1 && found.range.first == row.2 && found.range.last == row.3
+        }
+        _ => false,
+    }
+}
+
+fn says_one(alloc: Global, row: &DelegationRow) -> Result<bool, Fail> {
+    let stats = read_stats(alloc, "x", row.0)?;
+    Ok(are_one(stats.rows.as_slice(), row) && stats.notes.as_slice().is_empty())
+}
+
+#[test]
+fn one_delegation(rt: HostRuntime) -> Result<(), Fail> {
+    for (at, row) in delegations().iter().enumerate() {
+        assert!(rt; says_one(rt.alloc(), row)?, "row {at}");
+    }
+    Ok(())
+}
+
+// A file, the line of its only note, and the code of the rule.
+type RuleRow = (&'static [u8], u64, &'static [u8]);
+
+static RULES: [RuleRow; 17] = [
+    (b"x|DE|ipv4|255.255.255.255|2||allocated", 1, b"S05"),
+    (b"x|DE|ipv4|0.0.0.1|4294967296||allocated", 1, b"S05"),
+    (
+        b"x|DE|ipv4|10.0.0.0|256||allocated\nx|ZZ|ipv4|10.0.1.0|256||allocated\n",
+        2,
+        b"S06",
+    ),
+    (
+        b"x|ZZ|ipv4|10.0.1.0|256||allocated\nx|DE|ipv4|10.0.0.0|256||allocated\n",
+        1,
+        b"S06",
+    ),
+    (b"x|zz|ipv4|10.0.1.0|256||allocated", 1, b"S06"),
+    (b"x||ipv4|10.0.1.0|256||allocated", 1, b"S06"),
+    (b"x|DE|ipv4|10.0.0.0|256|", 1, b"S01"),
+    (b" #", 1, b"S01"),
+    (b"2.|DE|IPV4|x|0||held", 1, b"S02"),
+    (b"x|ZZ|ipv4|x|0||Allocated", 1, b"S03"),
+    (b"x|ZZ|ipv4|::1|0||allocated", 1, b"S04"),
+    (b"x|ZZ|ipv6|10.0.0.0|32||allocated", 1, b"S04"),
+    (b"x|ZZ|ipv4|10.0.0.0|0||allocated", 1, b"S07"),
+    (b"x|ZZ|ipv6|::1.2.3.0|120||allocated", 1, b"S07"),
+    (b"x|DE|ipv6|::|96||allocated", 1, b"S07"),
+    (b"x|DE|ipv6|2001:db8::1|32||allocated", 1, b"S07"),
+    (b"x|DE|ipv6|2001:db8::|129||allocated", 1, b"S07"),
+];
+
+fn rules() -> &'static [RuleRow] {
+    &RULES
+}
+
+fn is_of_the_slot(origin: &Origin) -> bool {
+    match origin {
+        Origin::Stats(slot) => slot.as_str().as_bytes() == b"x".as_slice(),
+        _ => false,
+    }
+}
+
+// Whether this is the only note.
+fn are_noted(notes: &[Note], row: &RuleRow) -> bool {
+    match notes {
+        [note] => {
+            is_of_the_slot(&note.origin)
+                && note.line == row.1
+                && note.rule.code().as_bytes() == row.2
+        }
+        _ => false,
+    }
+}
+
+fn notes_one(alloc: Global, row: &RuleRow) -> Result<bool, Fail> {
+    let stats = read_stats(alloc, "x", row.0)?;
+    Ok(are_noted(stats.notes.as_slice(), row))
+}
+
+#[test]
+fn first_rule_of_a_line(rt: HostRuntime) -> Result<(), Fail> {
+    for (at, row) in rules().iter().enumerate() {
+        assert!(rt; notes_one(rt.alloc(), row)?, "row {at}");
+    }
+    Ok(())
+}
+
+// Whether the delegations decide on this country at an address, or on none where it is empty.
+fn decide(stats: &[Stats], address: u128, wanted: &[u8]) -> bool {
+    let sources = AllSources {
+        dumps: &[],
+        feeds: &[],
+        stats,
+        overrides: None,
+    };
+    match spoken_at(&sources, Addr(address)) {
+        Some(place) => place.country().as_str().as_bytes() == wanted,
+        None => wanted.is_empty(),
+    }
+}
+
+static NESTED: &[u8] = b"x|DE|ipv4|10.0.0.0|512||allocated\n\
+x|AT|ipv4|10.0.0.0|256||allocated\n\
+x|CH|ipv4|10.0.1.0|256||allocated";
+
+fn nested() -> &'static [u8] {
+    NESTED
+}
+
+fn decide_as_nested(stats: &[Stats]) -> bool {
+    decide(stats, 0x0A00_0000, b"AT")
+        && decide(stats, 0x0A00_01FF, b"CH")
+        && decide(stats, 0x0A00_0200, b"")
+}
+
+#[test]
+fn a_delegation_decides(rt: HostRuntime) -> Result<(), Fail> {
+    let stats = [read_stats(rt.alloc(), "x", nested())?];
+    assert!(rt; decide_as_nested(&stats));
+    Ok(())
+}
+
+static TWO_LINES: &[u8] =
+    b"x|DE|ipv4|192.0.2.0|256||allocated\nx|DE|none|192.0.2.0|256||allocated\n";
+
+fn two_lines() -> &'static [u8] {
+    TWO_LINES
+}
+
+// Two lines, so many times.
+fn made_lines(alloc: Global, count: u32) -> Result<Vec<u8>, Fail> {
+    let mut file = Vec::new(alloc);
+    for _ in 0..count {
+        file.extend_from_slice(two_lines())?;
+    }
+    Ok(file)
+}
+
+// How many delegations there are, and the line of the last one.
+fn count_of_rows(rows: &[Delegation]) -> (usize, u64) {
+    match rows.last() {
+        Some(row) => (rows.len(), row.line),
+        None => (0, 0),
+    }
+}
+
+fn count_of_notes(notes: &[Note]) -> (usize, u64) {
+    match notes.last() {
+        Some(note) => (notes.len(), note.line),
+        None => (0, 0),
+    }
+}
+
+#[test]
+fn a_file_by_parts(rt: HostRuntime) -> Result<(), Fail> {
+    let file = made_lines(rt.alloc(), 20_000)?;
+    let forks = Forks {
+        rt: &rt,
+        alloc: rt.alloc(),
+        gate: &OpenGate,
+        pieces: 4,
+    };
+    let stats = read_stats_by_parts(&forks, "x", file.as_slice())?;
+    assert_eq!(rt; count_of_rows(stats.rows.as_slice()), (20_000, 39_999));
+    assert_eq!(rt; count_of_notes(stats.notes.as_slice()), (20_000, 40_000));
+    Ok(())
+}
