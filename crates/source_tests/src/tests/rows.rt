@@ -67,7 +67,8 @@ const SMALL_JOB: &[Given] = &[
     ),
 ];
 
-static ROWS: [Script; 16] = [
+/// Entries, objects and delegations: which of them goes first.
+static ENTRIES: [Script; 6] = [
     // An entry goes before a delegation.
     &[
         All(&[
@@ -161,6 +162,14 @@ static ROWS: [Script; 16] = [
         Report("feed https://e.example/f.csv 1 F09\n"),
         Records(&["192.0.2.1"], "DE,,,;"),
     ],
+];
+
+fn entries() -> &'static [Script] {
+    &ENTRIES
+}
+
+/// What is said where IPv6 carries IPv4 addresses.
+static CARRIED: [Script; 4] = [
     // What stands in the blocks that carry IPv4 addresses does not speak there.
     &[
         All(&[(Overrides, "", "2002:a00::/24,set,FR\n")]),
@@ -185,7 +194,22 @@ static ROWS: [Script; 16] = [
             "DE,,,;DE,,,;DE,,,;-;",
         ),
     ],
-    // The same in two dumps, of which the narrow object's comes first.
+    // One delegation, at its addresses and where IPv6 carries one of them.
+    &[
+        All(&[(Stats, "x", "x|DE|ipv4|128.0.0.0|2147483648||allocated")]),
+        Reasons("128.0.0.1", "0; - 0; 0; x 1; DE,,,"),
+        Reasons("::ffff:128.0.0.1", "0; - 0; 0; x 1; DE,,,"),
+        Reasons("2002:8000:1::", "0; - 0; 0; x 1; DE,,,"),
+    ],
+];
+
+fn carried() -> &'static [Script] {
+    &CARRIED
+}
+
+/// Several sources of several kinds, and notes.
+static TOGETHER: [Script; 6] = [
+    // An object inside a wider one, in two dumps, of which the narrow object's comes first.
     &[
         All(&[STATS, WIDE_FEED, NARROW, WIDE]),
         Report("rpsl b 6 P09\n"),
@@ -247,21 +271,15 @@ static ROWS: [Script; 16] = [
         Reasons("192.0.3.1", "0; - 0; 0; nro 6; GB,,,"),
         Reasons("::ffff:192.0.2.12", "1; ripe 6; 2; nro 6; AT,,Wien,"),
     ],
-    // One delegation, at its addresses and where IPv6 carries one of them.
-    &[
-        All(&[(Stats, "x", "x|DE|ipv4|128.0.0.0|2147483648||allocated")]),
-        Reasons("128.0.0.1", "0; - 0; 0; x 1; DE,,,"),
-        Reasons("::ffff:128.0.0.1", "0; - 0; 0; x 1; DE,,,"),
-        Reasons("2002:8000:1::", "0; - 0; 0; x 1; DE,,,"),
-    ],
 ];
 
-// The table, by a function of its own, so that its length stands in no other proof.
-fn rows() -> &'static [Script] {
-    &ROWS
+fn together() -> &'static [Script] {
+    &TOGETHER
 }
 
 #[test]
 fn worked_rows(rt: HostRuntime) {
-    assert_eq!(rt; first_wrong(rt.alloc(), rows()), rows().len());
+    for rows in [entries(), carried(), together()] {
+        assert_eq!(rt; first_wrong(rt.alloc(), rows), rows.len());
+    }
 }
