@@ -1,12 +1,10 @@
-//! Sources that are read from texts, set and dropped, and what they say of addresses.
+//! Sources that are read from texts, set and dropped, and what they say of addresses. A helper
+//! answers `None` where memory runs out or a text is not read, which no test expects.
 mod acts;
 mod given;
 mod orders;
-mod plain;
 mod realistic;
-mod references;
 mod rows;
+mod scripts;
 mod shapes;
-mod speakers;
-mod terms;
 mod told;

@@ -1,12 +1,11 @@
 //! Sources that are read from texts, set and dropped.
 use feed_csv::read_feed;
 use feed_refs::DumpReader;
-use geo_terms::{Dump, SourceFault};
+use geo_terms::Dump;
 use nro_stats::read_stats;
 use override_rows::read_overrides;
 use precedence::{DropFault, Sources};
 use std::alloc::Global;
-use std::test::Fail;
 
 /// A kind of source.
 #[derive(Clone, Copy)]
@@ -20,39 +19,47 @@ pub enum Kind {
 /// A source: its kind, its slot or URL, and its text.
 pub type Given = (Kind, &'static str, &'static str);
 
-fn fed(alloc: Global, slot: &str, text: &str) -> Result<DumpReader, SourceFault> {
-    let mut reader = DumpReader::new(alloc, slot)?;
-    reader.feed(text.as_bytes())?;
-    Ok(reader)
+// The reader is lent here, so that this step need not say how it is given up.
+fn feed(reader: &mut DumpReader, text: &str) -> Option<()> {
+    reader.feed(text.as_bytes()).ok()
 }
 
-fn dump(alloc: Global, slot: &str, text: &str) -> Result<Dump, SourceFault> {
+fn fed(alloc: Global, slot: &str, text: &str) -> Option<DumpReader> {
+    let mut reader = DumpReader::new(alloc, slot).ok()?;
+    feed(&mut reader, text)?;
+    Some(reader)
+}
+
+fn dump(alloc: Global, slot: &str, text: &str) -> Option<Dump> {
     let reader = fed(alloc, slot, text)?;
-    reader.finish()
+    reader.finish().ok()
 }
 
-fn set_dump(sources: &mut Sources, alloc: Global, slot: &str, text: &str) -> Result<bool, Fail> {
-    let old = sources.set_rpsl(dump(alloc, slot, text)?)?;
-    Ok(old.is_some())
+fn set_dump(sources: &mut Sources, alloc: Global, slot: &str, text: &str) -> Option<bool> {
+    let old = sources.set_rpsl(dump(alloc, slot, text)?).ok()?;
+    Some(old.is_some())
 }
 
-fn set_stats(sources: &mut Sources, alloc: Global, slot: &str, text: &str) -> Result<bool, Fail> {
-    let old = sources.set_stats(read_stats(alloc, slot, text.as_bytes())?)?;
-    Ok(old.is_some())
+fn set_stats(sources: &mut Sources, alloc: Global, slot: &str, text: &str) -> Option<bool> {
+    let stats = read_stats(alloc, slot, text.as_bytes()).ok()?;
+    let old = sources.set_stats(stats).ok()?;
+    Some(old.is_some())
 }
 
-fn set_feed(sources: &mut Sources, alloc: Global, url: &str, text: &str) -> Result<bool, Fail> {
-    let old = sources.set_feed(read_feed(alloc, url, text.as_bytes())?)?;
-    Ok(old.is_some())
+fn set_feed(sources: &mut Sources, alloc: Global, url: &str, text: &str) -> Option<bool> {
+    let feed = read_feed(alloc, url, text.as_bytes()).ok()?;
+    let old = sources.set_feed(feed).ok()?;
+    Some(old.is_some())
 }
 
-fn set_overrides(sources: &mut Sources, alloc: Global, text: &str) -> Result<bool, Fail> {
-    let old = sources.set_overrides(read_overrides(alloc, text.as_bytes())?)?;
-    Ok(old.is_some())
+fn set_overrides(sources: &mut Sources, alloc: Global, text: &str) -> Option<bool> {
+    let rows = read_overrides(alloc, text.as_bytes()).ok()?;
+    let old = sources.set_overrides(rows).ok()?;
+    Some(old.is_some())
 }
 
 /// Sets a source, and says whether another one was there.
-pub fn set(sources: &mut Sources, alloc: Global, given: Given) -> Result<bool, Fail> {
+pub fn set(sources: &mut Sources, alloc: Global, given: Given) -> Option<bool> {
     let (kind, name, text) = given;
     match kind {
         Kind::Rpsl => set_dump(sources, alloc, name, text),
@@ -62,26 +69,12 @@ pub fn set(sources: &mut Sources, alloc: Global, given: Given) -> Result<bool, F
     }
 }
 
-/// Drops the source of a kind and a name.
-pub fn drop_one(sources: &mut Sources, kind: Kind, name: &str) -> Result<(), DropFault> {
+/// Drops the source of a kind and a name, and says why not.
+pub fn drop_one(sources: &mut Sources, kind: Kind, name: &str) -> Option<DropFault> {
     match kind {
-        Kind::Rpsl => sources.drop_rpsl(name).map(|_| ()),
-        Kind::Stats => sources.drop_stats(name).map(|_| ()),
-        Kind::Feed => sources.drop_feed(name).map(|_| ()),
-        Kind::Overrides => sources.drop_overrides().map(|_| ()),
+        Kind::Rpsl => sources.drop_rpsl(name).err(),
+        Kind::Stats => sources.drop_stats(name).err(),
+        Kind::Feed => sources.drop_feed(name).err(),
+        Kind::Overrides => sources.drop_overrides().err(),
     }
-}
-
-fn set_all(sources: &mut Sources, alloc: Global, given: &[Given]) -> Result<(), Fail> {
-    for source in given {
-        set(sources, alloc, *source)?;
-    }
-    Ok(())
-}
-
-/// All of these, set in this order.
-pub fn all(alloc: Global, given: &[Given]) -> Result<Sources, Fail> {
-    let mut sources = Sources::new(alloc);
-    set_all(&mut sources, alloc, given)?;
-    Ok(sources)
 }

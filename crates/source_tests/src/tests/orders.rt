@@ -1,10 +1,8 @@
 //! The same sources set in other orders, some of them instead of others.
+use crate::tests::given::Given;
 use crate::tests::given::Kind::{Feed, Overrides, Rpsl, Stats};
-use crate::tests::given::{Given, all};
-use crate::tests::told::{printed, records, segments};
-use precedence::Sources;
-use std::alloc::Global;
-use std::test::Fail;
+use crate::tests::scripts::Step::{All, Records, Report, Segments};
+use crate::tests::scripts::{Script, Step, first_wrong};
 
 const FEED: &str = "https://e.example/f.csv";
 
@@ -47,23 +45,7 @@ const OLD_FEED: Given = (Feed, OTHER, "192.0.2.0/25,SE,,,\n");
 
 const OLD_OVER: Given = (Overrides, "", "0.0.0.0/0,set,ES\n");
 
-static ORDERS: [&[Given]; 5] = [
-    &[EARLIER, LATER, WIDE, NARROW, LOWER, UPPER, OVER],
-    &[OVER, UPPER, LOWER, NARROW, WIDE, LATER, EARLIER],
-    &[NARROW, OVER, LATER, LOWER, EARLIER, WIDE, UPPER],
-    &[
-        OLD_DUMP, OLD_STATS, OLD_FEED, OLD_OVER, EARLIER, LATER, WIDE, NARROW, LOWER, UPPER, OVER,
-    ],
-    &[
-        OLD_OVER, OVER, OLD_FEED, UPPER, LOWER, OLD_STATS, NARROW, WIDE, OLD_DUMP, LATER, EARLIER,
-    ],
-];
-
-fn orders() -> &'static [&'static [Given]] {
-    &ORDERS
-}
-
-const ADDRESSES: [&str; 6] = [
+const ADDRESSES: &[&str] = &[
     "192.0.2.1",
     "192.0.2.70",
     "192.0.2.200",
@@ -75,34 +57,56 @@ const ADDRESSES: [&str; 6] = [
 const SEGMENTS: &str = "c0000200-c000023f CH,,,;c0000240-c000027f IT,,,;c0000280-c00002ff DE,,,;\
     c0000300-c00003ff CH,,,;c0000400-c00004ff AT,,,;";
 
-fn agrees(alloc: Global, sources: &Sources) -> Result<bool, Fail> {
-    let found = records(alloc, sources, &ADDRESSES)?;
-    let report = printed(alloc, sources)?;
-    let cut = segments(alloc, sources, "192.0.2.0-192.0.4.255")?;
-    Ok(
-        found.as_str() == "CH,,,;IT,,,;DE,,,;CH,,,;AT,,,;-;"
-            && report.as_str() == "rpsl r 2 P08\n"
-            && cut.as_str() == SEGMENTS,
-    )
-}
+const REPORTED: Step = Report("rpsl r 2 P08\n");
 
-fn order_agrees(alloc: Global, order: &[Given]) -> Result<bool, Fail> {
-    let sources = all(alloc, order)?;
-    agrees(alloc, &sources)
-}
+const RECORDED: Step = Records(ADDRESSES, "CH,,,;IT,,,;DE,,,;CH,,,;AT,,,;-;");
 
-// The number of the first order that comes out wrong, or how many there are.
-fn first_wrong(alloc: Global) -> Result<usize, Fail> {
-    for (at, order) in orders().iter().enumerate() {
-        if !order_agrees(alloc, order)? {
-            return Ok(at);
-        }
-    }
-    Ok(orders().len())
+const CUT: Step = Segments("192.0.2.0-192.0.4.255", SEGMENTS);
+
+static ORDERS: [Script; 5] = [
+    &[
+        All(&[EARLIER, LATER, WIDE, NARROW, LOWER, UPPER, OVER]),
+        REPORTED,
+        RECORDED,
+        CUT,
+    ],
+    &[
+        All(&[OVER, UPPER, LOWER, NARROW, WIDE, LATER, EARLIER]),
+        REPORTED,
+        RECORDED,
+        CUT,
+    ],
+    &[
+        All(&[NARROW, OVER, LATER, LOWER, EARLIER, WIDE, UPPER]),
+        REPORTED,
+        RECORDED,
+        CUT,
+    ],
+    &[
+        All(&[
+            OLD_DUMP, OLD_STATS, OLD_FEED, OLD_OVER, EARLIER, LATER, WIDE, NARROW, LOWER, UPPER,
+            OVER,
+        ]),
+        REPORTED,
+        RECORDED,
+        CUT,
+    ],
+    &[
+        All(&[
+            OLD_OVER, OVER, OLD_FEED, UPPER, LOWER, OLD_STATS, NARROW, WIDE, OLD_DUMP, LATER,
+            EARLIER,
+        ]),
+        REPORTED,
+        RECORDED,
+        CUT,
+    ],
+];
+
+fn orders() -> &'static [Script] {
+    &ORDERS
 }
 
 #[test]
-fn orders_of_setting(rt: HostRuntime) -> Result<(), Fail> {
-    assert_eq!(rt; first_wrong(rt.alloc())?, orders().len());
-    Ok(())
+fn orders_of_setting(rt: HostRuntime) {
+    assert_eq!(rt; first_wrong(rt.alloc(), orders()), orders().len());
 }

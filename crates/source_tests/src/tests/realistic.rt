@@ -1,12 +1,10 @@
 //! A realistic job: all kinds of sources together.
+use crate::tests::given::Given;
 use crate::tests::given::Kind::{Feed, Overrides, Rpsl, Stats};
-use crate::tests::given::{Given, all};
-use crate::tests::told::{printed, reasons, records};
-use precedence::Sources;
-use std::alloc::Global;
-use std::test::Fail;
+use crate::tests::scripts::Step::{All, Reasons, Records, Report};
+use crate::tests::scripts::{Script, Step, first_wrong};
 
-pub const DUMP: &str = "% This is an extract.\n\n\
+const DUMP: &str = "% This is an extract.\n\n\
     inetnum:        192.0.2.0 - 192.0.2.255\nnetname:        EXAMPLE-NET\n\
     country:        DE\nremarks:        Geofeed https://geo.example.net/a.csv\n\
     last-modified:  2023-05-04T10:11:12Z\nsource:         RIPE\n\n\
@@ -48,7 +46,7 @@ const STATS: &str = "2|nro|20240301|6|19700101|20240301|+0000\nnro|*|asn|*|1|sum
 
 const OVER: &str = "192.0.2.10-192.0.2.19,set,AT,,Wien,\n203.0.113.0/24,void\n";
 
-static GIVEN: [Given; 6] = [
+const GIVEN: &[Given] = &[
     (Rpsl, "ripe", DUMP),
     (Stats, "nro", STATS),
     (Feed, "https://geo.example.net/a.csv", A),
@@ -57,15 +55,11 @@ static GIVEN: [Given; 6] = [
     (Overrides, "", OVER),
 ];
 
-fn job(alloc: Global) -> Result<Sources, Fail> {
-    all(alloc, &GIVEN)
-}
-
 const REPORT: &str = "rpsl ripe 13 P10\nrpsl ripe 24 P04\nrpsl ripe 25 P04\nrpsl ripe 31 P09\n\
     rpsl ripe 32 P07\nfeed https://geo.example.net/a.csv 5 F09\n\
     feed https://geo.example.net/c.csv 3 F06\nstats nro 10 S06\n";
 
-const ADDRESSES: [&str; 13] = [
+const ADDRESSES: &[&str] = &[
     "192.0.2.1",
     "192.0.2.12",
     "192.0.2.130",
@@ -84,28 +78,23 @@ const ADDRESSES: [&str; 13] = [
 const RECORDS: &str = "DE,DE-BY,München,;AT,,Wien,;DE,DE-BE,Berlin,10115;-;FR,,,;\
     CH,CH-ZH,Zürich,;US,,,;US,,,;-;-;-;NL,NL-NH,Amsterdam,;JP,,Tokyo,;";
 
-fn has_report_and_records(alloc: Global, sources: &Sources) -> Result<bool, Fail> {
-    let report = printed(alloc, sources)?;
-    let found = records(alloc, sources, &ADDRESSES)?;
-    Ok(report.as_str() == REPORT && found.as_str() == RECORDS)
+// Why an address has its record where an override decides.
+const OVERRIDDEN: &str = "1; ripe 6; 2; nro 6; AT,,Wien,";
+
+static STEPS: [Step; 6] = [
+    All(GIVEN),
+    Report(REPORT),
+    Records(ADDRESSES, RECORDS),
+    Reasons("192.0.2.12", OVERRIDDEN),
+    Reasons("::ffff:192.0.2.12", OVERRIDDEN),
+    Reasons("2002:c000:20c::", OVERRIDDEN),
+];
+
+fn steps() -> Script {
+    &STEPS
 }
 
 #[test]
-fn report_and_records(rt: HostRuntime) -> Result<(), Fail> {
-    let sources = job(rt.alloc())?;
-    assert!(rt; has_report_and_records(rt.alloc(), &sources)?);
-    Ok(())
-}
-
-fn has_reasons(alloc: Global, sources: &Sources, address: &str) -> Result<bool, Fail> {
-    Ok(reasons(alloc, sources, address)?.as_str() == "1; ripe 6; 2; nro 6; AT,,Wien,")
-}
-
-#[test]
-fn reasons_where_an_override_decides(rt: HostRuntime) -> Result<(), Fail> {
-    let sources = job(rt.alloc())?;
-    for address in ["192.0.2.12", "::ffff:192.0.2.12", "2002:c000:20c::"] {
-        assert!(rt; has_reasons(rt.alloc(), &sources, address)?, "{address}");
-    }
-    Ok(())
+fn report_records_and_reasons(rt: HostRuntime) {
+    assert_eq!(rt; first_wrong(rt.alloc(), &[steps()]), 1);
 }

@@ -1,10 +1,8 @@
-//! Worked rows: sources, their report, and the records of addresses.
+//! Worked rows: sources, their report, the records of addresses, and the reasons for some.
+use crate::tests::given::Given;
 use crate::tests::given::Kind::{Feed, Overrides, Rpsl, Stats};
-use crate::tests::given::{Given, all};
-use crate::tests::told::{printed, reasons, records};
-use precedence::Sources;
-use std::alloc::Global;
-use std::test::Fail;
+use crate::tests::scripts::Step::{All, Reasons, Records, Report};
+use crate::tests::scripts::{Script, Step, first_wrong};
 
 const FEED: &str = "https://e.example/f.csv";
 
@@ -69,29 +67,24 @@ const SMALL_JOB: &[Given] = &[
     ),
 ];
 
-/// Sources, their report, addresses, and the records of these.
-type Row = (
-    &'static [Given],
-    &'static str,
-    &'static [&'static str],
-    &'static str,
-);
-
-static ROWS: [Row; 15] = [
+/// Entries, objects and delegations: which of them goes first.
+static ENTRIES: [Script; 6] = [
     // An entry goes before a delegation.
-    (
-        &[
+    &[
+        All(&[
             (Rpsl, "ripe", OBJECT),
             (Feed, FEED, "192.0.2.0/25,de,DE-BY,München,\n"),
             (Stats, "x", "x|AT|ipv4|192.0.2.0|256||allocated\n"),
-        ],
-        "",
-        &["192.0.2.1", "192.0.2.200", "192.0.3.0"],
-        "DE,DE-BY,München,;AT,,,;-;",
-    ),
+        ]),
+        Report(""),
+        Records(
+            &["192.0.2.1", "192.0.2.200", "192.0.3.0"],
+            "DE,DE-BY,München,;AT,,,;-;",
+        ),
+    ],
     // An object whose feed is not there keeps its authority inside a wider one.
-    (
-        &[
+    &[
+        All(&[
             (
                 Rpsl,
                 "ripe",
@@ -100,14 +93,13 @@ static ROWS: [Row; 15] = [
             ),
             (Feed, FEED, "192.0.0.0/16,FR,,,\n"),
             (Stats, "x", "x|DE|ipv4|192.0.0.0|65536||allocated\n"),
-        ],
-        "rpsl ripe 5 P09\n",
-        &["192.0.3.1", "192.0.2.1"],
-        "FR,,,;DE,,,;",
-    ),
+        ]),
+        Report("rpsl ripe 5 P09\n"),
+        Records(&["192.0.3.1", "192.0.2.1"], "FR,,,;DE,,,;"),
+    ],
     // Of two objects of one range the later one speaks.
-    (
-        &[
+    &[
+        All(&[
             (
                 Rpsl,
                 "ripe",
@@ -118,28 +110,29 @@ static ROWS: [Row; 15] = [
             ),
             (Feed, FEED, "192.0.2.0/24,FR,,,\n"),
             (Feed, OTHER, "192.0.2.0/24,DE,,,\n"),
-        ],
-        "rpsl ripe 2 P08\n",
-        &["192.0.2.1"],
-        "DE,,,;",
-    ),
+        ]),
+        Report("rpsl ripe 2 P08\n"),
+        Records(&["192.0.2.1"], "DE,,,;"),
+    ],
     // Overrides of both families are everywhere.
-    (
-        &[(Overrides, "", "0.0.0.0/0,set,FR\n::/0,set,FR\n")],
-        "",
-        &[
-            "0.0.0.0",
-            "255.255.255.255",
-            "::1:0:0",
-            "::ffff:1.2.3.4",
-            "2002::1",
-            "ffff:ffff:ffff:ffff:ffff:ffff:ffff:ffff",
-        ],
-        "FR,,,;FR,,,;FR,,,;FR,,,;FR,,,;FR,,,;",
-    ),
+    &[
+        All(&[(Overrides, "", "0.0.0.0/0,set,FR\n::/0,set,FR\n")]),
+        Report(""),
+        Records(
+            &[
+                "0.0.0.0",
+                "255.255.255.255",
+                "::1:0:0",
+                "::ffff:1.2.3.4",
+                "2002::1",
+                "ffff:ffff:ffff:ffff:ffff:ffff:ffff:ffff",
+            ],
+            "FR,,,;FR,,,;FR,,,;FR,,,;FR,,,;FR,,,;",
+        ),
+    ],
     // An entry that says nothing keeps a delegation silent, and a wide one is not cut to fit.
-    (
-        &[
+    &[
+        All(&[
             (Rpsl, "ripe", OBJECT),
             (
                 Feed,
@@ -147,81 +140,104 @@ static ROWS: [Row; 15] = [
                 "192.0.0.0/16,US,,,\n192.0.2.0/25,,,,\n192.0.2.128/25,ZZ,,,\n",
             ),
             (Stats, "x", "x|DE|ipv4|192.0.2.0|256||allocated\n"),
-        ],
-        "feed https://e.example/f.csv 1 F09\n",
-        &[
-            "192.0.2.0",
-            "192.0.2.127",
-            "192.0.2.128",
-            "192.0.2.255",
-            "192.0.3.0",
-        ],
-        "-;-;-;-;-;",
-    ),
-    (
-        &[
+        ]),
+        Report("feed https://e.example/f.csv 1 F09\n"),
+        Records(
+            &[
+                "192.0.2.0",
+                "192.0.2.127",
+                "192.0.2.128",
+                "192.0.2.255",
+                "192.0.3.0",
+            ],
+            "-;-;-;-;-;",
+        ),
+    ],
+    &[
+        All(&[
             (Rpsl, "ripe", OBJECT),
             (Feed, FEED, "192.0.0.0/16,US,,,\n"),
             (Stats, "x", "x|DE|ipv4|192.0.2.0|256||allocated\n"),
-        ],
-        "feed https://e.example/f.csv 1 F09\n",
-        &["192.0.2.1"],
-        "DE,,,;",
-    ),
+        ]),
+        Report("feed https://e.example/f.csv 1 F09\n"),
+        Records(&["192.0.2.1"], "DE,,,;"),
+    ],
+];
+
+fn entries() -> &'static [Script] {
+    &ENTRIES
+}
+
+/// What is said where IPv6 carries IPv4 addresses.
+static CARRIED: [Script; 4] = [
     // What stands in the blocks that carry IPv4 addresses does not speak there.
-    (
-        &[(Overrides, "", "2002:a00::/24,set,FR\n")],
-        "overrides - 1 A01\n",
-        &["2002:a00:1::"],
-        "-;",
-    ),
-    (
-        &[(Overrides, "", "2000::/3,set,FR\n")],
-        "",
-        &["2001::1", "2003::1", "2002::1"],
-        "FR,,,;FR,,,;-;",
-    ),
-    (
-        &[(Stats, "x", "x|DE|ipv4|128.0.0.0|2147483648||allocated")],
-        "",
-        &[
-            "128.0.0.1",
-            "2002:8000:1::",
-            "::ffff:128.0.0.1",
-            "127.0.0.1",
-        ],
-        "DE,,,;DE,,,;DE,,,;-;",
-    ),
-    // The same in two dumps, of which the narrow object's comes first.
-    (
-        &[STATS, WIDE_FEED, NARROW, WIDE],
-        "rpsl b 6 P09\n",
-        &["192.0.3.1", "192.0.2.1"],
-        "FR,,,;DE,,,;",
-    ),
+    &[
+        All(&[(Overrides, "", "2002:a00::/24,set,FR\n")]),
+        Report("overrides - 1 A01\n"),
+        Records(&["2002:a00:1::"], "-;"),
+    ],
+    &[
+        All(&[(Overrides, "", "2000::/3,set,FR\n")]),
+        Report(""),
+        Records(&["2001::1", "2003::1", "2002::1"], "FR,,,;FR,,,;-;"),
+    ],
+    &[
+        All(&[(Stats, "x", "x|DE|ipv4|128.0.0.0|2147483648||allocated")]),
+        Report(""),
+        Records(
+            &[
+                "128.0.0.1",
+                "2002:8000:1::",
+                "::ffff:128.0.0.1",
+                "127.0.0.1",
+            ],
+            "DE,,,;DE,,,;DE,,,;-;",
+        ),
+    ],
+    // One delegation, at its addresses and where IPv6 carries one of them.
+    &[
+        All(&[(Stats, "x", "x|DE|ipv4|128.0.0.0|2147483648||allocated")]),
+        Reasons("128.0.0.1", "0; - 0; 0; x 1; DE,,,"),
+        Reasons("::ffff:128.0.0.1", "0; - 0; 0; x 1; DE,,,"),
+        Reasons("2002:8000:1::", "0; - 0; 0; x 1; DE,,,"),
+    ],
+];
+
+fn carried() -> &'static [Script] {
+    &CARRIED
+}
+
+/// Several sources of several kinds, and notes.
+static TOGETHER: [Script; 6] = [
+    // An object inside a wider one, in two dumps, of which the narrow object's comes first.
+    &[
+        All(&[STATS, WIDE_FEED, NARROW, WIDE]),
+        Report("rpsl b 6 P09\n"),
+        Records(&["192.0.3.1", "192.0.2.1"], "FR,,,;DE,,,;"),
+    ],
     // The same after another dump came instead of the narrow object's,
     // and a later one beside it.
-    (
-        &[STATS, WIDE_FEED, NARROW, WIDE, DATED, LATER],
-        "rpsl b 6 P08\nrpsl b 6 P09\n",
-        &[],
-        "",
-    ),
+    &[
+        All(&[STATS, WIDE_FEED, NARROW, WIDE, DATED, LATER]),
+        Report("rpsl b 6 P08\nrpsl b 6 P09\n"),
+    ],
     // An override of all IPv4 addresses decides at each of them.
-    (
-        &[
+    &[
+        All(&[
             (Rpsl, "ripe", OBJECT),
             (Feed, FEED, "192.0.2.0/25,de,DE-BY,München,\n"),
             (Stats, "nro", "x|AT|ipv4|192.0.2.0|256||allocated\n"),
             (Overrides, "", "0.0.0.0/0,set,FR\n"),
-        ],
-        "",
-        &["0.0.0.0", "192.0.2.1", "255.255.255.255", "::1:0:0"],
-        "FR,,,;FR,,,;FR,,,;-;",
-    ),
+        ]),
+        Report(""),
+        Records(
+            &["0.0.0.0", "192.0.2.1", "255.255.255.255", "::1:0:0"],
+            "FR,,,;FR,,,;FR,,,;-;",
+        ),
+    ],
     // A report is in its order, whatever that of the sources.
-    (
-        &[
+    &[
+        All(&[
             (
                 Stats,
                 "ripe",
@@ -230,100 +246,40 @@ static ROWS: [Row; 15] = [
             (Overrides, "", "::ffff:0:0/96,set,FR\n"),
             (Stats, "apnic", "#\n#\nx|ZZ|ipv4|192.0.2.0|256||allocated\n"),
             (Feed, FEED, "2002::/16,FR,,,\n"),
-        ],
-        "feed https://e.example/f.csv 1 A01\nfeed https://e.example/f.csv 1 F09\n\
+        ]),
+        Report(
+            "feed https://e.example/f.csv 1 A01\nfeed https://e.example/f.csv 1 F09\n\
             stats apnic 3 S06\nstats ripe 7 S06\noverrides - 1 A01\n",
-        &[],
-        "",
-    ),
+        ),
+    ],
     // A note on overrides.
-    (
-        &[(Overrides, "", "#\n#\n192.0.2.0/24,Set,FR\n")],
-        "overrides - 3 O04\n",
-        &["192.0.2.1"],
-        "-;",
-    ),
+    &[
+        All(&[(Overrides, "", "#\n#\n192.0.2.0/24,Set,FR\n")]),
+        Report("overrides - 3 O04\n"),
+        Records(&["192.0.2.1"], "-;"),
+    ],
     // An override inside an object, and a delegation around it.
-    (
-        SMALL_JOB,
-        "rpsl ripe 13 P10\nstats nro 10 S06\n",
-        &["192.0.2.19", "192.0.2.20"],
-        "AT,,Wien,;DE,DE-BY,München,;",
-    ),
+    &[
+        All(SMALL_JOB),
+        Report("rpsl ripe 13 P10\nstats nro 10 S06\n"),
+        Records(
+            &["192.0.2.19", "192.0.2.20"],
+            "AT,,Wien,;DE,DE-BY,München,;",
+        ),
+        Reasons("192.0.2.12", "1; ripe 6; 2; nro 6; AT,,Wien,"),
+        Reasons("192.0.2.1", "0; ripe 6; 2; nro 6; DE,DE-BY,München,"),
+        Reasons("192.0.3.1", "0; - 0; 0; nro 6; GB,,,"),
+        Reasons("::ffff:192.0.2.12", "1; ripe 6; 2; nro 6; AT,,Wien,"),
+    ],
 ];
 
-// The table, by a function of its own, so that its length stands in no other proof.
-fn rows() -> &'static [Row] {
-    &ROWS
+fn together() -> &'static [Script] {
+    &TOGETHER
 }
 
-fn agrees(alloc: Global, sources: &Sources, row: &Row) -> Result<bool, Fail> {
-    let (_, report, addresses, wanted) = *row;
-    let told = printed(alloc, sources)?;
-    let found = records(alloc, sources, addresses)?;
-    Ok(told.as_str() == report && found.as_str() == wanted)
-}
-
-fn row_agrees(alloc: Global, row: &Row) -> Result<bool, Fail> {
-    let sources = all(alloc, row.0)?;
-    agrees(alloc, &sources, row)
-}
-
-// The number of the first row that comes out wrong, or how many there are.
-fn first_wrong(alloc: Global) -> Result<usize, Fail> {
-    for (at, row) in rows().iter().enumerate() {
-        if !row_agrees(alloc, row)? {
-            return Ok(at);
-        }
+#[test]
+fn worked_rows(rt: HostRuntime) {
+    for rows in [entries(), carried(), together()] {
+        assert_eq!(rt; first_wrong(rt.alloc(), rows), rows.len());
     }
-    Ok(rows().len())
-}
-
-#[test]
-fn worked_rows(rt: HostRuntime) -> Result<(), Fail> {
-    assert_eq!(rt; first_wrong(rt.alloc())?, rows().len());
-    Ok(())
-}
-
-/// Addresses of the small job, and why they have their records.
-static REASONS: [(&str, &str); 4] = [
-    ("192.0.2.12", "1; ripe 6; 2; nro 6; AT,,Wien,"),
-    ("192.0.2.1", "0; ripe 6; 2; nro 6; DE,DE-BY,München,"),
-    ("192.0.3.1", "0; - 0; 0; nro 6; GB,,,"),
-    ("::ffff:192.0.2.12", "1; ripe 6; 2; nro 6; AT,,Wien,"),
-];
-
-/// The same of one delegation.
-static ALIASES: [(&str, &str); 3] = [
-    ("128.0.0.1", "0; - 0; 0; x 1; DE,,,"),
-    ("::ffff:128.0.0.1", "0; - 0; 0; x 1; DE,,,"),
-    ("2002:8000:1::", "0; - 0; 0; x 1; DE,,,"),
-];
-
-// Whether these addresses have their records for these reasons.
-fn are_reasons(alloc: Global, sources: &Sources, wanted: &[(&str, &str)]) -> Result<bool, Fail> {
-    for (address, why) in wanted {
-        if reasons(alloc, sources, address)?.as_str() != *why {
-            return Ok(false);
-        }
-    }
-    Ok(true)
-}
-
-fn have_reasons(alloc: Global, given: &[Given], wanted: &[(&str, &str)]) -> Result<bool, Fail> {
-    let sources = all(alloc, given)?;
-    are_reasons(alloc, &sources, wanted)
-}
-
-#[test]
-fn reasons_of_a_small_job(rt: HostRuntime) -> Result<(), Fail> {
-    assert!(rt; have_reasons(rt.alloc(), SMALL_JOB, &REASONS)?);
-    Ok(())
-}
-
-#[test]
-fn reasons_at_an_alias(rt: HostRuntime) -> Result<(), Fail> {
-    let given = (Stats, "x", "x|DE|ipv4|128.0.0.0|2147483648||allocated");
-    assert!(rt; have_reasons(rt.alloc(), &[given], &ALIASES)?);
-    Ok(())
 }

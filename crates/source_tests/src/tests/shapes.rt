@@ -1,6 +1,6 @@
 //! Delegations that nest, overlap without nesting, repeat, and touch both ends of both families,
 //! which no statistics file can say, as the sources and the plain look-up find them.
-ghost use Rattle.std.specs.Prelude.{◌≡◌, true, IfOk};
+ghost use Rattle.std.specs.Prelude.{◌≡◌, true, IfSome};
 ghost use Rattle.geo_terms.specs.DelegationForm.{IsCountryAlone};
 
 use geo_addr::{Addr, List, Range, Text};
@@ -8,7 +8,6 @@ use geo_terms::plain::{AllSources, spoken_at};
 use geo_terms::{Delegation, Place, Stats, Texts, country_place};
 use precedence::Sources;
 use std::alloc::Global;
-use std::test::Fail;
 
 const TOP_V4: u128 = 0xFFFF_FFFF;
 
@@ -63,35 +62,30 @@ fn country_of(place: Option<&Place>) -> &str {
     }
 }
 
-fn text(alloc: Global, text: &str) -> Result<Text, Fail>
-    ensures { IfOk result (λ copy. copy ≡ text.now) }
+fn text(alloc: Global, text: &str) -> Option<Text>
+    ensures { IfSome result (λ copy. copy ≡ text.now) }
 {
-    let text = Text::of(alloc, text)?;
-    Ok(text)
-}
-
-fn place_of_code(alloc: Global, code: &str) -> Result<Option<Place>, Fail> {
-    let mut texts = Texts::new(alloc);
-    Ok(country_place(&mut texts, code.as_bytes())?)
-}
-
-fn country(alloc: Global, code: &str) -> Result<Place, Fail> {
-    match place_of_code(alloc, code)? {
-        Some(place) => Ok(place),
-        None => Err(Fail::from("no country")),
+    match Text::of(alloc, text) {
+        Ok(copy) => Some(copy),
+        Err(_) => None,
     }
 }
 
-fn row(alloc: Global, slot: &str, range: Range, code: &str) -> Result<Delegation, Fail>
-    ensures slot { IfOk result (λ row. row.slot ≡ slot.now) }
-    ensures line { IfOk result (λ row. row.line ≡ 1) }
+fn country(alloc: Global, code: &str) -> Option<Place> {
+    let mut texts = Texts::new(alloc);
+    country_place(&mut texts, code.as_bytes()).ok()?
+}
+
+fn row(alloc: Global, slot: &str, range: Range, code: &str) -> Option<Delegation>
+    ensures slot { IfSome result (λ row. row.slot ≡ slot.now) }
+    ensures line { IfSome result (λ row. row.line ≡ 1) }
 {
     let place = country(alloc, code)?;
     if !is_country_alone(&place) {
-        return Err(Fail::from("more than a country"));
+        return None;
     }
     let slot = text(alloc, slot)?;
-    Ok(Delegation {
+    Some(Delegation {
         slot,
         line: 1,
         range,
@@ -100,45 +94,36 @@ fn row(alloc: Global, slot: &str, range: Range, code: &str) -> Result<Delegation
 }
 
 // A statistics file with one delegation.
-fn stats(alloc: Global, shape: &Shape) -> Result<Stats, Fail> {
+fn stats(alloc: Global, shape: &Shape) -> Option<Stats> {
     let (slot, first, last, code) = *shape;
     if first > last {
-        return Err(Fail::from("no range"));
+        return None;
     }
     let row = row(alloc, slot, Range { first, last }, code)?;
     let slot = text(alloc, slot)?;
-    let rows = vec![in alloc; row]?;
-    Ok(Stats {
+    let Ok(rows) = vec![in alloc; row] else {
+        return None;
+    };
+    Some(Stats {
         slot,
         rows: List::of(rows),
         notes: List::of(Vec::new(alloc)),
     })
 }
 
-fn all_files(alloc: Global) -> Result<Vec<Stats>, Fail> {
-    let mut files = Vec::new(alloc);
+fn set_stats(alloc: Global, sources: &mut Sources, shape: &Shape) -> Option<()> {
+    let file = stats(alloc, shape)?;
+    sources.set_stats(file).ok()?;
+    Some(())
+}
+
+// All files, set and beside that in a list.
+fn make_files(alloc: Global, sources: &mut Sources, files: &mut Vec<Stats>) -> Option<()> {
     for shape in shapes() {
-        files.push(stats(alloc, shape)?)?;
+        set_stats(alloc, sources, shape)?;
+        files.push(stats(alloc, shape)?).ok()?;
     }
-    Ok(files)
-}
-
-fn set_file(sources: &mut Sources, file: Stats) -> Result<(), Fail> {
-    sources.set_stats(file)?;
-    Ok(())
-}
-
-fn set_files(sources: &mut Sources, files: Vec<Stats>) -> Result<(), Fail> {
-    for file in files {
-        set_file(sources, file)?;
-    }
-    Ok(())
-}
-
-fn all_sources(alloc: Global) -> Result<Sources, Fail> {
-    let mut sources = Sources::new(alloc);
-    set_files(&mut sources, all_files(alloc)?)?;
-    Ok(sources)
+    Some(())
 }
 
 fn plainly_spoken<'a>(files: &'a [Stats], at: Addr) -> &'a str {
@@ -166,14 +151,10 @@ fn first_wrong_in(files: &[Stats], sources: &Sources) -> usize {
     spoken().len()
 }
 
-fn first_wrong(alloc: Global) -> Result<usize, Fail> {
-    let files = all_files(alloc)?;
-    let sources = all_sources(alloc)?;
-    Ok(first_wrong_in(files.as_slice(), &sources))
-}
-
 #[test]
-fn the_plain_lookup_agrees(rt: HostRuntime) -> Result<(), Fail> {
-    assert_eq!(rt; first_wrong(rt.alloc())?, spoken().len());
-    Ok(())
+fn the_plain_lookup_agrees(rt: HostRuntime) {
+    let mut sources = Sources::new(rt.alloc());
+    let mut files = Vec::new(rt.alloc());
+    assert!(rt; make_files(rt.alloc(), &mut sources, &mut files).is_some());
+    assert_eq!(rt; first_wrong_in(files.as_slice(), &sources), spoken().len());
 }

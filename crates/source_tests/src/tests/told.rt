@@ -3,33 +3,43 @@ use geo_addr::{Range, parse_addr, parse_span};
 use geo_terms::{Delegation, Entry, Note, Override, Place, Reference, note_text};
 use precedence::Sources;
 use std::alloc::Global;
-use std::test::Fail;
 
 // The four fields of a place, as a feed has them, or a dash.
-fn place_text(alloc: Global, place: Option<&Place>) -> Result<String, Fail> {
+fn place_text(alloc: Global, place: Option<&Place>) -> Option<String> {
     let Some(place) = place else {
-        return Ok(String::from_str(alloc, "-")?);
+        return String::from_str(alloc, "-").ok();
     };
     let country = place.country().as_str();
     let region = place.region().as_str();
     let city = place.city().as_str();
     let postal = place.postal().as_str();
-    Ok(format!(in alloc; "{country},{region},{city},{postal}")?)
+    format!(in alloc; "{country},{region},{city},{postal}").ok()
 }
 
-fn record_text(alloc: Global, sources: &Sources, address: &str) -> Result<String, Fail> {
-    let at = parse_addr(address.as_bytes())?;
-    place_text(alloc, sources.record_at(at))
+fn push_record(alloc: Global, sources: &Sources, address: &str, text: &mut String) -> Option<()> {
+    let at = parse_addr(address.as_bytes()).ok()?;
+    let record = place_text(alloc, sources.record_at(at))?;
+    text.push_str(record.as_str()).ok()?;
+    text.push(';').ok()
+}
+
+fn push_records(
+    alloc: Global,
+    sources: &Sources,
+    addresses: &[&str],
+    text: &mut String,
+) -> Option<()> {
+    for address in addresses {
+        push_record(alloc, sources, address, text)?;
+    }
+    Some(())
 }
 
 /// The records of several addresses.
-pub fn records(alloc: Global, sources: &Sources, addresses: &[&str]) -> Result<String, Fail> {
+pub fn records(alloc: Global, sources: &Sources, addresses: &[&str]) -> Option<String> {
     let mut text = String::new(alloc);
-    for address in addresses {
-        text.push_str(record_text(alloc, sources, address)?.as_str())?;
-        text.push(';')?;
-    }
-    Ok(text)
+    push_records(alloc, sources, addresses, &mut text)?;
+    Some(text)
 }
 
 fn override_line(row: Option<&Override>) -> u64 {
@@ -62,48 +72,58 @@ fn row_line(row: Option<&Delegation>) -> (&str, u64) {
 
 /// Why an address has its record: the lines of the override, the reference, the entry and the
 /// delegation, and the record.
-pub fn reasons(alloc: Global, sources: &Sources, address: &str) -> Result<String, Fail> {
-    let why = sources.why_at(parse_addr(address.as_bytes())?);
+pub fn reasons(alloc: Global, sources: &Sources, address: &str) -> Option<String> {
+    let why = sources.why_at(parse_addr(address.as_bytes()).ok()?);
     let over = override_line(why.over);
     let (dump, speaker) = reference_line(why.speaker);
     let entry = entry_line(why.entry);
     let (stats, row) = row_line(why.delegation);
     let place = place_text(alloc, why.place)?;
     let place = place.as_str();
-    Ok(format!(in alloc; "{over}; {dump} {speaker}; {entry}; {stats} {row}; {place}")?)
+    format!(in alloc; "{over}; {dump} {speaker}; {entry}; {stats} {row}; {place}").ok()
 }
 
-fn notes_text(alloc: Global, notes: &[Note]) -> Result<String, Fail> {
-    let mut text = String::new(alloc);
+// Pushes notes as a report prints them.
+fn push_notes(alloc: Global, notes: &[Note], text: &mut String) -> Option<()> {
     for note in notes {
-        text.push_str(note_text(alloc, note)?.as_str())?;
+        let line = note_text(alloc, note).ok()?;
+        text.push_str(line.as_str()).ok()?;
     }
-    Ok(text)
+    Some(())
 }
 
 /// The report as it is printed.
-pub fn printed(alloc: Global, sources: &Sources) -> Result<String, Fail> {
-    let notes = sources.report()?;
-    notes_text(alloc, notes.as_slice())
+pub fn report(alloc: Global, sources: &Sources) -> Option<String> {
+    let notes = sources.report().ok()?;
+    let mut text = String::new(alloc);
+    push_notes(alloc, notes.as_slice(), &mut text)?;
+    Some(text)
 }
 
-fn segment_text(alloc: Global, sources: &Sources, segment: Range) -> Result<String, Fail> {
+fn push_segment(alloc: Global, sources: &Sources, segment: Range, text: &mut String) -> Option<()> {
     let place = place_text(alloc, sources.choice(segment))?;
     let (first, last) = (segment.first, segment.last);
-    Ok(format!(in alloc; "{first:x}-{last:x} {};", place.as_str())?)
+    let line = format!(in alloc; "{first:x}-{last:x} {};", place.as_str()).ok()?;
+    text.push_str(line.as_str()).ok()
 }
 
-fn segments_text(alloc: Global, sources: &Sources, segments: &[Range]) -> Result<String, Fail> {
-    let mut text = String::new(alloc);
+fn push_segments(
+    alloc: Global,
+    sources: &Sources,
+    segments: &[Range],
+    text: &mut String,
+) -> Option<()> {
     for segment in segments {
-        text.push_str(segment_text(alloc, sources, *segment)?.as_str())?;
+        push_segment(alloc, sources, *segment, text)?;
     }
-    Ok(text)
+    Some(())
 }
 
 /// The ends of the segments of a range, and what is said on each.
-pub fn segments(alloc: Global, sources: &Sources, range: &str) -> Result<String, Fail> {
-    let touched = parse_span(range.as_bytes())?;
-    let segments = sources.segments(&[touched])?;
-    segments_text(alloc, sources, segments.as_slice())
+pub fn segments(alloc: Global, sources: &Sources, range: &str) -> Option<String> {
+    let touched = parse_span(range.as_bytes()).ok()?;
+    let segments = sources.segments(&[touched]).ok()?;
+    let mut text = String::new(alloc);
+    push_segments(alloc, sources, segments.as_slice(), &mut text)?;
+    Some(text)
 }

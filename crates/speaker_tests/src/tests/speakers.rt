@@ -1,0 +1,292 @@
+//! Objects and feeds: who speaks at an address, by which entry, and the notes on both.
+use authority::{Authority, DropFault, IndexedFeed};
+use geo_addr::{List, Range, Text, parse_addr, parse_block};
+use geo_terms::{Dump, Entry, Feed, Note, Reference, Said, note_text};
+use std::alloc::Global;
+
+const A: &str = "https://e.example/a.csv";
+
+const B: &str = "https://e.example/b.csv";
+
+/// A dump's slot, and the line, ends, time and URL of its one reference.
+pub type Row<'a> = (&'a str, u64, u128, u128, u64, &'a str);
+
+pub fn dump(alloc: Global, row: Row<'_>) -> Option<Dump> {
+    let (slot, line, first, last, modified, url) = row;
+    if first > last {
+        return None;
+    }
+    let slot = Text::of(alloc, slot).ok()?;
+    let url = Text::of(alloc, url).ok()?;
+    let Ok(copy) = slot.copied() else {
+        return None;
+    };
+    let reference = Reference {
+        slot: copy,
+        line,
+        range: Range { first, last },
+        modified,
+        url,
+    };
+    let Ok(refs) = vec![in alloc; reference] else {
+        return None;
+    };
+    Some(Dump {
+        slot,
+        refs: List::of(refs),
+        notes: List::of(Vec::new(alloc)),
+    })
+}
+
+/// A feed with one entry.
+pub fn feed(alloc: Global, url: &str, line: u64, block: &str) -> Option<Feed> {
+    let block = parse_block(block.as_bytes()).ok()?;
+    let url = Text::of(alloc, url).ok()?;
+    let said = Said::Nothing;
+    let Ok(entries) = vec![in alloc; Entry { line, block, said }] else {
+        return None;
+    };
+    Some(Feed {
+        url,
+        entries: List::of(entries),
+        notes: List::of(Vec::new(alloc)),
+    })
+}
+
+/// The line of a reference; 0 where there is none.
+pub fn reference_line(found: Option<&Reference>) -> u64 {
+    match found {
+        Some(reference) => reference.line,
+        None => 0,
+    }
+}
+
+/// The line of an entry; 0 where there is none.
+pub fn entry_line(found: Option<&Entry>) -> u64 {
+    match found {
+        Some(entry) => entry.line,
+        None => 0,
+    }
+}
+
+/// What is done with sources or asked of them, and what comes of it.
+enum Step {
+    /// The dump of a row is set.
+    Dump(Row<'static>),
+    /// A feed is set, by its URL and the line and block of its one entry; whether another one was
+    /// there.
+    Feed(&'static str, u64, &'static str, bool),
+    /// The dump of a slot is dropped; whether it was there.
+    DropDump(&'static str, bool),
+    /// The feed of a URL is dropped; whether it was there.
+    DropFeed(&'static str, bool),
+    /// The lines of the speaker and of the entry at an address.
+    Lines(&'static str, u64, u64),
+    /// The notes, as a report prints them.
+    Notes(&'static str),
+    /// How many dumps and feeds there are, and the lines of who covers 192.0.2.0/25 by A and by B.
+    Shape(usize, usize, u64, u64),
+}
+
+/// What is done first, then, and then with the sources as they were in between.
+type Script = (&'static [Step], &'static [Step], &'static [Step]);
+
+static SCRIPTS: [Script; 5] = [
+    // Lines 1 and 2 are of one object and one inside it, whose feed is not set; lines 3 and 4 are
+    // of one range and two dates, in two dumps; 5 and 6 of one range and one date.
+    (
+        &[
+            Step::Dump(("a", 1, 0xC000_0000, 0xC000_FFFF, 0, A)),
+            Step::Dump(("b", 2, 0xC000_0200, 0xC000_02FF, 0, B)),
+            Step::Dump(("c", 3, 0x0A00_0000, 0x0A00_00FF, 20_230_101_000_000, A)),
+            Step::Dump(("d", 4, 0x0A00_0000, 0x0A00_00FF, 20_240_101_000_000, A)),
+            Step::Dump(("e", 5, 0x0B00_0000, 0x0B00_00FF, 7, A)),
+            Step::Dump(("f", 6, 0x0B00_0000, 0x0B00_00FF, 7, A)),
+            Step::Feed(A, 9, "192.0.0.0/16", false),
+            Step::Lines("192.0.3.1", 1, 9),
+            Step::Lines("192.0.2.1", 2, 0),
+            Step::Lines("10.0.0.1", 4, 0),
+            Step::Lines("11.0.0.1", 5, 0),
+            Step::Lines("12.0.0.1", 0, 0),
+        ],
+        // What is set and dropped leaves the sources as they were in between.
+        &[
+            Step::Feed(A, 10, "192.0.3.0/24", true),
+            Step::DropDump("b", true),
+            Step::DropDump("b", false),
+            Step::DropFeed(B, false),
+            Step::Shape(5, 1, 1, 0),
+            Step::Lines("192.0.2.1", 1, 0),
+            Step::Lines("192.0.3.1", 1, 10),
+        ],
+        &[
+            Step::Shape(6, 1, 1, 2),
+            Step::Lines("192.0.2.1", 2, 0),
+            Step::Lines("192.0.3.1", 1, 9),
+            // A feed that no object covers, and the notes with it and without it.
+            Step::Dump(("g", 7, 0, u128::MAX, 0, B)),
+            Step::Feed(B, 8, "12.0.0.0/8", false),
+            Step::Notes("rpsl c 3 P08\nrpsl f 6 P08\nfeed https://e.example/b.csv 8 F09\n"),
+            Step::DropFeed(B, true),
+            Step::Notes("rpsl b 2 P09\nrpsl c 3 P08\nrpsl f 6 P08\nrpsl g 7 P09\n"),
+        ],
+    ),
+    // An entry that is not inside the object does not speak there, and is noted.
+    (
+        &[
+            Step::Dump(("a", 1, 0xC000_0200, 0xC000_02FF, 0, A)),
+            Step::Feed(A, 2, "192.0.0.0/16", false),
+            Step::Lines("192.0.2.1", 1, 0),
+            Step::Notes("feed https://e.example/a.csv 2 F09\n"),
+        ],
+        &[],
+        &[],
+    ),
+    (
+        &[
+            Step::Dump(("a", 1, 0xC000_0200, 0xC000_02FF, 0, A)),
+            Step::Feed(A, 2, "192.0.2.0/24", false),
+            Step::Lines("192.0.2.1", 1, 2),
+            Step::Notes(""),
+        ],
+        &[],
+        &[],
+    ),
+    (
+        &[
+            Step::Dump(("a", 1, 0xC000_0200, 0xC000_02FF, 0, A)),
+            Step::Feed(A, 2, "192.0.2.0/25", false),
+            Step::Lines("192.0.2.1", 1, 2),
+            Step::Notes(""),
+        ],
+        &[],
+        &[],
+    ),
+    (
+        &[
+            Step::Dump(("a", 1, 0xC000_0200, 0xC000_02FF, 0, A)),
+            Step::Feed(A, 2, "::/0", false),
+            Step::Lines("192.0.2.1", 1, 0),
+            Step::Notes("feed https://e.example/a.csv 2 F09\n"),
+        ],
+        &[],
+        &[],
+    ),
+];
+
+fn scripts() -> &'static [Script] {
+    &SCRIPTS
+}
+
+fn set_dump(sources: &mut Authority, alloc: Global, row: Row<'_>) -> Option<bool> {
+    let dump = dump(alloc, row)?;
+    Some(sources.set_dump(dump).is_ok())
+}
+
+/// Sets a feed, and says whether another one was there.
+pub fn set_feed(sources: &mut Authority, alloc: Global, feed: Feed) -> Option<bool> {
+    let feed = IndexedFeed::of(alloc, feed).ok()?;
+    match sources.set_feed(feed) {
+        Ok(old) => Some(old.is_some()),
+        Err(_) => None,
+    }
+}
+
+// Whether a drop came out so: done, or refused as not there.
+fn came_out(fault: Option<DropFault>, was_there: bool) -> bool {
+    match fault {
+        None => was_there,
+        Some(DropFault::NotThere) => !was_there,
+        Some(DropFault::Memory) => false,
+    }
+}
+
+fn has_lines(sources: &Authority, address: &str, speaker: u64, entry: u64) -> Option<bool> {
+    let at = parse_addr(address.as_bytes()).ok()?;
+    let found = (
+        reference_line(sources.speaker_at(at)),
+        entry_line(sources.entry_at(at)),
+    );
+    Some(found == (speaker, entry))
+}
+
+fn push_notes(alloc: Global, notes: &[Note], text: &mut String) -> Option<()> {
+    for note in notes {
+        let line = note_text(alloc, note).ok()?;
+        text.push_str(line.as_str()).ok()?;
+    }
+    Some(())
+}
+
+fn has_notes(alloc: Global, sources: &Authority, wanted: &str) -> Option<bool> {
+    let notes = sources.notes().ok()?;
+    let mut text = String::new(alloc);
+    push_notes(alloc, notes.as_slice(), &mut text)?;
+    Some(text.as_str() == wanted)
+}
+
+// The lines of who covers 192.0.2.0/25 by A and by B.
+fn covering(sources: &Authority) -> Option<(u64, u64)> {
+    let block = parse_block(b"192.0.2.0/25").ok()?;
+    Some((
+        reference_line(sources.covering(block, A)),
+        reference_line(sources.covering(block, B)),
+    ))
+}
+
+fn has_shape(sources: &Authority, dumps: usize, feeds: usize, lines: (u64, u64)) -> bool {
+    sources.dumps().len() == dumps
+        && sources.feeds().len() == feeds
+        && sources.feed_of(A).is_some()
+        && covering(sources) == Some(lines)
+}
+
+fn agrees(sources: &mut Authority, alloc: Global, step: &Step) -> Option<bool> {
+    match *step {
+        Step::Dump(row) => set_dump(sources, alloc, row),
+        Step::Feed(url, line, block, replaced) => {
+            let feed = feed(alloc, url, line, block)?;
+            Some(set_feed(sources, alloc, feed)? == replaced)
+        }
+        Step::DropDump(slot, there) => Some(came_out(sources.drop_dump(slot).err(), there)),
+        Step::DropFeed(url, there) => Some(came_out(sources.drop_feed(url).err(), there)),
+        Step::Lines(address, speaker, entry) => has_lines(sources, address, speaker, entry),
+        Step::Notes(wanted) => has_notes(alloc, sources, wanted),
+        Step::Shape(dumps, feeds, by_a, by_b) => {
+            Some(has_shape(sources, dumps, feeds, (by_a, by_b)))
+        }
+    }
+}
+
+// Whether all steps come out as they say.
+fn agree(sources: &mut Authority, alloc: Global, steps: &[Step]) -> bool {
+    for step in steps {
+        if agrees(sources, alloc, step) != Some(true) {
+            return false;
+        }
+    }
+    true
+}
+
+fn agree_in_turn(sources: &mut Authority, alloc: Global, script: &Script) -> bool {
+    let (first, then, before) = *script;
+    if !agree(sources, alloc, first) {
+        return false;
+    }
+    match sources.snapshot() {
+        Ok(mut kept) => agree(sources, alloc, then) && agree(&mut kept, alloc, before),
+        Err(_) => false,
+    }
+}
+
+fn is_done(alloc: Global, script: &Script) -> bool {
+    let mut sources = Authority::new(alloc);
+    agree_in_turn(&mut sources, alloc, script)
+}
+
+#[test]
+fn worked_scripts(rt: HostRuntime) {
+    for (at, script) in scripts().iter().enumerate() {
+        assert!(rt; is_done(rt.alloc(), script), "script {at}");
+    }
+}
