@@ -36,7 +36,11 @@ run() {
     local status=$1 at ended
     words=("${@:2}")
     for at in "${!words[@]}"; do
-        [ "${words[at]}" != "''" ] || words[at]=
+        if [ "${words[at]}" = "''" ]; then
+            words[at]=
+        else
+            printf -v 'words[at]' %b "${words[at]}"
+        fi
     done
     runs=$((runs + 1))
     "$program" "${words[@]}" < /dev/null > "$work/printed" 2> "$work/told"
