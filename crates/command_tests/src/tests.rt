@@ -1,17 +1,10 @@
-//! What `run` prints and how it ends, over a folder and a sink in memory.
+//! Commands over a folder and a sink in memory, where the program cannot show it: calls that fail,
+//! reads that are short, gates; and each command once. What it can show stands in checks/trials.
 ghost use Rattle.std.specs.Prelude.{◌≡◌, ◌<◌};
 
-mod checks;
-mod explanations;
-mod feeds;
-mod fresh;
+mod commands;
 mod gates;
-mod generations;
-mod marks;
-mod publishing;
 mod reads;
-mod rows;
-mod stops;
 mod texts;
 
 use geo_addr::Memory;
@@ -19,19 +12,12 @@ use geo_outside::{Gate, MemFolder, MemSink, OpenGate, Steps};
 use geofeed_cmd::{Status, run};
 use std::alloc::{AllocError, Global};
 use std::marker::{Brand, Sync};
-use std::process::Abort;
 use std::sync::ledger::{Blank, Ledger};
 use std::test::Fail;
 use std::thread::Threads;
 
 /// Names and bytes of files.
-type Files = &'static [(&'static str, &'static str)];
-
-/// Commands, one after another.
-type Commands = &'static [&'static str];
-
-/// The files, the commands, the last status, and all that is printed.
-type Trial = (Files, Commands, Status, &'static str);
+type Files = &'static [(&'static str, &'static [u8])];
 
 /// The numbers of the read, the put and the print that fail; none has the number 0.
 type Faults = (u64, u64, u64);
@@ -39,7 +25,7 @@ type Faults = (u64, u64, u64);
 /// No call fails.
 const NONE: Faults = (0, 0, 0);
 
-/// What commands left: the status of the last, the files, and what was printed.
+/// What a command left: how it ended, the files, and what was printed.
 #[derive(Drop)]
 struct Left {
     status: Status,
@@ -79,13 +65,13 @@ fn nothing(alloc: Global, faults: Faults) -> Result<Left, AllocError> {
 }
 
 /// Sets a file.
-fn hold(left: &mut Left, name: &str, bytes: &[u8]) -> Result<(), Memory> {
-    left.folder.hold(name, bytes)
+fn hold(folder: &mut MemFolder, name: &str, bytes: &[u8]) -> Result<(), Memory> {
+    folder.hold(name, bytes)
 }
 
-fn hold_all(left: &mut Left, files: Files) -> Result<(), Memory> {
+fn hold_all(folder: &mut MemFolder, files: Files) -> Result<(), Memory> {
     for file in files {
-        hold(left, file.0, file.1.as_bytes())?;
+        hold(folder, file.0, file.1)?;
     }
     Ok(())
 }
@@ -93,29 +79,12 @@ fn hold_all(left: &mut Left, files: Files) -> Result<(), Memory> {
 /// A folder of these files, and nothing printed.
 fn start(alloc: Global, files: Files, faults: Faults) -> Result<Left, Fail> {
     let mut left = nothing(alloc, faults)?;
-    hold_all(&mut left, files)?;
+    hold_all(&mut left.folder, files)?;
     Ok(left)
 }
 
-/// A text behind another.
-fn joined(alloc: Global, first: &str, second: &str) -> Result<String, AllocError> {
-    format!(in alloc; "{first}{second}")
-}
-
-static EPOCH: &str = "epoch 1700000000\n";
-
-fn epoch() -> &'static str {
-    EPOCH
-}
-
-/// Sets a job of these lines.
-fn hold_job(alloc: Global, left: &mut Left, steps: &str) -> Result<(), Memory> {
-    let job = joined(alloc, epoch(), steps)?;
-    hold(left, "j", job.as_bytes())
-}
-
 /// The words of a command.
-fn words_of(alloc: Global, command: &str) -> Result<Vec<String>, Fail> {
+fn words_of(alloc: Global, command: &str) -> Result<Vec<String>, AllocError> {
     let mut words = Vec::new(alloc);
     for word in command.split_whitespace() {
         words.push(String::from_str(alloc, word)?)?;
@@ -166,7 +135,7 @@ fn speak_at<R: Threads + Sync, G: Gate>(
     command: &str,
     left: &mut Left,
     gate: &G,
-) -> Result<(), Fail> {
+) -> Result<(), AllocError> {
     let words = words_of(alloc, command)?;
     left.status = ended(rt, alloc, words.as_slice(), left, gate);
     Ok(())
@@ -178,56 +147,26 @@ fn speak<R: Threads + Sync>(
     alloc: Global,
     command: &str,
     left: &mut Left,
-) -> Result<(), Fail> {
+) -> Result<(), AllocError> {
     speak_at(rt, alloc, command, left, &OpenGate)
 }
 
-/// Does these commands, one after another.
-fn speak_all<R: Threads + Sync>(
-    rt: &R,
-    alloc: Global,
-    commands: &[&str],
-    left: &mut Left,
-) -> Result<(), Fail> {
-    for command in commands {
-        speak(rt, alloc, command, left)?;
-    }
-    Ok(())
-}
-
-/// What these commands leave, one after another.
+/// What a command over these files leaves.
 fn left_by<R: Threads + Sync>(
     rt: &R,
     alloc: Global,
     files: Files,
-    commands: Commands,
+    command: &str,
     faults: Faults,
 ) -> Result<Left, Fail> {
     let mut left = start(alloc, files, faults)?;
-    speak_all(rt, alloc, commands, &mut left)?;
+    speak(rt, alloc, command, &mut left)?;
     Ok(left)
 }
 
 /// Whether it ended so, and this was printed.
 fn is_so(left: &Left, status: Status, printed: &str) -> bool {
     left.status == status && left.out.written() == printed.as_bytes()
-}
-
-fn comes_out<R: Threads + Sync>(rt: &R, alloc: Global, trial: &Trial) -> Result<bool, Fail> {
-    let left = left_by(rt, alloc, trial.0, trial.1, NONE)?;
-    Ok(is_so(&left, trial.2, trial.3))
-}
-
-/// Each of these trials comes out so.
-fn come_out<R: Threads + Sync + Abort>(
-    rt: &R,
-    alloc: Global,
-    trials: &[Trial],
-) -> Result<(), Fail> {
-    for trial in trials {
-        assert!(rt; comes_out(rt, alloc, trial)?, "{}", trial.3);
-    }
-    Ok(())
 }
 
 /// Whether there is such a file.
@@ -238,23 +177,4 @@ fn stands(left: &Left, name: &str) -> bool {
 /// The bytes of a file, and none where there is no such file.
 fn bytes_in<'a>(left: &'a Left, name: &str) -> &'a [u8] {
     left.folder.bytes_of(name).unwrap_or(&[])
-}
-
-/// Whether the bytes of two files are equal.
-fn are_equal(left: &Left, one: &str, other: &str) -> bool {
-    stands(left, one) && stands(left, other) && bytes_in(left, one) == bytes_in(left, other)
-}
-
-/// How many files were put.
-fn puts(left: &Left) -> usize {
-    left.folder.puts().len()
-}
-
-/// A text of so many equal lines.
-fn lines(alloc: Global, line: &str, count: u32) -> Result<Vec<u8>, AllocError> {
-    let mut text = Vec::new(alloc);
-    for _ in 0..count {
-        text.extend_from_slice(line.as_bytes())?;
-    }
-    Ok(text)
 }

@@ -49,12 +49,12 @@ impl Gate for Meeting {
 const JOBS: Files = &[
     (
         "f",
-        "epoch 1\npieces 2\nfeed https://a.example/ a\nfeed https://b.example/ b\n",
+        b"epoch 1\npieces 2\nfeed https://a.example/ a\nfeed https://b.example/ b\n",
     ),
-    ("o", "epoch 1\npieces 2\noverrides p\nemit e\n"),
-    ("a", "10.0.0.0/8,FR,,,\n"),
-    ("b", "11.0.0.0/8,DE,,,\n"),
-    ("p", "10.0.0.0/8,set,FR\n12.0.0.0/8,set,DE\n"),
+    ("o", b"epoch 1\npieces 2\noverrides p\nemit e\n"),
+    ("a", b"10.0.0.0/8,FR,,,\n"),
+    ("b", b"11.0.0.0/8,DE,,,\n"),
+    ("p", b"10.0.0.0/8,set,FR\n12.0.0.0/8,set,DE\n"),
 ];
 
 /// How many pieces met while the command was done.

@@ -1,10 +1,11 @@
-//! How steps are done and where they stop, over a folder and a sink in memory.
+//! How the steps of a job are done with files that stand apart, and how much of it.
 ghost use Rattle.std.specs.Prelude.{◌≡◌, ◌<◌, ◌≤◌, length, IfOk};
 
+use super::{Files, hold_all};
 use fan_work::Forks;
 use geo_addr::{Bytes, Memory, Text};
 use geo_outside::{MemFolder, MemSink, OpenGate, Steps};
-use job_lines::{Job, JobFault, read_job};
+use job_lines::{Job, read_job};
 use job_run::{Apart, Cause, Scope, StepStop, Stop, do_steps};
 use mmdb_file::Meta;
 use std::alloc::Global;
@@ -13,9 +14,6 @@ use std::sync::ledger::{Blank, Ledger};
 use std::test::Fail;
 use std::thread::Threads;
 use update_session::Session;
-
-/// Names and bytes of files.
-type Files = &'static [(&'static str, &'static str)];
 
 /// A dump, statistics, a feed and overrides without a note.
 const SOURCES: Files = &[
@@ -28,29 +26,40 @@ const SOURCES: Files = &[
     ("o", "10.0.0.0/26,set,IT\n"),
 ];
 
-fn job_of(alloc: Global, job: &str) -> Result<Job, JobFault> {
-    read_job(alloc, job.as_bytes())
+/// A job that sets them all.
+static JOB: &str =
+    "epoch 1\nrpsl a d\nstats a s\nfeed https://a.example/f f\noverrides o\nreport\n";
+
+fn job() -> &'static str {
+    JOB
 }
 
-fn hold(folder: &mut MemFolder, name: &str, bytes: &[u8]) -> Result<(), Memory> {
-    folder.hold(name, bytes)
+/// The files of the folder and those that stand apart, how much is done, the step at which it
+/// stops, in what way, and what is printed.
+type Row = (Files, Files, Scope, usize, &'static str, &'static str);
+
+static ROWS: [Row; 4] = [
+    (SOURCES, &[], Scope::Whole, 0, "done", "notes 0\n"),
+    (&[], SOURCES, Scope::Whole, 0, "done", "notes 0\n"),
+    (SOURCES, &[("d", "")], Scope::Whole, 1, "missing", ""),
+    (SOURCES, &[], Scope::Sources, 0, "done", ""),
+];
+
+fn rows() -> &'static [Row] {
+    &ROWS
 }
 
-fn hold_all(folder: &mut MemFolder, files: Files) -> Result<(), Memory> {
-    for file in files {
-        hold(folder, file.0, file.1.as_bytes())?;
+fn word_of(ended: Result<(), StepStop>) -> (usize, &'static str) {
+    match ended {
+        Ok(()) => (0, "done"),
+        Err(
+            StepStop {
+                at,
+                why: Stop::Blocked(Cause::Missing),
+            },
+        ) => (at, "missing"),
+        Err(StepStop { at, why: _ }) => (at, "stopped otherwise"),
     }
-    Ok(())
-}
-
-fn empty(alloc: Global) -> MemFolder {
-    MemFolder::new(alloc, Vec::new(alloc), Vec::new(alloc))
-}
-
-fn folder_of(alloc: Global, files: Files) -> Result<MemFolder, Memory> {
-    let mut folder = empty(alloc);
-    hold_all(&mut folder, files)?;
-    Ok(folder)
 }
 
 fn one_apart(alloc: Global, name: &str, bytes: &str) -> Result<Apart, Memory> {
@@ -68,140 +77,10 @@ fn apart_of(alloc: Global, files: Files) -> Result<Vec<Apart>, Memory> {
     Ok(apart)
 }
 
-/// What became of steps: `done`, or why they stopped.
-fn word_of(ended: Result<(), StepStop>) -> (usize, &'static str) {
-    match ended {
-        Ok(()) => (0, "done"),
-        Err(StepStop { at, why }) => (at, why_of(why)),
-    }
-}
-
-fn why_of(why: Stop) -> &'static str {
-    match why {
-        Stop::Blocked(Cause::Missing) => "missing",
-        Stop::Blocked(Cause::NotThere) => "not there",
-        Stop::Blocked(Cause::TooLong) => "too long",
-        Stop::Blocked(Cause::TooMany) => "too many",
-        Stop::Blocked(_) => "blocked",
-        Stop::ReadFailed => "read",
-        Stop::PutFailed => "put",
-        Stop::SinkFailed => "sink",
-        Stop::Memory => "memory",
-    }
-}
-
-/// A run of steps: the files of the folder and those that stand apart, how much is done, and the
-/// lines of the job.
-struct Row {
-    files: Files,
-    apart: Files,
-    scope: Scope,
-    job: &'static str,
-    at: usize,
-    word: &'static str,
-    printed: &'static str,
-}
-
-const SET_ALL: &str =
-    "epoch 1\nrpsl a d\nstats a s\nfeed https://a.example/f f\noverrides o\nreport\n";
-
-static ROWS: [Row; 9] = [
-    Row {
-        files: SOURCES,
-        apart: &[],
-        scope: Scope::Whole,
-        job: SET_ALL,
-        at: 0,
-        word: "done",
-        printed: "notes 0\n",
-    },
-    Row {
-        files: &[],
-        apart: SOURCES,
-        scope: Scope::Whole,
-        job: SET_ALL,
-        at: 0,
-        word: "done",
-        printed: "notes 0\n",
-    },
-    Row {
-        files: SOURCES,
-        apart: &[("d", "")],
-        scope: Scope::Whole,
-        job: SET_ALL,
-        at: 1,
-        word: "missing",
-        printed: "",
-    },
-    Row {
-        files: SOURCES,
-        apart: &[],
-        scope: Scope::Sources,
-        job: SET_ALL,
-        at: 0,
-        word: "done",
-        printed: "",
-    },
-    Row {
-        files: SOURCES,
-        apart: &[],
-        scope: Scope::Whole,
-        job: "epoch 1\nrpsl a d\ndrop rpsl a\nreport\ndrop rpsl a\n",
-        at: 3,
-        word: "not there",
-        printed: "notes 0\n",
-    },
-    Row {
-        files: SOURCES,
-        apart: &[],
-        scope: Scope::Whole,
-        job: "epoch 1\nstats a s\ndrop stats a\ndrop stats b\n",
-        at: 2,
-        word: "not there",
-        printed: "",
-    },
-    Row {
-        files: SOURCES,
-        apart: &[],
-        scope: Scope::Whole,
-        job: "epoch 1\nfeed https://a.example/f f\ndrop feed https://a.example/f\ndrop feed https://a.example/f\n",
-        at: 2,
-        word: "not there",
-        printed: "",
-    },
-    Row {
-        files: SOURCES,
-        apart: &[],
-        scope: Scope::Whole,
-        job: "epoch 1\noverrides o\ndrop overrides\ndrop overrides\n",
-        at: 2,
-        word: "not there",
-        printed: "",
-    },
-    // The third file of a group is missing, and the first was not set for it.
-    Row {
-        files: SOURCES,
-        apart: &[],
-        scope: Scope::Whole,
-        job: "epoch 1\nfeed https://a.example/1 f\nfeed https://a.example/2 f\nfeed https://a.example/3 g\n",
-        at: 2,
-        word: "missing",
-        printed: "",
-    },
-];
-
-fn rows() -> &'static [Row] {
-    &ROWS
-}
-
-/// What the steps of a job are done with.
-#[derive(Drop)]
-struct World {
-    apart: Vec<Apart>,
-    job: Job,
-    session: Session,
-    folder: MemFolder,
-    out: MemSink,
+fn folder_of(alloc: Global, files: Files) -> Result<MemFolder, Memory> {
+    let mut folder = MemFolder::new(alloc, Vec::new(alloc), Vec::new(alloc));
+    hold_all(&mut folder, files)?;
+    Ok(folder)
 }
 
 fn meta(alloc: Global) -> Result<Meta, Memory>
@@ -218,11 +97,21 @@ fn session_of(alloc: Global) -> Result<Session, Memory> {
     Session::new(alloc, meta)
 }
 
+/// What the steps of the job are done with.
+#[derive(Drop)]
+struct World {
+    apart: Vec<Apart>,
+    job: Job,
+    session: Session,
+    folder: MemFolder,
+    out: MemSink,
+}
+
 fn world_of(alloc: Global, row: &Row) -> Result<World, Fail> {
-    let apart = apart_of(alloc, row.apart)?;
-    let job = job_of(alloc, row.job)?;
+    let apart = apart_of(alloc, row.1)?;
+    let job = read_job(alloc, job().as_bytes())?;
     let session = session_of(alloc)?;
-    let folder = folder_of(alloc, row.files)?;
+    let folder = folder_of(alloc, row.0)?;
     Ok(World {
         apart,
         job,
@@ -232,7 +121,7 @@ fn world_of(alloc: Global, row: &Row) -> Result<World, Fail> {
     })
 }
 
-/// Does the steps of a row.
+/// Does the steps.
 fn done<R: Threads + Sync, L: Ledger>(
     rt: &R,
     alloc: Global,
@@ -265,8 +154,8 @@ fn done<R: Threads + Sync, L: Ledger>(
 
 /// Whether they end as the row has it.
 fn ends_so<R: Threads + Sync>(rt: &R, alloc: Global, row: &Row, world: &mut World) -> bool {
-    let ended = done::<R, Brand>(rt, alloc, row.scope, world, Blank::new(1));
-    word_of(ended) == (row.at, row.word)
+    let ended = done::<R, Brand>(rt, alloc, row.2, world, Blank::new(1));
+    word_of(ended) == (row.3, row.4)
 }
 
 fn is_printed(world: &World, printed: &str) -> bool {
@@ -275,7 +164,7 @@ fn is_printed(world: &World, printed: &str) -> bool {
 
 fn comes_out<R: Threads + Sync>(rt: &R, alloc: Global, row: &Row) -> Result<bool, Fail> {
     let mut world = world_of(alloc, row)?;
-    Ok(ends_so(rt, alloc, row, &mut world) && is_printed(&world, row.printed))
+    Ok(ends_so(rt, alloc, row, &mut world) && is_printed(&world, row.5))
 }
 
 #[test]
