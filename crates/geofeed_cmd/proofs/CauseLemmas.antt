@@ -22,9 +22,9 @@ use Rattle.job_run.specs.declared.scope.Scope.TheVariants.{Whole}
 use Rattle.job_run.specs.World.{World, printing}
 use Rattle.job_run.proofs.ActLemmas.{readable, unreadable-long, unreadable-none}
 use Rattle.job_run.proofs.CourseLemmas.{course_blocked, course_free}
+use Rattle.generated_job.specs.Job.{gen_start, gen_steps}
 use Rattle.geofeed_cmd.specs.declared.status.Status.{Status}
 use Rattle.geofeed_cmd.specs.declared.status.Status.TheVariants as statuses
-use Rattle.geofeed_cmd.specs.Commands.Gen.{gen_start, gen_steps}
 use Rattle.geofeed_cmd.specs.Run.Answers.{Prevails, IsAnswer}
 use Rattle.geofeed_cmd.specs.Run.Causes.{IsFree, IsAbsent, IsNoJob, IsBlockedFor, IsOverLimit}
 use Rattle.geofeed_cmd.specs.Run.Causes.{IsDamaged, Causes}

@@ -2,4 +2,3 @@
 pub mod Census
 pub mod Check
 pub mod Explain
-pub mod Gen

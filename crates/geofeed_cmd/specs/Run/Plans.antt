@@ -20,10 +20,10 @@ use Rattle.job_run.specs.World.{World, printing}
 use Rattle.command_words.specs.Commands.{Command, build, lookup, explain, gen, publish, check}
 use Rattle.command_words.specs.Commands.{census}
 use Rattle.published.specs.Publishing.{publishing}
+use Rattle.generated_job.specs.Job.{gen_start, gen_steps}
 use Rattle.geofeed_cmd.specs.Commands.Census.{counting}
 use Rattle.geofeed_cmd.specs.Commands.Check.{checking}
 use Rattle.geofeed_cmd.specs.Commands.Explain.{explaining}
-use Rattle.geofeed_cmd.specs.Commands.Gen.{gen_start, gen_steps}
 
 -- a command is refused at once, with the name that its stop line gives, or it makes these moves
 -- from this world on

@@ -1,16 +1,19 @@
 -- The answer of the generated job from that of its lines.
-use Rattle.std.proofs.Common.{refl, sym, ◌∙◌, ap, List, Some, inl, inr, subst}
+use Rattle.std.proofs.Common.{◌≡◌, ℕ, refl, sym, ◌∙◌, ap, List, [], Some, inl, inr, subst}
 use Rattle.job_lines.specs.declared.job.Step.{Step}
 use Rattle.job_lines.specs.Job.{default_name}
 use Rattle.job_run.specs.declared.apart.Apart.{Apart}
 use Rattle.job_run.specs.Moves.{LacksAt, moves_of}
 use Rattle.command_words.specs.Commands.{gen}
-use Rattle.geofeed_cmd.specs.Commands.Gen.{gen_start, gen_steps}
+use Rattle.generated_job.specs.Job.{gen_files, gen_start, gen_steps}
+use Rattle.generated_job.proofs.ThereLemmas.{none_lacks}
 use Rattle.geofeed_cmd.specs.Run.Plans.{planned}
-use Rattle.geofeed_cmd.proofs.AnswerLemmas.{answered}
-use Rattle.geofeed_cmd.proofs.GenEndLemmas.{gen_ends}
-use Rattle.geofeed_cmd.proofs.GenLemmas.{none_lacks, some_apart}
 use Rattle.geofeed_cmd.proofs.commands.generate.generate.Goals as goal
+
+-- there are files that stand apart
+some_apart : (lines : ℕ) → gen_files lines ≡ [] → ⊥
+unfolding gen_files
+some_apart lines is = cc
 
 pub returns-clause-comes : goal.returns-clause-comes
 returns-clause-comes g c =
@@ -31,7 +34,7 @@ returns-clause-missing g c =
     let files = c.as_slice.ensures.value ∙ c.in-Ok.ensures in
     elim (c.do_whole.ensures.missing_apart gone) [
       | inl rose ↦ rose
-      | inr lacks ↦ absurd (none_lacks c.args.lines lacks.0 c.args.name.now
+      | inr lacks ↦ absurd (none_lacks c.args.lines c.args.name.now c.requires.few lacks.0
           (subst (λ (fs : List Apart). LacksAt fs (gen_steps c.args.name.now) lacks.0) files
           (subst (λ (l : List Step). LacksAt c.as_slice.result.now l lacks.0) list lacks.1)))
     ]
@@ -45,19 +48,3 @@ pub returns-clause-given : goal.returns-clause-given
 returns-clause-given g c =
     let files = c.as_slice.ensures.value ∙ c.in-Ok.ensures in
     (c.do_whole.ensures.apart_only (λ none. some_apart c.args.lines (sym files ∙ none))).1
-
-pub returns-clause-ends : goal.returns-clause-ends
-returns-clause-ends g c =
-    λ first told.
-    let start = gen_start c.args.lines first in
-    let begun = c.standing_stays.ensures.begins 1700000000 default_name c.in-Ok-gen_session.session
-    c.in-Ok-gen_session.ensures in
-    let list = c.as_slice-2.ensures.value ∙ c.in-Ok-gen_steps.ensures in
-    let files = c.as_slice.ensures.value ∙ c.in-Ok.ensures in
-    let comes = c.do_whole.ensures.comes first (Some (gen c.args.lines c.args.name.now)) start
-    (ap (λ (l : List Step). planned (moves_of l) start) (sym list))
-    (record { tells = told; aside = sym files; stands = begun }) refl refl in
-    gen_ends c.args.lines c.args.name.now first c.requires.few c.do_whole.result
-    (answered c.do_whole.result (Some (gen c.args.lines c.args.name.now)) first _ _ _ _ comes)
-    (λ fault.
-    (c.do_whole.ensures.apart_only (λ none. some_apart c.args.lines (sym files ∙ none))).0 fault)

@@ -26,10 +26,10 @@ use Rattle.mmdb_file.specs.FileImage.{same_answer, section, spots, values}
 use Rattle.mmdb_file.specs.PlaceValue.{place_value}
 use Rattle.mmdb_file.specs.Section.{section_of}
 use Rattle.mmdb_file.proofs.PlaceTreeLemmas.{answer_equality}
-use Rattle.geofeed_cmd.proofs.PackedSizes.{most_of, packed_size}
-use Rattle.geofeed_cmd.proofs.RecordPeers.{peers, record_among, stands}
-use Rattle.geofeed_cmd.proofs.RecordCuts.{few_cuts, record_cuts, record_changes}
-use Rattle.geofeed_cmd.proofs.TreeSizes.{few_nodes, size}
+use Rattle.generated_job.proofs.PackedSizes.{most_of, packed_size}
+use Rattle.generated_job.proofs.RecordPeers.{peers, record_among, stands}
+use Rattle.generated_job.proofs.RecordCuts.{few_cuts, record_cuts, record_changes}
+use Rattle.generated_job.proofs.TreeSizes.{few_nodes, size}
 
 once_few : {K : Type 0} (eq : K → K → Bool) (seen xs : List K)
     → length (each_once eq seen xs) ≤ length seen + length xs

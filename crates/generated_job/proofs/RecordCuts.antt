@@ -12,7 +12,7 @@ use Rattle.geo_terms.specs.Cuts.{statement_ranges}
 use Rattle.geo_terms.specs.Precedence.{record_at, spoken_at}
 use Rattle.geo_terms.specs.Sources.{InForce}
 use Rattle.geo_terms.proofs.Constancy.{constant_between_cuts}
-use Rattle.geofeed_cmd.proofs.TreeSizes.{Among, ChangesAt}
+use Rattle.generated_job.proofs.TreeSizes.{Among, ChangesAt}
 
 -- the cut points of ranges, one after another
 abbrev pub cuts : List Ends → List ℕ

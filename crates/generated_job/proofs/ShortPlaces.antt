@@ -29,7 +29,7 @@ use Rattle.csv_lines.specs.declared.rest.Content.TheVariants.{Blank, NotText, No
 use Rattle.feed_csv.specs.File.{accepted, entries, entry_by, entry_line, entry_of, entry_range}
 use Rattle.feed_csv.specs.File.{entry_said}
 use Rattle.feed_csv.specs.Verdicts.{accepted_at, located_at, row_verdict, verdict, verdict_by}
-use Rattle.geofeed_cmd.proofs.RecordPeers.{said, unfiltered}
+use Rattle.generated_job.proofs.RecordPeers.{said, unfiltered}
 
 -- a place of short texts
 pub record IsShort (p : PlaceParts) : Type 0 where

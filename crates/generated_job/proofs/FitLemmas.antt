@@ -1,13 +1,11 @@
--- The generated job's files are within their limits, so none of its lines is blocked for its
--- source.
-use Rattle.std.proofs.Common.{◌≡◌, ℕ, zero, suc, ◌≤◌, ◌⊎◌, inl, inr, Bool, true, false, List, []}
-use Rattle.std.proofs.Common.{◌∷◌, length, take, refl, sym, ap, subst, ◌∙◌, arith, lit≤}
-use Rattle.std.proofs.Common.{length-append}
+-- The generated job's files are there and within their limits, so none of its lines is blocked for
+-- its source.
+use Rattle.std.proofs.Common.{◌≡◌, ℕ, suc, ◌≤◌, Bool, true, false, List, [], ◌∷◌, length, refl, ap}
+use Rattle.std.proofs.Common.{◌∙◌, arith, lit≤, length-append}
 use Rattle.std.proofs.lemmas.Bool.{le-ltb}
-use Rattle.std.specs.Prelude.{nat_lt, Option, Some, None, Ok, Err, slice_get, codes, if◌then◌else◌}
+use Rattle.std.specs.Prelude.{nat_lt, Option, Some, None, Ok, Err, codes, if◌then◌else◌}
 use Rattle.std.specs.List.{cons_option, count_by, filter_map}
 use Rattle.geo_addr.specs.Lines.{numbered_lines}
-use Rattle.geo_outside.specs.Files.{Told}
 use Rattle.geo_terms.specs.declared.source.SourceFault.TheVariants as faults
 use Rattle.geo_terms.specs.declared.statement.Reference.{Reference}
 use Rattle.rpsl_reader.specs.Attributes.{is_attribute}
@@ -23,21 +21,15 @@ use Rattle.feed_csv.specs.File.{entry_of, longest as longest_feed, most as most_
 use Rattle.nro_stats.specs.File.{row_of, longest as longest_stats, most as most_delegations}
 use Rattle.generated.specs.Feeds.{feed}
 use Rattle.generated.proofs.SizeLemmas.{feed_has, few_lines, is_line_feed}
-use Rattle.update_session.specs.State.{is_too_large}
 use Rattle.job_lines.specs.declared.act.Act.TheVariants as acts
 use Rattle.job_run.specs.declared.apart.Apart.{Apart}
-use Rattle.job_run.specs.declared.stop.Cause.{Cause}
-use Rattle.job_run.specs.declared.stop.Cause.TheVariants.{TooLarge}
-use Rattle.job_run.specs.Acts.{Move, looks, counts, does, after, blocked}
-use Rattle.job_run.specs.Course.{ended, unless, course, IsAt}
+use Rattle.job_run.specs.Acts.{looks, counts, does, blocked}
 use Rattle.job_run.specs.Dumps.{refusal}
-use Rattle.job_run.specs.Moves.{moves_of}
 use Rattle.job_run.specs.Sources.{entries_of, no_source, rows_of, unreadable}
 use Rattle.job_run.specs.World.{World, bytes_apart, file_in, held_in}
 use Rattle.job_run.proofs.ActLemmas.{readable, usable}
-use Rattle.geofeed_cmd.specs.Commands.Gen.{dump_file, dump_step, emit_step, first_file, first_step}
-use Rattle.geofeed_cmd.specs.Commands.Gen.{gen_files, gen_start, gen_steps, second_file}
-use Rattle.geofeed_cmd.specs.Commands.Gen.{second_step, stats_file, stats_step}
+use Rattle.generated_job.specs.Job.{dump_file, dump_step, first_file, first_step, gen_files}
+use Rattle.generated_job.specs.Job.{second_file, second_step, stats_file, stats_step}
 
 -- what is taken out of a list is no longer
 pub taken : {X Y : Type 0} (f : X → Option Y) (xs : List X) → length (filter_map f xs) ≤ length xs
@@ -63,7 +55,7 @@ entries_few second lines few =
     let ends = (feed_has second lines few).same in
     omega (arith, taken entry_of (numbered_lines text), few_lines text)
 
-feed_used : (url file : List ℕ) (second : Bool) (lines : ℕ) → lines ≤ 1000000
+pub feed_used : (url file : List ℕ) (second : Bool) (lines : ℕ) → lines ≤ 1000000
     → no_source (acts.Feed url file) (Some (feed second lines)) ≡ None
 feed_used url file second lines few =
     let short = (feed_has second lines few).short in
@@ -71,7 +63,7 @@ feed_used url file second lines few =
     (entries_few second lines few)
 
 -- so are the statistics
-stats_used : (slot file : List ℕ) → no_source (acts.Stats slot file) (Some stats_file.bytes) ≡ None
+pub stats_used : (slot file : List ℕ) → no_source (acts.Stats slot file) (Some stats_file.bytes) ≡ None
 unfolding stats_file
 stats_used slot file =
     let text = stats_file.bytes in
@@ -133,24 +125,8 @@ stats_few slot =
     let ends : count_by is_line_feed text ≤ 1 = lit≤ tt in
     omega (arith, taken (row_of slot) (numbered_lines text), few_lines text, ends)
 
-dump_used : (slot file : List ℕ) → no_source (acts.Rpsl slot file) (Some dump_file.bytes) ≡ None
+pub dump_used : (slot file : List ℕ) → no_source (acts.Rpsl slot file) (Some dump_file.bytes) ≡ None
 dump_used slot file = ap refusal (dump_is slot)
-
--- the files that stand apart stand there through the whole run
-aside_kept : (moves : List Move) (start world : World) → course moves start ≡ ended world
-    → world.apart ≡ start.apart
-aside_kept [] start world led = let same : start ≡ world = cc in
-    ap (λ (w : World). w.apart) (sym same)
-aside_kept (move ∷ moves) start world led =
-    let go : (b : Option Cause)
-    → unless b move start (course moves (after move start)) ≡ ended world
-    → world.apart ≡ start.apart =
-    λ b. elim b as (λ (b : Option Cause). unless b move start (course moves (after move start))
-    ≡ ended world → world.apart ≡ start.apart) [
-      | None ↦ λ next. aside_kept moves (after move start) world next
-      | Some why ↦ λ stop. absurd (cc)
-    ] in
-    go (blocked move start) led
 
 module _ (lines : ℕ) (few : lines ≤ 1000000) (world : World) (aside : world.apart ≡ gen_files lines)
   where
@@ -208,63 +184,3 @@ module _ (lines : ℕ) (few : lines ≤ 1000000) (world : World) (aside : world.
     unfolding first_step second_step
     set_free true = refl
     set_free false = refl
-
-    -- a write is blocked for its size alone
-    emit_free : (line : ℕ) (file : List ℕ)
-        → (blocked (does (emit_step line file)) world ≡ None) ⊎
-        (blocked (does (emit_step line file)) world ≡ Some TooLarge)
-    emit_free line file = by (is_too_large world.session.state)
-      where
-        by : (b : Bool) → ((if b then Some TooLarge else None) ≡ None) ⊎
-            ((if b then Some TooLarge else None) ≡ Some TooLarge)
-        by true = inr refl
-        by false = inl refl
-
-    at_index : (file : List ℕ) (count : ℕ) (move : Move)
-        → slice_get (moves_of (gen_steps file)) count ≡ Some move
-        → (blocked move world ≡ None) ⊎ (blocked move world ≡ Some TooLarge)
-    unfolding gen_steps dump_step stats_step first_step second_step
-    at_index file zero move next =
-        let is : does dump_step ≡ move = cc in
-        inl (subst (λ (m : Move). blocked m world ≡ None) is dump_free)
-    at_index file (suc zero) move next =
-        let is : does stats_step ≡ move = cc in
-        inl (subst (λ (m : Move). blocked m world ≡ None) is stats_free)
-    at_index file (suc (suc zero)) move next =
-        let is : looks first_step ≡ move = cc in
-        inl (subst (λ (m : Move). blocked m world ≡ None) is first_read)
-    at_index file (suc (suc (suc zero))) move next =
-        let is : counts first_step ≡ move = cc in
-        inl (subst (λ (m : Move). blocked m world ≡ None) is first_counted)
-    at_index file (suc (suc (suc (suc zero)))) move next =
-        let is : does first_step ≡ move = cc in
-        inl (subst (λ (m : Move). blocked m world ≡ None) is (set_free false))
-    at_index file (suc (suc (suc (suc (suc zero))))) move next =
-        let is : does (emit_step 5 file) ≡ move = cc in
-        subst (λ (m : Move). (blocked m world ≡ None) ⊎ (blocked m world ≡ Some TooLarge)) is
-        (emit_free 5 file)
-    at_index file (suc (suc (suc (suc (suc (suc zero)))))) move next =
-        let is : looks second_step ≡ move = cc in
-        inl (subst (λ (m : Move). blocked m world ≡ None) is second_read)
-    at_index file (suc (suc (suc (suc (suc (suc (suc zero))))))) move next =
-        let is : counts second_step ≡ move = cc in
-        inl (subst (λ (m : Move). blocked m world ≡ None) is second_counted)
-    at_index file (suc (suc (suc (suc (suc (suc (suc (suc zero)))))))) move next =
-        let is : does second_step ≡ move = cc in
-        inl (subst (λ (m : Move). blocked m world ≡ None) is (set_free true))
-    at_index file (suc (suc (suc (suc (suc (suc (suc (suc (suc zero))))))))) move next =
-        let is : does (emit_step 7 file) ≡ move = cc in
-        subst (λ (m : Move). (blocked m world ≡ None) ⊎ (blocked m world ≡ Some TooLarge)) is
-        (emit_free 7 file)
-    at_index file (suc (suc (suc (suc (suc (suc (suc (suc (suc (suc more)))))))))) move next =
-        absurd (cc)
-
--- no move of the generated job is blocked but a write for its size
-pub gen_blocked : (lines : ℕ) (file : List ℕ) (first : Told) → lines ≤ 1000000
-    → (count : ℕ) (move : Move) (world : World)
-    → IsAt (moves_of (gen_steps file)) (gen_start lines first) count move world
-    → (blocked move world ≡ None) ⊎ (blocked move world ≡ Some TooLarge)
-gen_blocked lines file first few count move world there =
-    at_index lines few world
-    (aside_kept (take count (moves_of (gen_steps file))) (gen_start lines first) world
-    there.done) file count move there.next

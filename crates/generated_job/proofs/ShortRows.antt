@@ -17,8 +17,8 @@ use Rattle.nro_stats.specs.File.{row_by, row_of}
 use Rattle.nro_stats.specs.Verdicts.{fields_verdict, is_kind, is_silent, is_status, judged, placed}
 use Rattle.nro_stats.specs.Verdicts.{placed_in, range_in, record_verdict, verdict}
 use Rattle.nro_stats.specs.Fields.{fields, is_skipped, is_summary_line, is_version_line}
-use Rattle.geofeed_cmd.proofs.RecordPeers.{peers, said}
-use Rattle.geofeed_cmd.proofs.ShortPlaces.{IsShort, SaysShort, raised, said_short, two}
+use Rattle.generated_job.proofs.RecordPeers.{peers, said}
+use Rattle.generated_job.proofs.ShortPlaces.{IsShort, SaysShort, raised, said_short, two}
 
 -- the place of a delegation is short, where there is one
 abbrev RowShort : Option DelegationParts → Type 0

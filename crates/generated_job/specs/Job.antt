@@ -1,4 +1,4 @@
--- `gen N FILE`: the generated job, over files that stand apart from the folder.
+-- The generated job of the command `gen N FILE`, over files that stand apart from the folder.
 use Rattle.std.specs.Prelude.{ℕ, true, false, List, [], ◌∷◌, codes}
 use Rattle.geo_outside.specs.Files.{Told}
 use Rattle.update_session.specs.Standing.{begun_standing}

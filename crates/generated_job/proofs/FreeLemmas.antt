@@ -1,11 +1,12 @@
--- The generated job's files are never too large, and there are numbers for all their nodes.
+-- No move of the generated job is blocked: what it writes is never too large either, and there are
+-- numbers for all nodes.
 use Rattle.std.proofs.Common.{◌≡◌, ℕ, zero, suc, ◌+◌, ◌-◌, ◌*◌, ◌^◌, ◌<◌, ◌≤◌, inl, inr, Bool, true}
 use Rattle.std.proofs.Common.{false, nat_le, List, [], ◌∷◌, ◌++◌, length, map, take, refl, sym, ap}
 use Rattle.std.proofs.Common.{subst, ◌∙◌, arith, lit≤, lit<, length-append}
 use Rattle.std.proofs.Math.Nat.{mul-le-mul_right}
 use Rattle.std.proofs.lemmas.Bool.{lt-leb}
 use Rattle.std.proofs.lemmas.List.{length-map}
-use Rattle.std.specs.Prelude.{if◌then◌else◌, Option, Some, None, codes, slice_get}
+use Rattle.std.specs.Prelude.{if◌then◌else◌, Option, Some, None, codes}
 use Rattle.geo_addr.specs.Lines.{numbered_lines}
 use Rattle.geo_addr.specs.Ranges.{range_of_block}
 use Rattle.geo_outside.specs.Files.{Told}
@@ -46,18 +47,18 @@ use Rattle.job_run.specs.Moves.{moves_of}
 use Rattle.job_run.specs.Sources.{change_by, dump_change, sourced}
 use Rattle.job_run.specs.Stops.{IsSpent}
 use Rattle.job_run.specs.World.{World, file_in}
-use Rattle.geofeed_cmd.specs.Commands.Gen.{dump_file, dump_step, emit_step, first_step, gen_files}
-use Rattle.geofeed_cmd.specs.Commands.Gen.{gen_start, gen_steps, second_step, stats_file}
-use Rattle.geofeed_cmd.specs.Commands.Gen.{stats_step}
-use Rattle.geofeed_cmd.proofs.GenFitLemmas.{dump_free, dump_held, dump_is, few_dump, first_counted}
-use Rattle.geofeed_cmd.proofs.GenFitLemmas.{first_held, first_read, second_counted, second_held}
-use Rattle.geofeed_cmd.proofs.GenFitLemmas.{second_read, set_free, stats_few, stats_free}
-use Rattle.geofeed_cmd.proofs.GenFitLemmas.{stats_held, taken}
-use Rattle.geofeed_cmd.proofs.PlaceSizes.{place_takes}
-use Rattle.geofeed_cmd.proofs.RecordPeers.{few_peers, peers}
-use Rattle.geofeed_cmd.proofs.ShortPlaces.{entries_short, kept_few}
-use Rattle.geofeed_cmd.proofs.ShortRows.{among-append, peers_short, rows_short}
-use Rattle.geofeed_cmd.proofs.SpotSizes.{few_file_bytes, few_file_nodes}
+use Rattle.generated_job.specs.Job.{dump_file, dump_step, emit_step, first_step, gen_files}
+use Rattle.generated_job.specs.Job.{gen_start, gen_steps, second_step, stats_file}
+use Rattle.generated_job.specs.Job.{stats_step}
+use Rattle.generated_job.proofs.FitLemmas.{dump_free, dump_held, dump_is, few_dump, first_counted}
+use Rattle.generated_job.proofs.FitLemmas.{first_held, first_read, second_counted, second_held}
+use Rattle.generated_job.proofs.FitLemmas.{second_read, set_free, stats_few, stats_free}
+use Rattle.generated_job.proofs.FitLemmas.{stats_held, taken}
+use Rattle.generated_job.proofs.PlaceSizes.{place_takes}
+use Rattle.generated_job.proofs.RecordPeers.{few_peers, peers}
+use Rattle.generated_job.proofs.ShortPlaces.{entries_short, kept_few}
+use Rattle.generated_job.proofs.ShortRows.{among-append, peers_short, rows_short}
+use Rattle.generated_job.proofs.SpotSizes.{few_file_bytes, few_file_nodes}
 
 -- ---- statements that changed are few
 
@@ -256,65 +257,43 @@ fits second lines few state same =
     ∙ lt-leb (2 ^ 32) (file_nodes (record_tree (with_feed second lines)) + 16 + length
     (file_section (record_tree (with_feed second lines)))) (small second lines few)
 
+-- ---- moves that can all be made
+
+-- each of these moves can be made from this world on, and there are numbers for what it makes
+abbrev AllFree : List Move → World → Type 0
+AllFree [] world = Unit {0}
+AllFree (move ∷ moves) world =
+    ((blocked move world ≡ None) × (IsSpent move world → ⊥)) × AllFree moves (after move world)
+
+free_at : (moves : List Move) (start : World) → AllFree moves start
+    → (count : ℕ) (move : Move) (world : World) → IsAt moves start count move world
+    → (blocked move world ≡ None) × (IsSpent move world → ⊥)
+free_at [] start free count move world there = absurd (let next = there.next in cc)
+free_at (first ∷ moves) start free zero move world there =
+    let same : first ≡ move = let next = there.next in cc in
+    let now : start ≡ world = let done = there.done in cc in
+    subst (λ (m : Move). (blocked m world ≡ None) × (IsSpent m world → ⊥)) same
+    (subst (λ (w : World). (blocked first w ≡ None) × (IsSpent first w → ⊥)) now free.0)
+free_at (first ∷ moves) start free (suc count) move world there =
+    let led : course (take count moves) (after first start) ≡ ended world =
+    subst (λ (b : Option Cause).
+    unless b first start (course (take count moves) (after first start)) ≡ ended world) free.0.0
+    there.done in
+    free_at moves (after first start) free.1 count move world
+    (record { done = led; next = there.next })
+
 -- ---- the worlds of the run, one after another
 
--- what holds before the move at an index
-abbrev Standing_at : ℕ → ℕ → Standing → Type 0
-Standing_at lines zero w = Stage w no_sources 0 0 0
-Standing_at lines (suc zero) w = Stage w with_dump 10 0 0
-Standing_at lines (suc (suc zero)) w = Stage w with_stats 12 0 0
-Standing_at lines (suc (suc (suc zero))) w = Stage w with_stats 12 0 0
-Standing_at lines (suc (suc (suc (suc zero)))) w = Stage w with_stats 12 0 0
-Standing_at lines (suc (suc (suc (suc (suc zero))))) w = Stage w (with_feed false lines) 1000013 0 0
-Standing_at lines (suc (suc (suc (suc (suc (suc zero)))))) w =
-    Stage w (with_feed false lines) 0 768010240 3000040
-Standing_at lines (suc (suc (suc (suc (suc (suc (suc zero))))))) w =
-    Stage w (with_feed false lines) 0 768010240 3000040
-Standing_at lines (suc (suc (suc (suc (suc (suc (suc (suc zero)))))))) w =
-    Stage w (with_feed false lines) 0 768010240 3000040
-Standing_at lines (suc (suc (suc (suc (suc (suc (suc (suc (suc zero))))))))) w =
-    Stage w (with_feed true lines) 2000002 768010240 3000040
-Standing_at lines (suc (suc (suc (suc (suc (suc (suc (suc (suc (suc more)))))))))) w =
-    Stage w (with_feed true lines) 0 1792017664 7000069
-
-counted_by : (w : Standing) (n m : ℕ) → w.nodes ≤ n → w.numbered ≤ m → n < 2 ^ 32 - 1
-    → m < 2 ^ 32 - 1 → (w.nodes < 2 ^ 32 - 1) × (w.numbered < 2 ^ 32 - 1)
-counted_by w n m made counted a b = (omega arith, omega arith)
-
--- there are numbers for all nodes and places at each of them
-all_counted : (lines index : ℕ) (w : Standing) → Standing_at lines index w
-    → (w.nodes < 2 ^ 32 - 1) × (w.numbered < 2 ^ 32 - 1)
-all_counted lines zero w stage = counted_by w 0 0 stage.made stage.counted (lit< tt) (lit< tt)
-all_counted lines (suc zero) w stage = counted_by w 0 0 stage.made stage.counted (lit< tt) (lit< tt)
-all_counted lines (suc (suc zero)) w stage =
-    counted_by w 0 0 stage.made stage.counted (lit< tt) (lit< tt)
-all_counted lines (suc (suc (suc zero))) w stage =
-    counted_by w 0 0 stage.made stage.counted (lit< tt) (lit< tt)
-all_counted lines (suc (suc (suc (suc zero)))) w stage =
-    counted_by w 0 0 stage.made stage.counted (lit< tt) (lit< tt)
-all_counted lines (suc (suc (suc (suc (suc zero))))) w stage =
-    counted_by w 0 0 stage.made stage.counted (lit< tt) (lit< tt)
-all_counted lines (suc (suc (suc (suc (suc (suc zero)))))) w stage =
-    counted_by w 768010240 3000040 stage.made stage.counted (lit< tt) (lit< tt)
-all_counted lines (suc (suc (suc (suc (suc (suc (suc zero))))))) w stage =
-    counted_by w 768010240 3000040 stage.made stage.counted (lit< tt) (lit< tt)
-all_counted lines (suc (suc (suc (suc (suc (suc (suc (suc zero)))))))) w stage =
-    counted_by w 768010240 3000040 stage.made stage.counted (lit< tt) (lit< tt)
-all_counted lines (suc (suc (suc (suc (suc (suc (suc (suc (suc zero))))))))) w stage =
-    counted_by w 768010240 3000040 stage.made stage.counted (lit< tt) (lit< tt)
-all_counted lines (suc (suc (suc (suc (suc (suc (suc (suc (suc (suc more)))))))))) w stage =
-    counted_by w 1792017664 7000069 stage.made stage.counted (lit< tt) (lit< tt)
-
-abbrev World_at : (lines index : ℕ) → World → Type 0
-World_at lines index world = Standing_at lines index world.session × (world.apart ≡ gen_files lines)
-
 module _ (lines : ℕ) (few : lines ≤ 1000000) (file : List ℕ) where
-  -- what a move makes of them
-  abbrev Leads : ℕ → Move → Type 0
-  Leads index move = (world : World) → World_at lines index world
-      → World_at lines (suc index) (after move world)
+  -- these sources are in force, so many grounds wait for an emit, and the emits so far made so many
+  -- nodes and numbers at most; the job's files stand apart
+  abbrev Here : InForce → (pending nodes numbered : ℕ) → World → Type 0
+  Here sources pending nodes numbered world =
+      Stage world.session sources pending nodes numbered × (world.apart ≡ gen_files lines)
 
-  dumps : Leads 0 (does dump_step)
+  -- what a move makes of them
+  dumps : (world : World) → Here no_sources 0 0 0 world
+      → Here with_dump 10 0 0 (after (does dump_step) world)
   unfolding dump_step
   dumps world here =
       let change : change_by dump_step.act (file_in world (codes "gen.db"))
@@ -331,12 +310,13 @@ module _ (lines : ℕ) (few : lines ≤ 1000000) (file : List ℕ) where
         changed_few same_reference [] the_dump.refs,
         few_dump (codes "gen"),
       ) in (
-        subst (Standing_at lines 1) (sym moved)
+        subst (λ (w : Standing). Stage w with_dump 10 0 0) (sym moved)
             (set_stage (SetDump the_dump) world.session no_sources 0 0 0 10 here.0 fresh),
         here.1,
       )
 
-  counts_rows : Leads 1 (does stats_step)
+  counts_rows : (world : World) → Here with_dump 10 0 0 world
+      → Here with_stats 12 0 0 (after (does stats_step) world)
   unfolding stats_step
   counts_rows world here =
       let change : change_by stats_step.act (file_in world (codes "gen.txt"))
@@ -352,12 +332,13 @@ module _ (lines : ℕ) (few : lines ≤ 1000000) (file : List ℕ) where
         changed_few same_delegation [] the_stats.rows,
         stats_few (codes "gen"),
       ) in (
-        subst (Standing_at lines 2) (sym moved)
+        subst (λ (w : Standing). Stage w with_stats 12 0 0) (sym moved)
             (set_stage (SetStats the_stats) world.session with_dump 10 0 0 2 here.0 fresh),
         here.1,
       )
 
-  sets_first : Leads 4 (does first_step)
+  sets_first : (world : World) → Here with_stats 12 0 0 world
+      → Here (with_feed false lines) 1000013 0 0 (after (does first_step) world)
   unfolding first_step
   sets_first world here =
       let f = the_feed false lines in
@@ -373,12 +354,13 @@ module _ (lines : ℕ) (few : lines ≤ 1000000) (file : List ℕ) where
         changed_few same_entry [] f.entries,
         entries_count false lines few,
       ) in (
-        subst (Standing_at lines 5) (sym moved)
+        subst (λ (w : Standing). Stage w (with_feed false lines) 1000013 0 0) (sym moved)
             (set_stage (SetFeed f) world.session with_stats 12 0 0 1000001 here.0 fresh),
         here.1,
       )
 
-  sets_second : Leads 8 (does second_step)
+  sets_second : (world : World) → Here (with_feed false lines) 0 768010240 3000040 world
+      → Here (with_feed true lines) 2000002 768010240 3000040 (after (does second_step) world)
   unfolding second_step
   sets_second world here =
       let f = the_feed true lines in
@@ -397,116 +379,22 @@ module _ (lines : ℕ) (few : lines ≤ 1000000) (file : List ℕ) where
         entries_count false lines few,
         entries_count true lines few,
       ) in (
-        subst (Standing_at lines 9) (sym moved)
+        subst (λ (w : Standing). Stage w (with_feed true lines) 2000002 768010240 3000040)
+            (sym moved)
             (set_stage (SetFeed f) world.session (with_feed false lines) 0 768010240 3000040 2000002
             here.0 fresh),
         here.1,
       )
 
-  writes_first : Leads 5 (does (emit_step 5 file))
-  writes_first world here = (
-    emit_stage world.session (with_feed false lines) 1000013 0 0 1000013 here.0
-        (few_ranges false lines few),
+  writes : (second : Bool) (line p n m : ℕ) (world : World)
+      → Here (with_feed second lines) p n m world
+      → Here (with_feed second lines) 0 (n + 256 * (p + 2 * 1000013 + 1)) (m + (p + 2 * 1000013 + 1))
+      (after (does (emit_step line file)) world)
+  writes second line p n m world here = (
+    emit_stage world.session (with_feed second lines) p n m 1000013 here.0
+        (few_ranges second lines few),
     here.1,
   )
-
-  writes_second : Leads 9 (does (emit_step 7 file))
-  writes_second world here = (
-    emit_stage world.session (with_feed true lines) 2000002 768010240 3000040 1000013 here.0
-        (few_ranges true lines few),
-    here.1,
-  )
-
-  -- each move of a list leads on
-  abbrev Lead : ℕ → List Move → Type 0
-  Lead index [] = Unit {0}
-  Lead index (move ∷ moves) = Leads index move × Lead (suc index) moves
-
-  all_lead : Lead 0 (moves_of (gen_steps file))
-  unfolding gen_steps dump_step stats_step first_step second_step
-  all_lead = (
-    dumps,
-    (
-      counts_rows,
-      (
-        λ world here. here,
-        (
-          λ world here. here,
-          (
-            sets_first,
-            (
-              writes_first,
-              (λ world here. here, (λ world here. here, (sets_second, (writes_second, tt)))),
-            ),
-          ),
-        ),
-      ),
-    ),
-  )
-
-  -- an index behind another one
-  abbrev past : ℕ → ℕ → ℕ
-  past index zero = index
-  past index (suc count) = past (suc index) count
-
-  record Reached (index : ℕ) (move : Move) (world : World) : Type 0 where
-    here : World_at lines index world
-    next : World_at lines (suc index) (after move world)
-
-  reached : (moves : List Move) (index : ℕ) → Lead index moves → (start : World)
-      → World_at lines index start
-      → (count : ℕ) (move : Move) (world : World) → IsAt moves start count move world
-      → Reached (past index count) move world
-  reached [] index lead start stands count move world there = absurd (let next = there.next in cc)
-  reached (first ∷ moves) index lead start stands zero move world there =
-      let same : first ≡ move = let next = there.next in cc in
-      let now : start ≡ world = let done = there.done in cc in
-      subst (λ (m : Move). Reached index m world) same
-      (subst (λ (w : World). Reached index first w) now
-      (record { here = stands; next = lead.0 start stands }))
-  reached (first ∷ moves) index lead start stands (suc count) move world there =
-      let go : (b : Option Cause)
-      → unless b first start (course (take count moves) (after first start)) ≡ ended world
-      → Reached (past (suc index) count) move world =
-      λ b. elim b as (λ (b : Option Cause).
-      unless b first start (course (take count moves) (after first start)) ≡ ended world
-      → Reached (past (suc index) count) move world) [
-        | None ↦ λ led. reached moves (suc index) lead.1 (after first start) (lead.0 start stands)
-            count move world (record { done = led; next = there.next })
-        | Some why ↦ λ stop. absurd (cc)
-      ] in
-      go (blocked first start) there.done
-
-  begun : (first : Told) → World_at lines 0 (gen_start lines first)
-  begun first = (record { same = refl; waiting = lit≤ tt; made = lit≤ tt; counted = lit≤ tt }, refl)
-
-  gen_reached : (first : Told) (count : ℕ) (move : Move) (world : World)
-      → IsAt (moves_of (gen_steps file)) (gen_start lines first) count move world
-      → Reached (past 0 count) move world
-  gen_reached first count move world there =
-      reached (moves_of (gen_steps file)) 0 all_lead (gen_start lines first) (begun first) count
-      move world there
-
-  -- there are numbers for all nodes and places of each write
-  pub never_spent : (first : Told) (count : ℕ) (move : Move) (world : World)
-      → IsAt (moves_of (gen_steps file)) (gen_start lines first) count move world
-      → IsSpent move world → ⊥
-  never_spent first count move world there spent =
-      let now = all_counted lines (suc (past 0 count)) (after move world).session
-      (gen_reached first count move world there).next.0 in
-      elim spent [
-        | inl nodes ↦ (let few_nodes = now.0 in omega arith)
-        | inr numbers ↦ (let few_numbers = now.1 in omega arith)
-      ]
-
-  -- and neither file is too large
-  free_of : (m move : Move) (world : World) → m ≡ move → blocked m world ≡ None
-      → blocked move world ≡ Some TooLarge → ⊥
-  free_of m move world same free large =
-      let here : blocked move world ≡ None =
-      subst (λ (x : Move). blocked x world ≡ None) same free in
-      let both : Some TooLarge ≡ None = sym large ∙ here in
-      cc
 
   emit_free : (second : Bool) (line : ℕ) (world : World)
       → world.session.state.sources ≡ with_feed second lines
@@ -515,50 +403,66 @@ module _ (lines : ℕ) (few : lines ≤ 1000000) (file : List ℕ) where
       ap (λ (b : Bool). if b then Some TooLarge else None)
       (fits second lines few world.session.state same)
 
-  large_nowhere : (count : ℕ) (move : Move) (world : World)
-      → slice_get (moves_of (gen_steps file)) count ≡ Some move → Reached (past 0 count) move world
-      → blocked move world ≡ Some TooLarge → ⊥
-  unfolding gen_steps dump_step stats_step first_step second_step
-  large_nowhere zero move world next here large =
-      let is : does dump_step ≡ move = cc in
-      free_of (does dump_step) move world is (dump_free lines few world here.here.1) large
-  large_nowhere (suc zero) move world next here large =
-      let is : does stats_step ≡ move = cc in
-      free_of (does stats_step) move world is (stats_free lines few world here.here.1) large
-  large_nowhere (suc (suc zero)) move world next here large =
-      let is : looks first_step ≡ move = cc in
-      free_of (looks first_step) move world is (first_read lines few world here.here.1) large
-  large_nowhere (suc (suc (suc zero))) move world next here large =
-      let is : counts first_step ≡ move = cc in
-      free_of (counts first_step) move world is (first_counted lines few world here.here.1)
-      large
-  large_nowhere (suc (suc (suc (suc zero)))) move world next here large =
-      let is : does first_step ≡ move = cc in
-      free_of (does first_step) move world is (set_free lines few world here.here.1 false) large
-  large_nowhere (suc (suc (suc (suc (suc zero))))) move world next here large =
-      let is : does (emit_step 5 file) ≡ move = cc in
-      free_of (does (emit_step 5 file)) move world is (emit_free false 5 world here.here.0.same)
-      large
-  large_nowhere (suc (suc (suc (suc (suc (suc zero)))))) move world next here large =
-      let is : looks second_step ≡ move = cc in
-      free_of (looks second_step) move world is (second_read lines few world here.here.1) large
-  large_nowhere (suc (suc (suc (suc (suc (suc (suc zero))))))) move world next here large =
-      let is : counts second_step ≡ move = cc in
-      free_of (counts second_step) move world is (second_counted lines few world here.here.1)
-      large
-  large_nowhere (suc (suc (suc (suc (suc (suc (suc (suc zero)))))))) move world next here large =
-      let is : does second_step ≡ move = cc in
-      free_of (does second_step) move world is (set_free lines few world here.here.1 true) large
-  large_nowhere (suc (suc (suc (suc (suc (suc (suc (suc (suc zero))))))))) move world next here
-      large =
-      let is : does (emit_step 7 file) ≡ move = cc in
-      free_of (does (emit_step 7 file)) move world is (emit_free true 7 world here.here.0.same)
-      large
-  large_nowhere (suc (suc (suc (suc (suc (suc (suc (suc (suc (suc more)))))))))) move world next
-      here large = absurd (cc)
+  -- where a session stands so, these moves can all be made
+  record FreeFrom (sources : InForce) (pending nodes numbered : ℕ)
+      (moves : List Move) : Type 0 where
+    free : (world : World) → Here sources pending nodes numbered world → AllFree moves world
 
-  pub never_large : (first : Told) (count : ℕ) (move : Move) (world : World)
+  -- and so they can behind a move that can be made and leads there
+  on : (before after_it : InForce) (p n m q k l : ℕ) (move : Move) (moves : List Move)
+      → k < 2 ^ 32 - 1 → l < 2 ^ 32 - 1
+      → ((world : World) → Here before p n m world → blocked move world ≡ None)
+      → ((world : World) → Here before p n m world → Here after_it q k l (after move world))
+      → FreeFrom after_it q k l moves → FreeFrom before p n m (move ∷ moves)
+  on before after_it p n m q k l move moves few_nodes few_numbers free leads later = record {
+    free = λ world here.
+        let next = leads world here in (
+          (free world here, λ spent. go world next.0.made next.0.counted spent),
+          later.free (after move world) next,
+        );
+  }
+    where
+      go : (world : World) → (after move world).session.nodes ≤ k
+          → (after move world).session.numbered ≤ l → IsSpent move world → ⊥
+      go world made counted (inl nodes) = omega arith
+      go world made counted (inr numbers) = omega arith
+
+  all_free : FreeFrom no_sources 0 0 0 (moves_of (gen_steps file))
+  unfolding gen_steps dump_step stats_step first_step second_step
+  all_free =
+      on no_sources with_dump 0 0 0 10 0 0 (does dump_step) _ (lit< tt) (lit< tt)
+      (λ world here. dump_free lines few world here.1) dumps
+      (on with_dump with_stats 10 0 0 12 0 0 (does stats_step) _ (lit< tt) (lit< tt)
+      (λ world here. stats_free lines few world here.1) counts_rows
+      (on with_stats with_stats 12 0 0 12 0 0 (looks first_step) _ (lit< tt) (lit< tt)
+      (λ world here. first_read lines few world here.1) (λ world here. here)
+      (on with_stats with_stats 12 0 0 12 0 0 (counts first_step) _ (lit< tt) (lit< tt)
+      (λ world here. first_counted lines few world here.1) (λ world here. here)
+      (on with_stats (with_feed false lines) 12 0 0 1000013 0 0 (does first_step) _
+      (lit< tt) (lit< tt) (λ world here. set_free lines few world here.1 false) sets_first
+      (on (with_feed false lines) (with_feed false lines) 1000013 0 0 0 768010240 3000040
+      (does (emit_step 5 file)) _ (lit< tt) (lit< tt)
+      (λ world here. emit_free false 5 world here.0.same) (writes false 5 1000013 0 0)
+      (on (with_feed false lines) (with_feed false lines) 0 768010240 3000040 0 768010240 3000040
+      (looks second_step) _ (lit< tt) (lit< tt)
+      (λ world here. second_read lines few world here.1) (λ world here. here)
+      (on (with_feed false lines) (with_feed false lines) 0 768010240 3000040 0 768010240 3000040
+      (counts second_step) _ (lit< tt) (lit< tt)
+      (λ world here. second_counted lines few world here.1) (λ world here. here)
+      (on (with_feed false lines) (with_feed true lines) 0 768010240 3000040 2000002 768010240
+      3000040 (does second_step) _ (lit< tt) (lit< tt)
+      (λ world here. set_free lines few world here.1 true) sets_second
+      (on (with_feed true lines) (with_feed true lines) 2000002 768010240 3000040 0 1792017664
+      7000069 (does (emit_step 7 file)) _ (lit< tt) (lit< tt)
+      (λ world here. emit_free true 7 world here.0.same) (writes true 7 2000002 768010240 3000040)
+      (record { free = λ world here. tt }))))))))))
+
+  begun : (first : Told) → Here no_sources 0 0 0 (gen_start lines first)
+  begun first = (record { same = refl; waiting = lit≤ tt; made = lit≤ tt; counted = lit≤ tt }, refl)
+
+  pub runs_freely : (first : Told) (count : ℕ) (move : Move) (world : World)
       → IsAt (moves_of (gen_steps file)) (gen_start lines first) count move world
-      → blocked move world ≡ Some TooLarge → ⊥
-  never_large first count move world there large =
-      large_nowhere count move world there.next (gen_reached first count move world there) large
+      → (blocked move world ≡ None) × (IsSpent move world → ⊥)
+  runs_freely first count move world there =
+      free_at (moves_of (gen_steps file)) (gen_start lines first)
+      (all_free.free (gen_start lines first) (begun first)) count move world there

@@ -1,0 +1,11 @@
+pub mod FitLemmas
+pub mod FreeLemmas
+pub mod PackedSizes
+pub mod PlaceSizes
+pub mod RecordCuts
+pub mod RecordPeers
+pub mod ShortPlaces
+pub mod ShortRows
+pub mod SpotSizes
+pub mod ThereLemmas
+pub mod TreeSizes
