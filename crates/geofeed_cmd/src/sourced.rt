@@ -32,7 +32,6 @@ use update_session::laws::standing_stays;
 
 /// A session in which the lines of a job were done that set and drop sources, mark, and go back; or
 /// the status of the command, whose stop line was printed.
-#[tactic(auto, using(crate::proofs::StatusLemmas::status_causes))]
 pub(crate) fn sources_of<R: Threads + Sync, F: Folder, O: Sink, G: Gate, L: Ledger>(
     forks: &Forks<'_, R, G>,
     job: Job,

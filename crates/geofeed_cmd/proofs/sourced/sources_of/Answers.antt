@@ -6,6 +6,7 @@ use Rattle.job_run.specs.Moves.{source_moves}
 use Rattle.geofeed_cmd.specs.Run.Plans.{start_of, planned}
 use Rattle.geofeed_cmd.proofs.AnswerLemmas.{comes_stop}
 use Rattle.geofeed_cmd.proofs.LastLemmas.{at_longer}
+use Rattle.geofeed_cmd.proofs.StatusLemmas.{status_causes}
 use Rattle.geofeed_cmd.proofs.sourced.sources_of.Goals as goal
 
 pub returns-in-Ok-do_steps-clause-ok : goal.returns-in-Ok-do_steps-clause-ok
@@ -47,3 +48,15 @@ returns-clause-err g c =
     c.in-Err-do_steps.ensures.put_failed
     (λ sink. let rose : Rose (g.O.Sink.faults c.args.out.now) (g.O.Sink.faults c.do_steps.new.out) =
     c.in-Err-do_steps.ensures.sink_failed sink in omega arith))
+
+pub returns-clause-not_words : goal.returns-clause-not_words
+returns-clause-not_words g c = grind (arith, status_causes)
+
+pub returns-clause-read : goal.returns-clause-read
+returns-clause-read g c = grind (arith, status_causes)
+
+pub returns-clause-missing : goal.returns-clause-missing
+returns-clause-missing g c = grind (arith, status_causes)
+
+pub returns-clause-unwritten : goal.returns-clause-unwritten
+returns-clause-unwritten g c = grind (arith, status_causes)
