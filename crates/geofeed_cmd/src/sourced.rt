@@ -25,6 +25,7 @@ use job_lines::{Job, Step};
 use job_run::{Scope, StepStop, do_steps, name_of};
 use std::alloc::Global;
 use std::marker::Sync;
+use std::mem::forget;
 use std::sync::ledger::Ledger;
 use std::thread::Threads;
 use update_session::Session;
@@ -87,7 +88,11 @@ pub(crate) fn sources_of<R: Threads + Sync, F: Folder, O: Sink, G: Gate, L: Ledg
         steps,
     ) {
         Ok(()) => Ok(session),
-        Err(stop) => Err(stop_in(forks.alloc, list, stop, out)),
+        Err(stop) => {
+            // The process ends: its memory goes back whole, not source by source.
+            forget(session);
+            Err(stop_in(forks.alloc, list, stop, out))
+        }
     }
 }
 

@@ -6,6 +6,7 @@ use geo_outside::{Gate, OpenGate};
 use override_rows::read_overrides;
 use std::alloc::Global;
 use std::marker::Sync;
+use std::mem::drop;
 use std::sync::atomic::{AtomicU64, Ordering};
 use std::test::Fail;
 use std::thread;
@@ -110,12 +111,30 @@ fn flags_of_networks<R: Threads + Sync>(
     Ok(gate.count())
 }
 
-// Of the second emit one network alone has changed.
+// The flags of an emit, and of one after which a single network has changed.
+fn flags_of_both<R: Threads + Sync>(
+    rt: &R,
+    alloc: Global,
+    session: &mut Session,
+) -> Result<(u32, u32), Fail> {
+    let first = flags_of_networks(rt, alloc, session, b"FR")?;
+    let second = flags_of_networks(rt, alloc, session, b"DE")?;
+    Ok((first, second))
+}
+
+// The same on a session that has begun. It is let go by name here and below: one that goes at the
+// end of each way out costs its function's proof half a minute.
+fn flags_of_two<R: Threads + Sync>(rt: &R, alloc: Global) -> Result<(u32, u32), Fail> {
+    let mut session = begun(alloc)?;
+    let flags = flags_of_both(rt, alloc, &mut session);
+    drop(session);
+    flags
+}
+
 #[test]
 fn each_piece_with_segments_enters(rt: HostRuntime) -> Result<(), Fail> {
-    let mut session = begun(rt.alloc())?;
-    assert!(rt; flags_of_networks(&rt, rt.alloc(), &mut session, b"FR")? == 64);
-    let second = flags_of_networks(&rt, rt.alloc(), &mut session, b"DE")?;
+    let (first, second) = flags_of_two(&rt, rt.alloc())?;
+    assert!(rt; first == 64);
     assert!(rt; matches!(second, 1..=3));
     Ok(())
 }
@@ -127,14 +146,22 @@ fn two_rows() -> &'static [u8] {
     TWO_ROWS
 }
 
-// A session with overrides of two networks.
-fn two_networks(alloc: Global) -> Result<Session, Fail> {
-    let mut session = begun(alloc)?;
-    set_overrides(alloc, &mut session, two_rows())?;
-    Ok(session)
+// The file of a session's overrides of two networks by so many pieces.
+fn file_of<R: Threads + Sync, G: Gate>(
+    rt: &R,
+    alloc: Global,
+    gate: &G,
+    session: &mut Session,
+    pieces: u32,
+) -> Result<Seen, Fail>
+    requires some { 0 < pieces }
+    requires few { pieces ≤ 64 }
+{
+    set_overrides(alloc, session, two_rows())?;
+    Ok(emit_by(rt, alloc, gate, session, pieces)?)
 }
 
-// The file of these overrides by so many pieces.
+// The same of a session that has begun.
 fn file_by<R: Threads + Sync, G: Gate>(
     rt: &R,
     alloc: Global,
@@ -144,8 +171,10 @@ fn file_by<R: Threads + Sync, G: Gate>(
     requires some { 0 < pieces }
     requires few { pieces ≤ 64 }
 {
-    let mut session = two_networks(alloc)?;
-    Ok(emit_by(rt, alloc, gate, &mut session, pieces)?)
+    let mut session = begun(alloc)?;
+    let file = file_of(rt, alloc, gate, &mut session, pieces);
+    drop(session);
+    file
 }
 
 // How many pieces met while that file was written by two.

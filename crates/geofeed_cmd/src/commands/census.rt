@@ -32,6 +32,7 @@ use job_lines::Job;
 use job_run::{Cause, Stop, print};
 use std::alloc::Global;
 use std::marker::Sync;
+use std::mem::forget;
 use std::sync::ledger::Ledger;
 use std::thread::Threads;
 use update_session::laws::standing_stays;
@@ -106,7 +107,10 @@ fn census_by<R: Threads + Sync, F: Folder, O: Sink, G: Gate, L: Ledger>(
         Ok(session) => session,
         Err(status) => return status,
     };
-    match print_counts(&forks, &mut session, out, steps) {
+    let printed = print_counts(&forks, &mut session, out, steps);
+    // The process ends: its memory goes back whole, not source by source.
+    forget(session);
+    match printed {
         Ok(()) => Status::Done,
         Err(why) => stop_at(alloc, why, 0, "", out),
     }

@@ -33,6 +33,7 @@ use job_run::{Cause, Stop, print};
 use precedence::Sources;
 use std::alloc::Global;
 use std::marker::Sync;
+use std::mem::forget;
 use std::sync::ledger::Ledger;
 use std::thread::Threads;
 use update_session::Session;
@@ -189,7 +190,10 @@ fn check_by<R: Threads + Sync, F: Folder, O: Sink, G: Gate, L: Ledger>(
         Ok(session) => session,
         Err(status) => return status,
     };
-    match print_verdicts(alloc, url, &session, out) {
+    let printed = print_verdicts(alloc, url, &session, out);
+    // The process ends: its memory goes back whole, not source by source.
+    forget(session);
+    match printed {
         Ok(()) => Status::Done,
         Err(why) => stop_at(alloc, why, 0, url, out),
     }

@@ -28,6 +28,7 @@ use job_lines::Job;
 use job_run::{Stop, print};
 use std::alloc::Global;
 use std::marker::Sync;
+use std::mem::forget;
 use std::sync::ledger::Ledger;
 use std::thread::Threads;
 use update_session::Session;
@@ -105,7 +106,10 @@ fn explain_by<R: Threads + Sync, F: Folder, O: Sink, G: Gate, L: Ledger>(
         Ok(session) => session,
         Err(status) => return status,
     };
-    match print_why(alloc, at, &session, out) {
+    let printed = print_why(alloc, at, &session, out);
+    // The process ends: its memory goes back whole, not source by source.
+    forget(session);
+    match printed {
         Ok(()) => Status::Done,
         Err(why) => status_of(why),
     }

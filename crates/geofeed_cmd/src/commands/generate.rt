@@ -14,6 +14,7 @@ use geo_addr::Memory;
 use geo_outside::{Folder, Gate, Sink, Steps};
 use std::alloc::Global;
 use std::marker::Sync;
+use std::mem::forget;
 use std::sync::ledger::Ledger;
 use std::thread::Threads;
 use update_session::laws::standing_stays;
@@ -66,7 +67,7 @@ pub(crate) fn generate<R: Threads + Sync, F: Folder, O: Sink, G: Gate, L: Ledger
         gate,
         pieces: PIECES,
     };
-    do_whole(
+    let status = do_whole(
         &forks,
         files.as_slice(),
         list.as_slice(),
@@ -74,5 +75,8 @@ pub(crate) fn generate<R: Threads + Sync, F: Folder, O: Sink, G: Gate, L: Ledger
         folder,
         out,
         steps,
-    )
+    );
+    // The process ends: its memory goes back whole, not source by source.
+    forget(session);
+    status
 }

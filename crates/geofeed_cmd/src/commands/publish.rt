@@ -24,6 +24,7 @@ use job_lines::Job;
 use published::write_feed;
 use std::alloc::Global;
 use std::marker::Sync;
+use std::mem::forget;
 use std::sync::ledger::Ledger;
 use std::thread::Threads;
 
@@ -106,7 +107,10 @@ fn publish_by<R: Threads + Sync, F: Folder, O: Sink, G: Gate, L: Ledger>(
         Ok(session) => session,
         Err(status) => return status,
     };
-    match write_feed(&forks, block, file, &mut session, folder, out, steps) {
+    let written = write_feed(&forks, block, file, &mut session, folder, out, steps);
+    // The process ends: its memory goes back whole, not source by source.
+    forget(session);
+    match written {
         Ok(()) => Status::Done,
         Err(why) => stop_at(alloc, why, 0, file, out),
     }

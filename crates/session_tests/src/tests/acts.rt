@@ -5,6 +5,7 @@ use crate::tests::lines::{Shape, set_lines};
 use geo_addr::Range;
 use std::alloc::Global;
 use std::marker::Sync;
+use std::mem::drop;
 use std::test::Fail;
 use std::thread::Threads;
 use update_session::{BackFault, DropFault, Session};
@@ -56,15 +57,6 @@ fn change(alloc: Global, session: &mut Session, act: Act) -> Result<(), Fail> {
     }
 }
 
-// A new session after the changes among the first so many acts.
-fn after(alloc: Global, acts: &[Act], count: usize) -> Result<Session, Fail> {
-    let mut session = begun(alloc)?;
-    for act in acts.iter().take(count) {
-        change(alloc, &mut session, *act)?;
-    }
-    Ok(session)
-}
-
 // Whether an address lies on one of the grounds.
 fn lies_on(grounds: &[Range], at: u128) -> bool {
     grounds.iter().any(|r| r.first <= at && at <= r.last)
@@ -114,10 +106,26 @@ fn emit_again<R: Threads + Sync>(
     Ok(emit(rt, alloc, session)?)
 }
 
-// What a new session emits after the changes among the first so many acts.
+// What a session emits after the changes among the first so many acts.
+fn file_after<R: Threads + Sync>(
+    rt: &R,
+    alloc: Global,
+    session: &mut Session,
+    acts: (&[Act], usize),
+) -> Result<Seen, Fail> {
+    for act in acts.0.iter().take(acts.1) {
+        change(alloc, session, *act)?;
+    }
+    Ok(emit(rt, alloc, session)?)
+}
+
+// The same of a new session. It is let go by name here and below: one that goes at the end of each
+// way out costs its function's proof half a minute.
 fn new_file<R: Threads + Sync>(rt: &R, alloc: Global, acts: (&[Act], usize)) -> Result<Seen, Fail> {
-    let mut session = after(alloc, acts.0, acts.1)?;
-    Ok(emit(rt, alloc, &mut session)?)
+    let mut session = begun(alloc)?;
+    let file = file_after(rt, alloc, &mut session, acts);
+    drop(session);
+    file
 }
 
 // Whether so many grounds are touched, and an emit gives what a new session gives after the first
@@ -177,7 +185,9 @@ fn first_wrong_in<R: Threads + Sync>(
 // The same, on a session that has begun.
 fn first_wrong<R: Threads + Sync>(rt: &R, alloc: Global, acts: &[Act]) -> Result<usize, Fail> {
     let mut session = begun(alloc)?;
-    first_wrong_in(rt, alloc, &mut session, acts)
+    let wrong = first_wrong_in(rt, alloc, &mut session, acts);
+    drop(session);
+    wrong
 }
 
 /// The first job that does not come out so, and its first act that does not.

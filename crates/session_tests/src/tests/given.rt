@@ -5,6 +5,7 @@ use geo_terms::{Dump, SourceFault};
 use nro_stats::read_stats;
 use override_rows::read_overrides;
 use std::alloc::Global;
+use std::mem::drop;
 use std::test::Fail;
 use update_session::{DropFault, Session};
 
@@ -23,15 +24,15 @@ pub enum Kind {
 /// A source: its kind, its slot or URL, and its text.
 pub type Given<'a> = (Kind, &'a str, &'a [u8]);
 
-fn fed(alloc: Global, slot: &str, text: &[u8]) -> Result<DumpReader, SourceFault> {
-    let mut reader = DumpReader::new(alloc, slot)?;
-    reader.feed(text)?;
-    Ok(reader)
-}
-
 fn dump(alloc: Global, slot: &str, text: &[u8]) -> Result<Dump, SourceFault> {
-    let reader = fed(alloc, slot, text)?;
-    reader.finish()
+    let mut reader = DumpReader::new(alloc, slot)?;
+    match reader.feed(text) {
+        Ok(()) => reader.finish(),
+        Err(fault) => {
+            drop(reader);
+            Err(SourceFault::from(fault))
+        }
+    }
 }
 
 fn set_dump(alloc: Global, session: &mut Session, slot: &str, text: &[u8]) -> Result<(), Fail> {

@@ -6,6 +6,7 @@ use nro_stats::read_stats;
 use override_rows::read_overrides;
 use precedence::{DropFault, Sources};
 use std::alloc::Global;
+use std::mem::drop;
 
 /// A kind of source.
 #[derive(Clone, Copy)]
@@ -19,19 +20,13 @@ pub enum Kind {
 /// A source: its kind, its slot or URL, and its text.
 pub type Given = (Kind, &'static str, &'static str);
 
-// The reader is lent here, so that this step need not say how it is given up.
-fn feed(reader: &mut DumpReader, text: &str) -> Option<()> {
-    reader.feed(text.as_bytes()).ok()
-}
-
-fn fed(alloc: Global, slot: &str, text: &str) -> Option<DumpReader> {
-    let mut reader = DumpReader::new(alloc, slot).ok()?;
-    feed(&mut reader, text)?;
-    Some(reader)
-}
-
+// A reader goes on no way out by itself, which would cost the proof of each.
 fn dump(alloc: Global, slot: &str, text: &str) -> Option<Dump> {
-    let reader = fed(alloc, slot, text)?;
+    let mut reader = DumpReader::new(alloc, slot).ok()?;
+    if reader.feed(text.as_bytes()).is_err() {
+        drop(reader);
+        return None;
+    }
     reader.finish().ok()
 }
 

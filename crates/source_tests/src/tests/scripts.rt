@@ -3,6 +3,7 @@ use crate::tests::given::{Given, drop_one, set};
 use crate::tests::told::{reasons, records, report, segments};
 use precedence::{DropFault, Sources};
 use std::alloc::Global;
+use std::mem::drop;
 
 /// A step of a script, and what comes of it.
 pub enum Step {
@@ -87,7 +88,9 @@ fn agree(sources: &mut Sources, alloc: Global, steps: &[Step]) -> bool {
 // no step of the loop has to say how they are given up.
 fn is_right(alloc: Global, script: &[Step]) -> bool {
     let mut sources = Sources::new(alloc);
-    agree(&mut sources, alloc, script)
+    let agrees = agree(&mut sources, alloc, script);
+    drop(sources);
+    agrees
 }
 
 /// The number of the first script that comes out wrong, or how many there are.

@@ -8,6 +8,7 @@ use geo_terms::plain::{AllSources, spoken_at};
 use geo_terms::{Delegation, Place, Stats, Texts, country_place};
 use precedence::Sources;
 use std::alloc::Global;
+use std::mem::drop;
 
 const TOP_V4: u128 = 0xFFFF_FFFF;
 
@@ -151,10 +152,24 @@ fn first_wrong_in(files: &[Stats], sources: &Sources) -> usize {
     spoken().len()
 }
 
+// The same once all files are set.
+fn first_wrong_of(alloc: Global, sources: &mut Sources, files: &mut Vec<Stats>) -> Option<usize> {
+    make_files(alloc, sources, files)?;
+    Some(first_wrong_in(files.as_slice(), sources))
+}
+
+// The same of new sources. They are let go by name: what goes at the end of each way out costs the
+// proof of each.
+fn first_wrong(alloc: Global) -> Option<usize> {
+    let mut sources = Sources::new(alloc);
+    let mut files = Vec::new(alloc);
+    let wrong = first_wrong_of(alloc, &mut sources, &mut files);
+    drop(files);
+    drop(sources);
+    wrong
+}
+
 #[test]
 fn the_plain_lookup_agrees(rt: HostRuntime) {
-    let mut sources = Sources::new(rt.alloc());
-    let mut files = Vec::new(rt.alloc());
-    assert!(rt; make_files(rt.alloc(), &mut sources, &mut files).is_some());
-    assert_eq!(rt; first_wrong_in(files.as_slice(), &sources), spoken().len());
+    assert_eq!(rt; first_wrong(rt.alloc()), Some(spoken().len()));
 }

@@ -10,6 +10,7 @@ use job_run::{Apart, Cause, Scope, StepStop, Stop, do_steps};
 use mmdb_file::Meta;
 use std::alloc::Global;
 use std::marker::{Brand, Sync};
+use std::mem::drop;
 use std::sync::ledger::{Blank, Ledger};
 use std::test::Fail;
 use std::thread::Threads;
@@ -110,8 +111,9 @@ struct World {
 fn world_of(alloc: Global, row: &Row) -> Result<World, Fail> {
     let apart = apart_of(alloc, row.1)?;
     let job = read_job(alloc, job().as_bytes())?;
-    let session = session_of(alloc)?;
     let folder = folder_of(alloc, row.0)?;
+    // The session last, so that it is let go on no way out.
+    let session = session_of(alloc)?;
     Ok(World {
         apart,
         job,
@@ -164,7 +166,10 @@ fn is_printed(world: &World, printed: &str) -> bool {
 
 fn comes_out<R: Threads + Sync>(rt: &R, alloc: Global, row: &Row) -> Result<bool, Fail> {
     let mut world = world_of(alloc, row)?;
-    Ok(ends_so(rt, alloc, row, &mut world) && is_printed(&world, row.5))
+    let comes = ends_so(rt, alloc, row, &mut world) && is_printed(&world, row.5);
+    // By name: a world that goes at the end of each way out costs the proof a quarter of a minute.
+    drop(world);
+    Ok(comes)
 }
 
 #[test]

@@ -23,7 +23,7 @@ returns-clause-comes g c =
     c.in-Ok-gen_session.ensures in
     let list = c.as_slice-2.ensures.value ∙ c.in-Ok-gen_steps.ensures in
     let files = c.as_slice.ensures.value ∙ c.in-Ok.ensures in
-    c.do_whole.ensures.comes first (Some (gen c.args.lines c.args.name.now)) start
+    c.do_whole-status.ensures.comes first (Some (gen c.args.lines c.args.name.now)) start
     (ap (λ (l : List Step). planned (moves_of l) start) (sym list))
     (record { tells = told; aside = sym files; stands = begun }) refl refl
 
@@ -32,7 +32,7 @@ returns-clause-missing g c =
     λ gone.
     let list = c.as_slice-2.ensures.value ∙ c.in-Ok-gen_steps.ensures in
     let files = c.as_slice.ensures.value ∙ c.in-Ok.ensures in
-    elim (c.do_whole.ensures.missing_apart gone) [
+    elim (c.do_whole-status.ensures.missing_apart gone) [
       | inl rose ↦ rose
       | inr lacks ↦ absurd (none_lacks c.args.lines c.args.name.now c.requires.few lacks.0
           (subst (λ (fs : List Apart). LacksAt fs (gen_steps c.args.name.now) lacks.0) files
@@ -42,9 +42,9 @@ returns-clause-missing g c =
 pub returns-clause-unread : goal.returns-clause-unread
 returns-clause-unread g c =
     let files = c.as_slice.ensures.value ∙ c.in-Ok.ensures in
-    (c.do_whole.ensures.apart_only (λ none. some_apart c.args.lines (sym files ∙ none))).0
+    (c.do_whole-status.ensures.apart_only (λ none. some_apart c.args.lines (sym files ∙ none))).0
 
 pub returns-clause-given : goal.returns-clause-given
 returns-clause-given g c =
     let files = c.as_slice.ensures.value ∙ c.in-Ok.ensures in
-    (c.do_whole.ensures.apart_only (λ none. some_apart c.args.lines (sym files ∙ none))).1
+    (c.do_whole-status.ensures.apart_only (λ none. some_apart c.args.lines (sym files ∙ none))).1
