@@ -23,7 +23,7 @@ const SLOT: &str = "gen";
 /// The URL of its feed.
 const URL: &str = "https://gen.example/feed.csv";
 
-/// A session of the generated job's epoch and type.
+/// A session of the generated job's epoch and type, without a source. Memory alone can lack.
 pub fn gen_session(alloc: Global) -> Result<Session, Memory>
     ensures { IfOk result (IsNew 1700000000 default_name) }
 {
@@ -31,7 +31,8 @@ pub fn gen_session(alloc: Global) -> Result<Session, Memory>
     Session::new(alloc, Meta { epoch: EPOCH, name })
 }
 
-/// The steps of the generated job that writes the file of this name twice.
+/// The steps of the generated job that writes the file of this name twice: after the first feed, and
+/// after the second one in its place. Memory alone can lack.
 #[tactic(auto, unfolding(crate::specs::Job::gen_steps))]
 pub fn gen_steps(alloc: Global, name: &str) -> Result<Vec<Step>, Memory>
     ensures { IfOk result (λ list. list.items ≡ gen_steps name.now) }
