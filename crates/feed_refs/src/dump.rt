@@ -1,8 +1,12 @@
 //! A dump, read in pieces.
-ghost use Rattle.std.specs.Prelude.{◌≡◌, ◌≢◌, ◌-◌, ◌++◌, [], Err, IfOk, List, length, take, ℕ};
+ghost use Rattle.std.specs.Prelude.{◌≡◌, ◌≢◌, ◌+◌, ◌-◌, ◌<◌, ◌≤◌, ◌++◌, [], Err, IfErr, IfOk, OnOk};
+ghost use Rattle.std.specs.Prelude.{List, length, take, ℕ};
 ghost use Rattle.geo_terms.specs.declared.source.SourceFault.{SourceFault};
-ghost use Rattle.feed_refs.specs.Dumps.{dump, so_far};
+ghost use Rattle.feed_refs.specs.Dumps.{AreApart, dump, in_line_order, most, noted, references};
+ghost use Rattle.feed_refs.specs.Dumps.{so_far};
 ghost use Rattle.feed_refs.specs.Readings.{ours, reading};
+ghost use Rattle.rpsl_reader.specs.Reading.{last};
+ghost use Rattle.rpsl_reader.specs.Selections.{wanted};
 
 use crate::found::{Found, in_line_order};
 use geo_addr::{List, Memory, Text};
@@ -113,25 +117,71 @@ impl DumpReader {
             → result ≡ dump self.slot text }
     {
         if let Some(fault) = self.fault {
+            drop(self);
             return Err(fault);
         }
-        let mut urls = self.urls;
-        let seen = self.reader.see_end(&self.selection)?;
-        let more = Found::of(self.alloc, &self.slot, &seen, &mut urls)?;
-        drop(seen);
-        let mut whole = self.found;
-        if whole.refs.len() + more.refs.len() > MOST {
-            return Err(SourceFault::TooMany);
-        }
-        whole.reserve(&more)?;
-        whole.join(more);
-        let notes = in_line_order(whole.notes)?;
+        let DumpReader {
+            alloc,
+            slot,
+            selection,
+            reader,
+            found,
+            mut urls,
+            ..
+        } = self;
+        let ended = more_at_end(alloc, &slot, &selection, &reader, &mut urls);
+        // Dropped before the ways out, since the proof pays for a drop at each of them.
+        drop(urls);
+        drop(reader);
+        drop(selection);
+        let more = ended?;
+        let whole = joined(found, more)?;
         Ok(Dump {
-            slot: self.slot,
+            slot,
             refs: List::of(whole.refs),
-            notes: List::of(notes),
+            notes: List::of(whole.notes),
         })
     }
+}
+
+// What the last object of a dump says.
+fn more_at_end(
+    alloc: Global,
+    slot: &Text,
+    selection: &Selection,
+    reader: &Reader,
+    urls: &mut Texts,
+) -> Result<Found, Memory>
+    ensures refs { IfOk result (λ more. more.refs.items
+        ≡ references slot.now (wanted selection.now (last reader.now.state))) }
+    ensures notes { IfOk result (λ more. more.notes.items
+        ≡ noted slot.now (wanted selection.now (last reader.now.state))) }
+{
+    let seen = reader.see_end(selection)?;
+    Found::of(alloc, slot, &seen, urls)
+}
+
+// Both parts of what a dump says, with their notes in line order.
+fn joined(found: Found, more: Found) -> Result<Found, SourceFault>
+    ensures refs { IfOk result (λ whole. whole.refs.items ≡ found.refs.items ++ more.refs.items) }
+    ensures notes { IfOk result (λ whole. AreApart (found.notes.items ++ more.notes.items)
+        → whole.notes.items ≡ in_line_order (found.notes.items ++ more.notes.items)) }
+    ensures few { OnOk result (length found.refs.items + length more.refs.items ≤ most) }
+    ensures many { IfErr result (λ fault. fault ≢ SourceFault.Memory
+        → (fault ≡ SourceFault.TooMany)
+        × (most < length found.refs.items + length more.refs.items)) }
+{
+    let mut whole = found;
+    if whole.refs.len() + more.refs.len() > MOST {
+        return Err(SourceFault::TooMany);
+    }
+    whole.reserve(&more)?;
+    whole.join(more);
+    let notes = in_line_order(whole.notes)?;
+    Ok(Found {
+        refs: whole.refs,
+        notes,
+    })
 }
 
 // What the objects of a dump are read for.

@@ -1,9 +1,9 @@
 -- The end of the text ends its last object, and the notes are put in line order.
-use Rattle.std.proofs.Common.{◌≡◌, ◌+◌, ◌<◌, ◌≤◌, ◌++◌, length, Ok, Err, refl, sym, ap, arith, ◌∙◌}
+use Rattle.std.proofs.Common.{◌++◌, Ok, Err, refl, sym, ap, ◌∙◌}
+use Rattle.std.proofs.lemmas.Result.{err_from_is_err_and}
 use Rattle.geo_terms.specs.SourceForm.{DumpParts}
-use Rattle.geo_terms.specs.declared.source.SourceFault.TheVariants.{TooMany}
 use Rattle.rpsl_reader.specs.Reading.{last}
-use Rattle.feed_refs.specs.Dumps.{most}
+use Rattle.rpsl_reader.specs.Selections.{wanted}
 use Rattle.feed_refs.specs.Readings.{Kept}
 use Rattle.feed_refs.proofs.FeedLemmas.{ends_in_form, ends_many, ends_ok, ends_read, fault_dump}
 use Rattle.feed_refs.proofs.FeedLemmas.{is_faulty, notes_are, refs_are}
@@ -20,30 +20,26 @@ returns-in-Some c = λ ne text h.
     fault_dump c.self.inside.slot c.in-Some.fault c.args.self (is_faulty c.self.inside.slot k
     c.self.inside.fault c.in-Some.fault c.in-Some.is c.args.self c.self.view_is) text h
 
-pub returns-then-len-gt-MOST : goal.returns-then-len-gt-MOST
-returns-then-len-gt-MOST c = λ ne text h.
+pub returns-in_err-whole : goal.returns-in_err-whole
+returns-in_err-whole c = λ ne text h.
     let k : Kept =
     record {
       reader = c.self.inside.reader;
       refs = c.self.inside.found.refs.items;
       notes = c.self.inside.found.notes.items;
     } in
+    let all = wanted c.self.inside.selection (last k.reader.state) in
     let said =
-    refs_are c.self.inside.slot c.in_ok-seen.seen.items c.in_ok-seen.seen.items
-    (last k.reader.state) c.self.inside.selection refl
-    c.in_ok-seen.ensures c.self.invariant.asked c.in_ok-more.more.refs.items
-    c.in_ok-more.ensures.refs in
-    let over : most < length k.refs + length c.in_ok-more.more.refs.items = omega (
-      arith,
-      c.if-len-gt-MOST.true,
-      c.len.ensures,
-      c.len-2.ensures,
-      c.self.inside.found.refs.ok,
-      c.in_ok-more.more.refs.ok,
-    ) in
+    refs_are c.self.inside.slot all all (last k.reader.state) c.self.inside.selection refl refl
+    c.self.invariant.asked c.in_ok-more.more.refs.items c.in_ok-more.ensures.refs in
+    let p = err_from_is_err_and c.from_residual-in_err-whole.result
+    c.from_residual-in_err-whole.ensures.1 in
+    let is = p.1 ∙ ap (λ f. Err f) p.2 in
+    let many = c.in_err-whole.ensures.many (λ e. ne (is ∙ ap (λ f. Err f) e)) in
     ends_read c.self.inside.slot k c.self.inside.fault c.in_default.is c.args.self c.self.view_is
-    (Err TooMany)
-    (λ t o. sym (ends_many c.self.inside.slot k c.in_ok-more.more.refs.items said over t o))
+    c.from_residual-in_err-whole.result
+    (λ t o. is ∙ ap (λ f. Err f) many.0
+    ∙ sym (ends_many c.self.inside.slot k c.in_ok-more.more.refs.items said many.1 t o))
     text h
 
 pub invariant_of-result : goal.invariant_of-result
@@ -54,28 +50,20 @@ invariant_of-result c =
       refs = c.self.inside.found.refs.items;
       notes = c.self.inside.found.notes.items;
     } in
+    let all = wanted c.self.inside.selection (last k.reader.state) in
     let said =
-    refs_are c.self.inside.slot c.in_ok-seen.seen.items c.in_ok-seen.seen.items
-    (last k.reader.state) c.self.inside.selection refl
-    c.in_ok-seen.ensures c.self.invariant.asked c.in_ok-more.more.refs.items
-    c.in_ok-more.ensures.refs in
+    refs_are c.self.inside.slot all all (last k.reader.state) c.self.inside.selection refl refl
+    c.self.invariant.asked c.in_ok-more.more.refs.items c.in_ok-more.ensures.refs in
     let told =
-    notes_are c.self.inside.slot c.in_ok-seen.seen.items c.in_ok-seen.seen.items
-    (last k.reader.state) c.self.inside.selection refl
-    c.in_ok-seen.ensures c.self.invariant.asked c.in_ok-more.more.notes.items
-    c.in_ok-more.ensures.notes in
-    let refs : c.join.new.self.refs.items ≡ k.refs ++ c.in_ok-more.more.refs.items =
-    c.join.ensures.refs ∙ ap (λ t. t ++ c.in_ok-more.more.refs.items) c.reserve.ensures.refs in
-    let raw : c.join.new.self.notes.items ≡ k.notes ++ c.in_ok-more.more.notes.items =
-    c.join.ensures.notes
-    ∙ ap (λ t. t ++ c.in_ok-more.more.notes.items) c.reserve.ensures.notes in
-    let whole = raw ∙ ap (λ t. k.notes ++ t) told in
+    notes_are c.self.inside.slot all all (last k.reader.state) c.self.inside.selection refl refl
+    c.self.invariant.asked c.in_ok-more.more.notes.items c.in_ok-more.ensures.notes in
+    let raw = k.notes ++ c.in_ok-more.more.notes.items in
     let d : DumpParts =
-    record { slot = c.self.inside.slot; refs = c.of-2.result; notes = c.of-3.result } in
-    ends_in_form c.self.inside.slot k c.in_ok-more.more.refs.items said c.join.new.self.notes.items
-    c.in_ok-notes.notes.items whole c.in_ok-notes.ensures
-    c.self.inside.fault c.in_default.is c.self.invariant.fed d refl (c.of-2.ensures ∙ refs)
-    c.of-3.ensures
+    record { slot = c.self.inside.slot; refs = c.of.result; notes = c.of-2.result } in
+    ends_in_form c.self.inside.slot k c.in_ok-more.more.refs.items said raw
+    c.in_ok-whole.whole.notes.items (ap (λ t. k.notes ++ t) told) c.in_ok-whole.ensures.notes
+    c.self.inside.fault c.in_default.is c.self.invariant.fed d refl
+    (c.of.ensures ∙ c.in_ok-whole.ensures.refs) c.of-2.ensures
 
 pub returns : goal.returns
 returns c = λ ne text h.
@@ -85,34 +73,19 @@ returns c = λ ne text h.
       refs = c.self.inside.found.refs.items;
       notes = c.self.inside.found.notes.items;
     } in
+    let all = wanted c.self.inside.selection (last k.reader.state) in
     let said =
-    refs_are c.self.inside.slot c.in_ok-seen.seen.items c.in_ok-seen.seen.items
-    (last k.reader.state) c.self.inside.selection refl
-    c.in_ok-seen.ensures c.self.invariant.asked c.in_ok-more.more.refs.items
-    c.in_ok-more.ensures.refs in
+    refs_are c.self.inside.slot all all (last k.reader.state) c.self.inside.selection refl refl
+    c.self.invariant.asked c.in_ok-more.more.refs.items c.in_ok-more.ensures.refs in
     let told =
-    notes_are c.self.inside.slot c.in_ok-seen.seen.items c.in_ok-seen.seen.items
-    (last k.reader.state) c.self.inside.selection refl
-    c.in_ok-seen.ensures c.self.invariant.asked c.in_ok-more.more.notes.items
-    c.in_ok-more.ensures.notes in
-    let few : length k.refs + length c.in_ok-more.more.refs.items ≤ most = omega (
-      arith,
-      c.if-len-gt-MOST.false,
-      c.len.ensures,
-      c.len-2.ensures,
-      c.self.inside.found.refs.ok,
-      c.in_ok-more.more.refs.ok,
-    ) in
-    let refs : c.join.new.self.refs.items ≡ k.refs ++ c.in_ok-more.more.refs.items =
-    c.join.ensures.refs ∙ ap (λ t. t ++ c.in_ok-more.more.refs.items) c.reserve.ensures.refs in
-    let raw : c.join.new.self.notes.items ≡ k.notes ++ c.in_ok-more.more.notes.items =
-    c.join.ensures.notes
-    ∙ ap (λ t. t ++ c.in_ok-more.more.notes.items) c.reserve.ensures.notes in
-    let whole = raw ∙ ap (λ t. k.notes ++ t) told in
+    notes_are c.self.inside.slot all all (last k.reader.state) c.self.inside.selection refl refl
+    c.self.invariant.asked c.in_ok-more.more.notes.items c.in_ok-more.ensures.notes in
+    let raw = k.notes ++ c.in_ok-more.more.notes.items in
     let d : DumpParts =
-    record { slot = c.self.inside.slot; refs = c.of-2.result; notes = c.of-3.result } in
+    record { slot = c.self.inside.slot; refs = c.of.result; notes = c.of-2.result } in
     ends_read c.self.inside.slot k c.self.inside.fault c.in_default.is c.args.self c.self.view_is
     (Ok d)
-    (ends_ok c.self.inside.slot k c.in_ok-more.more.refs.items said c.join.new.self.notes.items
-    c.in_ok-notes.notes.items whole c.in_ok-notes.ensures few d refl
-    (c.of-2.ensures ∙ refs) c.of-3.ensures) text h
+    (ends_ok c.self.inside.slot k c.in_ok-more.more.refs.items said raw
+    c.in_ok-whole.whole.notes.items (ap (λ t. k.notes ++ t) told) c.in_ok-whole.ensures.notes
+    c.in_ok-whole.ensures.few d refl (c.of.ensures ∙ c.in_ok-whole.ensures.refs) c.of-2.ensures)
+    text h
