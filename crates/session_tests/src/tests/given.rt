@@ -30,7 +30,7 @@ fn dump(alloc: Global, slot: &str, text: &[u8]) -> Result<Dump, SourceFault> {
         Ok(()) => reader.finish(),
         Err(fault) => {
             drop(reader);
-            Err(SourceFault::from(fault))
+            Err(fault)
         }
     }
 }
