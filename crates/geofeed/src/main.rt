@@ -61,8 +61,11 @@ const LARGEST_KEPT: usize = 33_488_896;
 /// leave: half a GiB of addresses, and no page of memory until it is written.
 const BLOCKS: usize = 16;
 
-/// A block that stays behind them, so that what they leave is not given back to the system.
+/// The bytes of a block that stays behind them, so that what they leave is not given back.
 const BEHIND: usize = 65_536;
+
+/// The bytes of addresses that have to be there, so that the blocks take none that others need.
+const AMPLE: usize = 2_147_483_648;
 
 fn main(rt: HostRuntime) -> ExitCode {
     keep_memory(rt.alloc());
@@ -82,10 +85,16 @@ fn main(rt: HostRuntime) -> ExitCode {
 
 // Takes a large block and lets it go unused: from then on the C library gives blocks of that size
 // from memory that the program let go before, where it would ask the system for new pages. Then
-// takes several side by side and lets them go together: so it does for larger ones.
+// takes several side by side and lets them go together, where addresses are ample: so it does for
+// larger ones.
 fn keep_memory(alloc: Global) {
     let first: Result<Vec<u8>, AllocError> = Vec::with_capacity(alloc, LARGEST_KEPT);
     drop(first);
+    let ample: Result<Vec<u8>, AllocError> = Vec::with_capacity(alloc, AMPLE);
+    if ample.is_err() {
+        return;
+    }
+    drop(ample);
     let blocks: Result<Vec<Vec<u8>>, AllocError> = Vec::with_capacity(alloc, BLOCKS);
     if let Ok(mut blocks) = blocks {
         for _ in 0..BLOCKS {
