@@ -5,7 +5,6 @@ ghost use Rattle.std.specs.Thread.{IsSync, IsSend};
 ghost use Rattle.fan_work.specs.Parts.{IsPart};
 ghost use Rattle.fan_work.specs.Pieces.{AllowsOnly};
 
-use crate::forks::Forks;
 use crate::part::{Part, halves};
 use crate::work::Work;
 use geo_addr::Memory;
@@ -19,22 +18,27 @@ use std::thread::{Threads, join};
 /// but not including `(j + 1) * n / pieces`, of n. Each piece that has items enters the gate before
 /// its first one, and runs on a thread of its own where one can be had.
 pub fn map_pieces<R: Threads + Sync, A: Sync, B: Send + Drop, W: Work<A, B>, G: Gate>(
-    forks: &Forks<R, G>,
+    rt: &R,
+    alloc: Global,
+    gate: &G,
+    pieces: u32,
     items: &[A],
     work: &W,
 ) -> Result<Vec<B>, Memory>
+    requires some { 0 < pieces }
+    requires few { pieces ≤ 64 }
     ensures related { IfOk result (λ v. AllZip (W.related work.now) items.now v.items) }
     // Where the relation leaves no choice, nothing tells the answer from that of one thread.
     ensures one_thread { (f : A → B) → AllowsOnly (W.related work.now) f
         → IfOk result (λ v. v.items ≡ map f items.now) }
 {
     let whole = Part {
-        pieces: forks.pieces,
+        pieces,
         count: items.len(),
         from: 0,
-        to: forks.pieces,
+        to: pieces,
     };
-    map_part(forks.rt, forks.alloc, forks.gate, whole, items, work)
+    map_part(rt, alloc, gate, whole, items, work)
 }
 
 // The results of the items of a part: by its halves side by side, down to single pieces.
@@ -89,7 +93,7 @@ fn map_piece<A, B: Drop, W: Work<A, B>, G: Gate>(
         gate.enter(piece);
     }
     for item in items {
-        results.push(work.done(alloc, item)?)?;
+        results.push(work.done(item)?)?;
     }
     Ok(results)
 }

@@ -7,9 +7,9 @@ use Rattle.fan_work.proofs.map.map_pieces.Goals as goal
 
 pub map_part-requires-after_bounds : goal.map_part-requires-after_bounds
 map_part-requires-after_bounds g c κs within =
-    let some = c.args.forks.now.some in
-    let first = start-zero c.args.forks.now.pieces (length c.args.items.now) some in
-    let last = start-all c.args.forks.now.pieces (length c.args.items.now) some in
+    let some = c.requires.some in
+    let first = start-zero c.args.pieces (length c.args.items.now) some in
+    let last = start-all c.args.pieces (length c.args.items.now) some in
     record { some = some; within = omega arith; held = omega arith }
 
 pub returns-clause-one_thread : goal.returns-clause-one_thread
