@@ -1,9 +1,9 @@
 //! The map over a list by pieces.
-ghost use Rattle.std.specs.Prelude.{◌≡◌, ◌≤◌, ◌<◌, map, length, IfOk};
+ghost use Rattle.std.specs.Prelude.{◌≡◌, ◌≤◌, ◌<◌, map, length, ℕ, IfOk, OnOk};
 ghost use Rattle.std.specs.List.{AllZip};
 ghost use Rattle.std.specs.Thread.{IsSync, IsSend};
-ghost use Rattle.fan_work.specs.Parts.{IsPart};
-ghost use Rattle.fan_work.specs.Pieces.{AllowsOnly};
+ghost use Rattle.fan_work.specs.Parts.{HaveEntered, IsPart};
+ghost use Rattle.fan_work.specs.Pieces.{AllowsOnly, HasItems};
 
 use crate::part::{Part, halves};
 use crate::work::Work;
@@ -31,6 +31,8 @@ pub fn map_pieces<R: Threads + Sync, A: Sync, B: Send + Drop, W: Work<A, B>, G: 
     // Where the relation leaves no choice, nothing tells the answer from that of one thread.
     ensures one_thread { (f : A → B) → AllowsOnly (W.related work.now) f
         → IfOk result (λ v. v.items ≡ map f items.now) }
+    ensures entered { OnOk result ((j : ℕ) → HasItems pieces (length items.now) j
+        → G.entered gate.now j) }
 {
     let whole = Part {
         pieces,
@@ -51,7 +53,8 @@ fn map_part<R: Threads + Sync, A: Sync, B: Send + Drop, W: Work<A, B>, G: Gate>(
     work: &W,
 ) -> Result<Vec<B>, Memory>
     requires { IsPart part (length items.now) }
-    ensures { IfOk result (λ v. AllZip (W.related work.now) items.now v.items) }
+    ensures related { IfOk result (λ v. AllZip (W.related work.now) items.now v.items) }
+    ensures entered { OnOk result (HaveEntered (G.entered gate.now) part) }
 {
     if items.is_empty() || part.to - part.from == 1 {
         return map_piece(alloc, gate, part.from, items, work);
@@ -62,14 +65,16 @@ fn map_part<R: Threads + Sync, A: Sync, B: Send + Drop, W: Work<A, B>, G: Gate>(
         || -> Result<Vec<B>, Memory>
             requires { IsSync R.row × IsSync A.row × IsSync W.row × IsSync G.row × IsSend B.row
                 × IsPart left_part (length left_items.now) }
-            ensures { IfOk result
+            ensures related { IfOk result
                 (λ v. AllZip (W.related work.entry.now) left_items.entry.now v.items) }
+            ensures entered { OnOk result (HaveEntered (G.entered gate.entry.now) left_part) }
         { map_part(rt, alloc, gate, left_part, left_items, work) },
         || -> Result<Vec<B>, Memory>
             requires { IsSync R.row × IsSync A.row × IsSync W.row × IsSync G.row × IsSend B.row
                 × IsPart right_part (length right_items.now) }
-            ensures { IfOk result
+            ensures related { IfOk result
                 (λ v. AllZip (W.related work.entry.now) right_items.entry.now v.items) }
+            ensures entered { OnOk result (HaveEntered (G.entered gate.entry.now) right_part) }
         { map_part(rt, alloc, gate, right_part, right_items, work) },
     );
     let mut results = left?;
@@ -86,7 +91,8 @@ fn map_piece<A, B: Drop, W: Work<A, B>, G: Gate>(
     items: &[A],
     work: &W,
 ) -> Result<Vec<B>, Memory>
-    ensures { IfOk result (λ v. AllZip (W.related work.now) items.now v.items) }
+    ensures related { IfOk result (λ v. AllZip (W.related work.now) items.now v.items) }
+    ensures entered { OnOk result (0 < length items.now → G.entered gate.now piece) }
 {
     let mut results = Vec::with_capacity(alloc, items.len())?;
     if !items.is_empty() {
