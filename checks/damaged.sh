@@ -1,13 +1,16 @@
 #!/usr/bin/env bash
-# Damaged files: each cut of a written file and each change of one of its bytes is looked up in, and a small file that
-# stands for 2^30 values. The program has to answer each by its status, and never be stopped by the system.
+# Damaged files: each cut of a written file and each change of one of its bytes is looked up in, and
+# a small file that stands for 2^30 values. The program has to answer each by its status, and never
+# be stopped by the system.
 set -u
 cd "$(dirname "${BASH_SOURCE[0]}")/.." || exit 1
-# Thousands of small files are written: in memory where that goes, since a disk is asked to keep each.
+# Thousands of small files are written: in memory where that goes, since a disk is asked to keep
+# each.
 [ ! -w /dev/shm ] || export TMPDIR=/dev/shm
 . checks/with_program.bash
 
-# looked_up NAME: what a lookup prints, and its status in `status`. No process but the program's own is made for it.
+# looked_up NAME: what a lookup prints, and its status in `status`. No process but the program's own
+# is made for it.
 looked_up() {
     "$program" lookup "$1" 128.0.0.1 > printed 2> /dev/null
     status=$?
@@ -31,7 +34,8 @@ for ((at = 0; at < bytes; at++)); do
     looked_up cut
     wanted='stop file NoMarker'
     [ "$at" -lt 796 ] || wanted='stop file Metadata'
-    [ "$status $printed" = "9 $wanted" ] || fail "the first $at bytes give status $status and '$printed'"
+    [ "$status $printed" = "9 $wanted" ] \
+        || fail "the first $at bytes give status $status and '$printed'"
 done
 
 for ((at = 0; at < bytes; at++)); do
@@ -39,11 +43,13 @@ for ((at = 0; at < bytes; at++)); do
         printf -v changed '\\x%02x' $((0${text:4 * at + 1:3} ^ change))
         printf "${text:0:4 * at}$changed${text:4 * at + 4}" > changed
         looked_up changed
-        [ "$status" -eq 0 ] || [ "$status" -eq 9 ] || fail "byte $at changed by $change gives status $status and '$printed'"
+        [ "$status" -eq 0 ] || [ "$status" -eq 9 ] \
+            || fail "byte $at changed by $change gives status $status and '$printed'"
     done
 done
 
-# begun, ended: what stands before a data section, a tree of one node that leads to its first value, and behind it.
+# begun, ended: what stands before a data section, a tree of one node that leads to its first value,
+# and behind it.
 begun() {
     printf '\0\0\x11\0\0\x11'
     head -c 16 /dev/zero
@@ -64,7 +70,8 @@ ended() {
     ended
 } > many
 looked_up many
-[[ "$status $printed" == '9 stop file Many '* ]] || fail "2^30 values give status $status and '$printed'"
+[[ "$status $printed" == '9 stop file Many '* ]] \
+    || fail "2^30 values give status $status and '$printed'"
 
 # A list of five pointers to one text of 16,777,216 bytes.
 {
@@ -74,6 +81,7 @@ looked_up many
     ended
 } > big
 looked_up big
-[ "$status $printed" = '9 stop file Big 12' ] || fail "a text five times gives status $status and '$printed'"
+[ "$status $printed" = '9 stop file Big 12' ] \
+    || fail "a text five times gives status $status and '$printed'"
 
 verdict

@@ -1,14 +1,13 @@
 #!/usr/bin/env bash
-# The real folder and the real output: what no contract sees. What a put keeps and what not, that reads are of what was put
-# last, what stands in a put's way, what a run that is killed leaves behind, pipes, an output that takes nothing more, and the
-# limit of file size. docs/outside.md says each of these in words. The program has no tests beside these.
+# The real folder and the real output: what no contract sees. What a put keeps and what not, that
+# reads are of what was put last, what stands in a put's way, what a run that is killed leaves
+# behind, pipes, an output that takes nothing more, and the limit of file size. docs/outside.md says
+# each of these in words. The program has no tests beside these.
 set -u
 cd "$(dirname "${BASH_SOURCE[0]}")/.." || exit 1
 . checks/with_program.bash
 umask 022
 ulimit -c 0
-
-part() { echo "$check: not tried: $*"; }
 
 # puts STATUS LINE [JOB]: the job ends so, and the last line on standard output begins so.
 puts() {
@@ -17,13 +16,16 @@ puts() {
     status=$?
     last=${printed##*$'\n'}
     [ "$status" -eq "$1" ] && [[ "$last" == "$2"* ]] \
-        || fail "${BASH_LINENO[0]}: ends with status $status and '$printed', and not with $1 and '$2'; said: $(cat told)"
-    [ "$1" -ne 0 ] || [ ! -s told ] || fail "${BASH_LINENO[0]}: said '$(cat told)' where all was done"
+        || fail "${BASH_LINENO[0]}: ends with status $status and '$printed'," \
+            "and not with $1 and '$2'; said: $(cat told)"
+    [ "$1" -ne 0 ] || [ ! -s told ] \
+        || fail "${BASH_LINENO[0]}: said '$(cat told)' where all was done"
 }
 
 # told TEXT: the one line on standard error has this text.
 told() {
-    [ "$(wc -l < told)" -eq 1 ] && grep -q -- "$1" told || fail "${BASH_LINENO[0]}: said '$(cat told)', and not '$1'"
+    [ "$(wc -l < told)" -eq 1 ] && grep -q -- "$1" told \
+        || fail "${BASH_LINENO[0]}: said '$(cat told)', and not '$1'"
 }
 
 # has_mode MODE FILE
@@ -41,15 +43,21 @@ left() {
 }
 
 # is_whole FILE: one of the two files that the two sources make.
-is_whole() { cmp -s "$1" first || cmp -s "$1" second || fail "${BASH_LINENO[0]}: $1 is neither of the two files"; }
+is_whole() {
+    cmp -s "$1" first || cmp -s "$1" second \
+        || fail "${BASH_LINENO[0]}: $1 is neither of the two files"
+}
 
 # job FILE [SOURCE]: a job on standard output.
 job() { printf 'epoch 1700000000\nstats x %s\nemit %s\n' "${2:-s.txt}" "$1"; }
 
-# many LINES TURN: statistics of so many IPv4 blocks side by side, whose countries follow no pattern.
+# many LINES TURN: statistics of so many IPv4 blocks side by side, whose countries follow no
+# pattern.
 many() {
-    awk -v lines="$1" -v turn="$2" 'BEGIN { for (n = 0; n < lines; n++) printf "x|%c%c|ipv4|10.%d.%d.0|256||allocated\n",
-        65 + int(n * n / 13 + turn) % 25, 65 + int(n * n / 101) % 25, n / 256, n % 256 }'
+    awk -v lines="$1" -v turn="$2" 'BEGIN {
+        for (n = 0; n < lines; n++)
+            printf "x|%c%c|ipv4|10.%d.%d.0|256||allocated\n", 65 + int(n * n / 13 + turn) % 25,
+                65 + int(n * n / 101) % 25, n / 256, n % 256 }'
 }
 
 printf 'x|DE|ipv4|192.0.2.0|256||allocated\n' > s.txt
@@ -69,19 +77,21 @@ for mode in 600 640 4755 2640 1644 444 0; do
 done
 rm -f out.mmdb
 
-# Reads are of what was put last, in pieces of 65,536 bytes: of two sources that the same run put files in the place of, and of
-# a file that is looked up in each time it was emitted anew.
+# Reads are of what was put last, in pieces of 65,536 bytes: of two sources that the same run put
+# files in the place of, and of a file that is looked up in each time it was emitted anew.
 many 14000 0 > m.txt && many 13000 1 > n.txt && cp m.txt f && cp n.txt g
-printf 'epoch 1700000000\nstats x f\nemit f\nstats y g\nemit g\nstats x f\nstats y g\nreport\nemit h\n' > both
-printf 'epoch 1700000000\nstats x f\nstats y g\nreport\nemit i\n' > anew
+printf '%s\n' 'epoch 1700000000' 'stats x f' 'emit f' 'stats y g' 'emit g' \
+    'stats x f' 'stats y g' report 'emit h' > both
+printf '%s\n' 'epoch 1700000000' 'stats x f' 'stats y g' report 'emit i' > anew
 "$program" build both 2> told | grep -v '^emit' > before
 "$program" build anew 2> told | grep -v '^emit' > behind
-[ "$(wc -c < f)" -gt 65536 ] && grep -q '^stats x 2 S' before && grep -q '^stats y 2 S' before && cmp before behind && cmp h i \
+[ "$(wc -c < f)" -gt 65536 ] && grep -q '^stats x 2 S' before \
+    && grep -q '^stats y 2 S' before && cmp before behind && cmp h i \
     || fail "a run reads otherwise what it put itself"
 for source in m n m; do
     job out.mmdb "$source.txt" > bad && puts 0 'emit out.mmdb' bad
     for at in 0 6543 12999; do
-        wanted=$(sed -nE "$((at + 1))s/^x.(..).*/{\"country\":{\"iso_code\":\"\1\"}}/p" "$source.txt")
+        wanted='{"country":{"iso_code":"'$(sed -nE "$((at + 1))s/^x.(..).*/\1/p" "$source.txt")'"}}'
         found=$("$program" lookup out.mmdb "10.$((at / 256)).$((at % 256)).255" 2>&1)
         [ "$found" = "$wanted" ] || fail "line $((at + 1)) of $source.txt is $found and not $wanted"
     done
@@ -89,7 +99,8 @@ done
 rm -f f g h i out.mmdb
 
 # Links: a put takes the place of the last name, and follows the others; a read follows all.
-mkdir below && ln -s below linked && echo secret > kept && chmod 600 kept && ln -s ../kept below/out.mmdb
+mkdir below && ln -s below linked && echo secret > kept && chmod 600 kept
+ln -s ../kept below/out.mmdb
 ln -s s.txt source && job linked/out.mmdb source > links && puts 0 'emit linked/out.mmdb' links
 [ ! -L below/out.mmdb ] && is_whole below/out.mmdb
 has_mode 644 below/out.mmdb
@@ -98,7 +109,8 @@ puts 0 'emit out.mmdb' other
 ln out.mmdb hard
 puts 0 'emit out.mmdb'
 cmp -s hard second && cmp -s out.mmdb first || fail "a put over a hard link is wrong"
-ln -sf round round && job out.mmdb round > bad && puts 3 'stop read round' bad && told 'symbolic links'
+ln -sf round round && job out.mmdb round > bad
+puts 3 'stop read round' bad && told 'symbolic links'
 job round > loop && puts 0 'emit round' loop
 ln -sfn ring ring && job ring/out.mmdb > bad && puts 5 'stop write ring/out.mmdb' bad
 
@@ -107,7 +119,8 @@ mkdir full full/out.mmdb && job full/out.mmdb > bad
 puts 5 'stop write full/out.mmdb' bad && told 'is a directory'
 left 0 full
 job none/out.mmdb > bad && puts 5 'stop write none/out.mmdb' bad && told 'No such file'
-{ job out.mmdb t.txt && echo 'emit none/out.mmdb' && echo 'emit out.mmdb'; } > bad && puts 5 'stop write none/out.mmdb' bad
+{ job out.mmdb t.txt && echo 'emit none/out.mmdb' && echo 'emit out.mmdb'; } > bad
+puts 5 'stop write none/out.mmdb' bad
 cmp -s out.mmdb second && [ ! -e none ] || fail "a put that stops spoils what was put before it"
 job s.txt/out.mmdb > bad && puts 5 'stop write s.txt/out.mmdb' bad && told 'Not a directory'
 
@@ -119,14 +132,14 @@ for ((n = 0; n < 100; n++)); do echo half > ".geofeed new $n"; done
 puts 0 'emit out.mmdb'
 left 99
 [ ! -e '.geofeed new 0' ] || fail "a new file that was left behind was not taken over"
-if command -v flock > /dev/null; then
+if needs flock util-linux; then
     echo theirs > '.geofeed new 0'
-    flock '.geofeed new 0' "$program" build other > printed || fail "a held new file stops a put: $(cat printed)"
-    [ "$(cat '.geofeed new 0')" = theirs ] || fail "a new file that another run holds was taken over"
+    flock '.geofeed new 0' "$program" build other > printed \
+        || fail "a held new file stops a put: $(cat printed)"
+    [ "$(cat '.geofeed new 0')" = theirs ] \
+        || fail "a new file that another run holds was taken over"
     [ ! -e '.geofeed new 1' ] || fail "the next new file was not taken over"
     is_whole out.mmdb
-else
-    part "a new file that another run holds: there is no flock"
 fi
 rm -f .geofeed\ new\ *
 for ((n = 0; n < 100; n++)); do mkdir ".geofeed new $n"; done
@@ -144,10 +157,14 @@ job pipe > bad && puts 0 'emit pipe' bad && is_whole pipe
 # The limit of file size: of a put, and of standard output where that is a file.
 cp first out.mmdb
 for limit in 0 1; do
-    [ "$limit" -eq 0 ] || for n in {1..255}; do echo "x|DE|ipv4|10.0.$n.$n|1||allocated"; done > t.txt
-    printed=$(ulimit -f "$limit" && "$program" build other 2> /dev/full | cat; exit "${PIPESTATUS[0]}")
+    [ "$limit" -eq 0 ] \
+        || for n in {1..255}; do echo "x|DE|ipv4|10.0.$n.$n|1||allocated"; done > t.txt
+    printed=$(ulimit -f "$limit"
+        "$program" build other 2> /dev/full | cat
+        exit "${PIPESTATUS[0]}")
     status=$?
-    [ "$status $printed" = '5 stop write out.mmdb' ] || fail "a limit of $limit blocks ends with $status and '$printed'"
+    [ "$status $printed" = '5 stop write out.mmdb' ] \
+        || fail "a limit of $limit blocks ends with $status and '$printed'"
     cmp -s out.mmdb first || fail "a limit of $limit blocks spoils the file"
 done
 left 0
@@ -163,18 +180,45 @@ if [ -c /dev/full ]; then
     "$program" bulid > /dev/full 2> told
     [ $? -eq 5 ] && told 'standard output could not be written: No space left'
     job none/out.mmdb > bad && "$program" build bad > /dev/full 2> told
-    [ $? -eq 5 ] && told '"none/out.mmdb" could not be written' || fail "a stop line that is not written is not said either"
+    [ $? -eq 5 ] && told '"none/out.mmdb" could not be written' \
+        || fail "a stop line that is not written is not said either"
 fi
 
-# A pipe that is closed: before anything is written, and when it took the first bytes of many notes.
-mkfifo shut
-{ read -r < shut; "$program" build job 2> told; echo $? > ended; } | { exec 0<&-; echo > shut; }
-[ "$(cat ended)" -eq 5 ] && told 'standard output could not be written: Broken pipe' || fail "a closed pipe ends with $(cat ended)"
+# Standard output, standard error or standard input that is not open at all. What the program opens
+# then has their numbers, and is no place for what it prints.
+cp second out.mmdb
+"$program" build job >&- 2> told
+[ $? -eq 5 ] && told 'standard output could not be written: Bad file descriptor'
 is_whole out.mmdb
+cmp -s out.mmdb first || fail "a put without standard output is lost"
+"$program" lookup out.mmdb 192.0.2.1 >&- 2> told
+[ $? -eq 5 ] && told 'standard output could not be written: Bad file descriptor'
+"$program" build none >&- 2>&-
+[ $? -eq 4 ] || fail "a stop that can be told nowhere ends otherwise"
+"$program" build job > printed 2>&- <&-
+[ $? -eq 0 ] && grep -q '^emit out.mmdb ' printed \
+    || fail "a put without standard error ends otherwise"
+"$program" build none > printed 2>&-
+[ "$? $(cat printed)" = '4 stop missing none' ] \
+    || fail "a stop without standard error ends otherwise"
+left 0
+
+# A pipe that is closed: before anything is written, and when it took the first bytes of many notes.
+# The signal that comes with it ends nothing, whether the program is begun with it ignored or not.
+mkfifo shut
+for how in - ''; do
+    trap "$how" PIPE
+    { read -r < shut; "$program" build job 2> told; echo $? > ended; } | { exec 0<&-; echo > shut; }
+    [ "$(cat ended)" -eq 5 ] && told 'standard output could not be written: Broken pipe' \
+        || fail "a closed pipe ends with $(cat ended)"
+    is_whole out.mmdb
+done
+trap - PIPE
 for ((n = 0; n < 9000; n++)); do echo 'x|DE|ipv4|here|256||allocated'; done > notes.txt
 printf 'epoch 1700000000\nstats x notes.txt\nreport\n' > bad
 { "$program" build bad 2> told; echo $? > ended; } | head -c 5 > taken
-[ "$(cat ended taken)" = $'5\nstats' ] && told 'Broken pipe' || fail "a pipe that takes 5 bytes ends with '$(cat ended taken)'"
+[ "$(cat ended taken)" = $'5\nstats' ] && told 'Broken pipe' \
+    || fail "a pipe that takes 5 bytes ends with '$(cat ended taken)'"
 
 # Runs that are killed at any moment, and two that write one name.
 for ((n = 0; n < 60; n++)); do
@@ -193,11 +237,17 @@ for ((n = 0; n < 30; n++)); do
 done
 left 0
 
-# A kill when the bytes are written and not yet in place, and the mode that the new file has by then.
-if strace -o trace true 2> told; then
+# A kill when the bytes are written and not yet in place, and the mode that the new file has by
+# then.
+if ! needs strace strace; then
+    :
+elif strace -o trace true 2> told; then
     chmod 600 out.mmdb
     cp out.mmdb before
-    { strace -o trace -e trace=fsync -e inject=fsync:signal=KILL:when=1 "$program" build other > printed; } 2> told
+    {
+        strace -o trace -e trace=fsync -e inject=fsync:signal=KILL:when=1 \
+            "$program" build other > printed
+    } 2> told
     cmp -s out.mmdb before || fail "a put that was killed spoils the file"
     left 1
     has_mode 600 '.geofeed new 0'
@@ -207,55 +257,80 @@ if strace -o trace true 2> told; then
     calls=$(sed -n '/geofeed new/,$p' trace | grep -v '"/proc/' | sed -E 's/\(.*//' | tr '\n' ' ')
     [[ "$calls" == 'openat fchmod fsync rename openat fsync '* ]] || fail "a put calls $calls"
     grep -q 'O_EXCL.*, 0600)' trace || fail "a private file's successor is made with another mode"
+    # The blocks that main takes and lets go, where addresses are ample and where they are not:
+    # 33,488,896 bytes that are mapped, the probe, and sixteen of the first size in a row.
+    strace -o trace -e trace=mmap,brk "$program" --version > printed
+    blocks=$(sed -n 's/^brk(0x\([0-9a-f]*\)) .*/\1/p' trace \
+        | while read -r end; do echo $((16#$end)); done | awk '
+            NR > 1 && $1 - last > 33000000 { many++ }
+            { last = $1 }
+            END { print many + 0 }')
+    grep -q '^mmap(NULL, 33492992, .*) = 0x' trace \
+        && grep -q '^mmap(NULL, 2147487744, .*) = 0x' trace && [ "$blocks" -eq 16 ] \
+        || fail "main takes $blocks blocks of 16: $(cat trace)"
+    (ulimit -v 1500000 && exec strace -o trace -e trace=mmap,brk "$program" --version > printed)
+    grep -q '^mmap(NULL, 2147487744, .*) = -1 ENOMEM' trace \
+        || fail "main does not ask for addresses"
+    [ "$(grep -c '^brk(0x' trace)" -le 3 ] || fail "main takes blocks where addresses are not ample"
     for call in fchmod fsync rename; do
-        strace -o trace -e "trace=$call" -e "inject=$call:error=EIO:when=1" "$program" build job > printed 2> told
+        strace -o trace -e "trace=$call" -e "inject=$call:error=EIO:when=1" \
+            "$program" build job > printed 2> told
         [ $? -eq 5 ] && told 'nput/output error' || fail "a failed $call ends otherwise"
         cmp -s out.mmdb second || fail "a failed $call spoils the file"
         left 0
     done
 else
-    part "calls that fail, and a kill between two of them: there is no strace, or it may not trace"
+    part "calls that fail, and a kill between two of them: strace may not trace here"
 fi
 
 # Who opens new files in a loop never gets one with a mode wider than the end's.
-if command -v perl > /dev/null; then
+if needs perl perl; then
     chmod 600 out.mmdb
-    perl -e 'until (-e "stop") { for (glob ".geofeed*") { open(my $f, "<", $_) or next; $seen++; $wide++ if (stat $f)[2] & 077 } }
+    perl -e '
+        until (-e "stop") {
+            for (glob ".geofeed*") {
+                open(my $f, "<", $_) or next;
+                $seen++;
+                $wide++ if (stat $f)[2] & 077;
+            }
+        }
         printf "%d %d\n", $seen, $wide' > seen &
     watcher=$!
-    for ((n = 0; n < 150; n++)); do "$program" build job > printed || fail "a put beside a reader ends with status $?"; done
+    for ((n = 0; n < 150; n++)); do "$program" build job > printed \
+        || fail "a put beside a reader ends with status $?"; done
     touch stop
     wait "$watcher"
     read -r seen wide < seen
     [ "$wide" -eq 0 ] || fail "a private file was open to others $wide times"
     [ "$seen" -gt 0 ] || part "a reader in a loop: it came too late each time"
-else
-    part "a reader in a loop: there is no perl"
 fi
 
 # What needs rights: a full disk, a mount point, and the folders that another user may not write in.
 mkdir small
 if mount -t tmpfs -o size=64k tmpfs small 2> told; then
-    cp s.txt small && head -c 40000 /dev/zero > small/filler && job small/out.mmdb > bad && puts 0 'emit small/out.mmdb' bad
+    cp s.txt small && head -c 40000 /dev/zero > small/filler && job small/out.mmdb > bad
+    puts 0 'emit small/out.mmdb' bad
     cp small/out.mmdb before && head -c 60000 /dev/zero >> small/filler 2> told
     puts 5 'stop write small/out.mmdb' bad && told 'No space left'
     cmp -s small/out.mmdb before || fail "a full disk spoils the file"
     left 0 small
     job small > bad && puts 5 'stop write small' bad
     umount small
-    : > point && mount --bind first point && job point > bad && puts 5 'stop write point' bad && told 'busy' && umount point
+    : > point && mount --bind first point && job point > bad
+    puts 5 'stop write point' bad && told 'busy' && umount point
     left 0
 else
     part "a full disk and a mount point: nothing may be mounted here"
 fi
 if [ "$(id -u)" -eq 0 ] && setpriv --reuid 65534 --clear-groups true 2> told; then
-    mkdir -m 1777 sticky && mkdir -m 755 closed && cp first sticky/out.mmdb && chmod 666 sticky/out.mmdb && chmod 711 .
-    chmod 644 s.txt
+    mkdir -m 1777 sticky && mkdir -m 755 closed && cp first sticky/out.mmdb
+    chmod 666 sticky/out.mmdb && chmod 711 . && chmod 644 s.txt
     for folder in sticky closed; do
         job "$folder/out.mmdb" > bad
         chmod 644 bad
         printed=$(setpriv --reuid 65534 --clear-groups "$program" build bad 2> told)
-        [ "$? $printed" = "5 stop write $folder/out.mmdb" ] || fail "a $folder folder ends otherwise: $printed"
+        [ "$? $printed" = "5 stop write $folder/out.mmdb" ] \
+            || fail "a $folder folder ends otherwise: $printed"
         left 0 "$folder"
     done
     cmp -s sticky/out.mmdb first || fail "a sticky folder's file was written"

@@ -1,6 +1,7 @@
 #!/usr/bin/env bash
-# The generated job of 1,000 lines: by its own command, as files of a folder in several numbers of pieces, with its second
-# feed alone, and published. (That of one line is in checks/trials/generations.txt.)
+# The generated job of 1,000 lines: by its own command, as files of a folder in several numbers of
+# pieces, with its second feed alone, and published. (That of one line is in
+# checks/trials/generations.txt.)
 set -u
 cd "$(dirname "${BASH_SOURCE[0]}")/.." || exit 1
 . checks/with_program.bash
@@ -18,12 +19,15 @@ does() {
 feed() {
     awk -v first="$1" 'BEGIN { split("DE FR IT", countries, " ")
         for (at = 0; at < 1000; at++)
-            printf "10.0.%d.%d/28,%s,,City %d,\n", int(at / 16), at % 16 * 16, at ? countries[at % 3 + 1] : first, at }'
+            printf "10.0.%d.%d/28,%s,,City %d,\n", int(at / 16), at % 16 * 16,
+                at ? countries[at % 3 + 1] : first, at }'
 }
 
-# job FEED FILE [LINE]: a job that sets the dump and this feed, with a line between them, and emits this file.
+# job FEED FILE [LINE]: a job that sets the dump and this feed, with a line between them, and emits
+# this file.
 job() {
-    printf '%s\n' 'epoch 1700000000' 'rpsl gen gen.db' "${@:3}" "feed https://gen.example/feed.csv $1" "emit $2"
+    printf '%s\n' 'epoch 1700000000' 'rpsl gen gen.db' "${@:3}" \
+        "feed https://gen.example/feed.csv $1" "emit $2"
 }
 
 printf 'inetnum: 10.0.0.0 - 10.255.255.255\ngeofeed: https://gen.example/feed.csv\n' > gen.db

@@ -1,7 +1,7 @@
 #!/usr/bin/env bash
-# The manual page has no errors of form. It names every command and every line of a job that the code knows; it and
-# docs/stops.md every exit status, every stop line and every cause of a damaged file; it and the page of each kind of source
-# every rule code.
+# The manual page has no errors of form. It names every command and every line of a job that the
+# code knows; it and docs/stops.md every exit status, every stop line and every cause of a damaged
+# file; it and the page of each kind of source every rule code.
 set -u
 cd "$(dirname "${BASH_SOURCE[0]}")/.." || exit 1
 failed=0

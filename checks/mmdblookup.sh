@@ -1,10 +1,11 @@
 #!/usr/bin/env bash
-# Files that the program writes, opened by libmaxminddb's own `mmdblookup`: addresses inside and outside of each
-# prefix, and addresses at random, for which the program's own `lookup` has to say the same.
+# Files that the program writes, opened by libmaxminddb's own `mmdblookup`: addresses inside and
+# outside of each prefix, and addresses at random, for which the program's own `lookup` has to say
+# the same.
 set -u
 cd "$(dirname "${BASH_SOURCE[0]}")/.." || exit 1
 . checks/with_program.bash
-command -v mmdblookup >/dev/null || skip "there is no mmdblookup (Debian's mmdb-bin)"
+command -v mmdblookup > /dev/null || skip "there is no mmdblookup (Debian's mmdb-bin)"
 
 # emits LINE TEXT: a job of these statistics has to print this line.
 emits() {
@@ -33,14 +34,16 @@ finds() {
     shift
     for at in "$@"; do
         found=$(country "$at")
-        [ "$found" = "$wanted" ] || fail "mmdblookup of $at gives '$found', and not $wanted, after '$(cat s.txt)'"
+        [ "$found" = "$wanted" ] \
+            || fail "mmdblookup of $at gives '$found', and not $wanted, after '$(cat s.txt)'"
     done
 }
 
 emits 'emit out.mmdb nodes 1 data 0 bits 24 bytes 225' ''
 finds none :: 0.0.0.0 255.255.255.255 2001:db8::1
 
-emits 'emit out.mmdb nodes 124 data 22 bits 24 bytes 985' 'x|DE|ipv4|128.0.0.0|2147483648||allocated'
+emits 'emit out.mmdb nodes 124 data 22 bits 24 bytes 985' \
+    'x|DE|ipv4|128.0.0.0|2147483648||allocated'
 finds DE 128.0.0.0 128.0.0.1 255.255.255.255 ::ffff:128.0.0.1 2002:8000:1::1
 finds none 127.255.255.255 0.0.0.0 ::1:0:0 2001:db8::1 ::ffff:127.255.255.255 2002:7fff:ffff::1
 
@@ -68,13 +71,17 @@ awk 'BEGIN {
     seed = 20240301
     for (n = 0; n < 400; n++) {
         country = substr("DEATFRCHUSJPBRZA", 1 + 2 * below(8), 2)
-        if (below(4) > 0) printf "x|%s|ipv4|%d.%d.%d.0|%d||allocated\n", country, below(224), below(256), below(256), 1 + below(70000)
+        if (below(4) > 0)
+            printf "x|%s|ipv4|%d.%d.%d.0|%d||allocated\n", country,
+                below(224), below(256), below(256), 1 + below(70000)
         else printf "x|%s|ipv6|2001:%x::|%d||allocated\n", country, below(256) * 256, 24 + below(9)
     }
 }
 function below(most) { seed = (seed * 16807) % 2147483647; return seed % most }' > s.txt
 "$program" build job > printed || fail "build ended with status $?"
+count=0
 while IFS= read -r at; do
+    count=$((count + 1))
     own=$("$program" lookup out.mmdb "$at") || fail "lookup of $at ended with status $?: $own"
     other=$(country "$at")
     [ "$other" = none ] || other="{\"country\":{\"iso_code\":\"$other\"}}"
@@ -87,5 +94,6 @@ done < <(awk 'BEGIN {
     }
 }
 function below(most) { seed = (seed * 16807) % 2147483647; return seed % most }')
+counted 150 "$count" addresses
 
 verdict

@@ -1,12 +1,14 @@
 #!/usr/bin/env bash
-# A hundred random jobs of all kinds of lines: each sets, drops, marks and goes back at random, emits, changes something and
-# emits again; and the last file is byte for byte that of a fresh job of the sources then in force. The seed is fixed, and
-# another one can be given: SEED=7 bash checks/random_jobs.sh
+# A hundred random jobs of all kinds of lines: each sets, drops, marks and goes back at random,
+# emits, changes something and emits again; and the last file is byte for byte that of a fresh job
+# of the sources then in force. The seed is fixed, and another one can be given: SEED=7 bash
+# checks/random_jobs.sh
 set -u
 cd "$(dirname "${BASH_SOURCE[0]}")/.." || exit 1
 . checks/with_program.bash
 printf 'epoch 1\ndrop overrides\n' > job
-[ "$("$program" build job 2> told)" = 'stop drop 2' ] || skip "the program does not take all lines of a job yet"
+[ "$("$program" build job 2> told)" = 'stop drop 2' ] \
+    || skip "the program does not take all lines of a job yet"
 printf 'epoch 1\nmark m\ncompact\n' > job
 marks=1
 if ! "$program" build job > printed 2>&1; then
@@ -15,12 +17,14 @@ if ! "$program" build job > printed 2>&1; then
 fi
 command -v awk > /dev/null || skip "there is no awk"
 
-# make SEED: files of sources, the job `job`, and the job `fresh` of the sources that are in force at its end.
+# make SEED: files of sources, the job `job`, and the job `fresh` of the sources that are in force
+# at its end.
 make() {
     awk -v seed="$1" -v marks="$marks" '
         function below(n) { seed = (seed * 16807) % 2147483647; return int(seed / 7) % n }
         function pick(list,   words, count) { count = split(list, words, " "); return words[1 + below(count)] }
-        # A network of a small world, so that sources speak of the same addresses: /length of one of some roots.
+        # A network of a small world, so that sources speak of the same addresses: /length of one of
+        # some roots.
         function four(   length_, at) {
             length_ = 20 + below(11)
             at = 3221225984 + below(8) * 65536 + below(4) * 256 + below(256)
@@ -52,7 +56,8 @@ make() {
         function feed(file,   n) { for (n = below(10); n >= 0; n--) print net() "," place() > file; close(file) }
         function own(file,   n) { for (n = below(4); n >= 0; n--) print net() "," pick("set,DE,,Bonn void set,JP") > file; close(file) }
 
-        # One step that sets, drops, marks or goes back. What is in force is kept, so that no step is blocked.
+        # One step that sets, drops, marks or goes back. What is in force is kept, so that no step
+        # is blocked.
         function step(   kind, name, key) {
             kind = below(marks ? 10 : 8)
             name = "f" ++files
@@ -97,12 +102,15 @@ sizes=0
 for ((n = 1; n <= 100; n++)); do
     rm -f first second third f[0-9]*
     make $((seed + n * 7919))
-    "$program" build job > printed 2>&1 || fail "job $n of seed $seed ends otherwise: $(tail -n 1 printed)"
-    "$program" build fresh > printed 2>&1 || fail "the fresh job $n of seed $seed ends otherwise: $(tail -n 1 printed)"
+    "$program" build job > printed 2>&1 \
+        || fail "job $n of seed $seed ends otherwise: $(tail -n 1 printed)"
+    "$program" build fresh > printed 2>&1 \
+        || fail "the fresh job $n of seed $seed ends otherwise: $(tail -n 1 printed)"
     cmp -s second third || fail "job $n of seed $seed: its second file is not a fresh job's"
     [ "$failed" -eq 0 ] || break
     sizes=$((sizes + $(stat -c %s second)))
 done
-[ "$sizes" -gt 100000 ] || fail "the files of all jobs have $sizes bytes together: they are as good as empty"
+[ "$sizes" -gt 100000 ] \
+    || fail "the files of all jobs have $sizes bytes together: they are as good as empty"
 
 verdict

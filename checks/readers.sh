@@ -1,17 +1,21 @@
 #!/usr/bin/env bash
-# A file that the program writes, with many places and so with pointers in its data section, opened by other readers:
-# Python's maxminddb, pure and as an extension, Perl's MaxMind::DB::Reader and Go's maxminddb. Each has to find at every
-# address what the program's own `lookup` prints. A reader that is not there is passed over with a word.
+# A file that the program writes, with many places and so with pointers in its data section, opened
+# by other readers: Python's maxminddb, pure and as an extension, Perl's MaxMind::DB::Reader and
+# Go's maxminddb. Each has to find at every address what the program's own `lookup` prints. A reader
+# that is not there is passed over with a word.
 set -u
 cd "$(dirname "${BASH_SOURCE[0]}")/.." || exit 1
 . checks/with_program.bash
 
-# Delegations of 60 countries at random, and addresses inside and outside of them, the same in each run.
+# Delegations of 60 countries at random, and addresses inside and outside of them, the same in each
+# run.
 awk 'BEGIN {
     seed = 20240302
     for (n = 0; n < 600; n++) {
         country = sprintf("%c%c", 65 + below(6), 65 + below(10))
-        if (below(4) > 0) printf "x|%s|ipv4|%d.%d.%d.0|%d||allocated\n", country, below(224), below(256), below(256), 1 + below(70000)
+        if (below(4) > 0)
+            printf "x|%s|ipv4|%d.%d.%d.0|%d||allocated\n", country,
+                below(224), below(256), below(256), 1 + below(70000)
         else printf "x|%s|ipv6|2001:%x::|%d||allocated\n", country, below(256) * 256, 24 + below(9)
     }
 }
@@ -53,7 +57,8 @@ for mode in MODE_FILE MODE_MMAP_EXT; do
         echo "$check: maxminddb for Python has no extension"
         continue
     fi
-    /usr/bin/python3 reader.py "$mode" > printed || fail "maxminddb for Python, $mode, refuses the file"
+    /usr/bin/python3 reader.py "$mode" > printed \
+        || fail "maxminddb for Python, $mode, refuses the file"
     agrees "maxminddb for Python, $mode,"
 done
 
@@ -115,7 +120,8 @@ func main() {
 	}
 }
 X
-    GO111MODULE=off GOPATH=$gopath GOCACHE=$work/cache go run reader.go > printed || fail "maxminddb for Go refuses the file"
+    GO111MODULE=off GOPATH=$gopath GOCACHE=$work/cache go run reader.go > printed \
+        || fail "maxminddb for Go refuses the file"
     agrees 'maxminddb for Go'
 else
     echo "$check: no maxminddb for Go (Debian's golang-go and golang-github-oschwald-maxminddb-golang-dev)"

@@ -1,6 +1,6 @@
 #!/usr/bin/env bash
-# The example of all kinds of sources together, examples/realistic, by each command that looks at a job. What is wanted
-# stands in its folder expected/, and comes from outside of the program.
+# The example of all kinds of sources together, examples/realistic, by each command that looks at a
+# job. What is wanted stands in its folder expected/, and comes from outside of the program.
 set -u
 cd "$(dirname "${BASH_SOURCE[0]}")/.." || exit 1
 example=$PWD/examples/realistic
@@ -11,7 +11,8 @@ wanted=$example/expected
 # same WHAT WANTED: what was printed is what is wanted.
 same() { cmp -s printed "$2" || fail "$1 prints '$(cat printed)'"; }
 
-# does WORDS..: the command ends with status 0 and says nothing. Where its word is none yet, it is not tried.
+# does WORDS..: the command ends with status 0 and says nothing. Where its word is none yet, it is
+# not tried.
 does() {
     local status
     "$program" "$@" > printed 2> told
@@ -20,7 +21,8 @@ does() {
         echo "$check: not tried: the program has no '$1' yet"
         return 1
     fi
-    [ "$status" -eq 0 ] && [ ! -s told ] || fail "'$*' ends with status $status: $(cat printed told)"
+    [ "$status" -eq 0 ] && [ ! -s told ] \
+        || fail "'$*' ends with status $status: $(cat printed told)"
 }
 
 "$program" build job > printed 2> told
@@ -28,7 +30,8 @@ status=$?
 [ "$status" -ne 6 ] || [ "$(cat printed)" != 'stop job 3' ] || skip "the program takes no dumps yet"
 [ "$status" -eq 0 ] && [ ! -s told ] || fail "the job ends with status $status: $(cat printed told)"
 same 'the job' "$wanted/printed"
-cmp -s geo.mmdb "$wanted/geo.mmdb" || fail "the file is another one: $(cmp geo.mmdb "$wanted/geo.mmdb" 2>&1)"
+cmp -s geo.mmdb "$wanted/geo.mmdb" \
+    || fail "the file is another one: $(cmp geo.mmdb "$wanted/geo.mmdb" 2>&1)"
 
 while read -r address record; do
     printed=$("$program" lookup geo.mmdb "$address" 2>&1)

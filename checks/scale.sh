@@ -1,14 +1,15 @@
 #!/usr/bin/env bash
-# Sizes that tests do not have, within limits of time and memory: 300,000 made lines of statistics, 100,000 lines that
-# are noted, a comment of 5,000 bytes, sources of all kinds with a second emit, a list that claims 16.8 million values,
-# and a file with records of 28 bits.
+# Sizes that tests do not have, within limits of time and memory: 300,000 made lines of statistics,
+# 100,000 lines that are noted, a comment of 5,000 bytes, sources of all kinds with a second emit, a
+# list that claims 16.8 million values, and a file with records of 28 bits.
 set -u
 cd "$(dirname "${BASH_SOURCE[0]}")/.." || exit 1
 made=$PWD/bench/statistics.awk
 world=$PWD/bench/world.awk
 . checks/with_program.bash
 
-# runs SECONDS KILOBYTES WORDS..: what the program prints, in the file `printed`, and its status in `status`.
+# runs SECONDS KILOBYTES WORDS..: what the program prints, in the file `printed`, and its status in
+# `status`.
 runs() {
     local seconds=$1 kilobytes=$2
     shift 2
@@ -21,19 +22,24 @@ awk -v lines=300000 -f "$made" > s.txt
 printf 'epoch 1700000000\nstats made s.txt\nemit out.mmdb\n' > job
 runs 20 400000 build job
 wanted='emit out.mmdb nodes 178378 data 490 bits 24 bytes 1070979'
-[ "$status $(cat printed)" = "0 $wanted" ] || fail "300,000 lines end with status $status and '$(cat printed)'"
+[ "$status $(cat printed)" = "0 $wanted" ] \
+    || fail "300,000 lines end with status $status and '$(cat printed)'"
 sum=$(md5sum < out.mmdb 2>&1)
-[ "$sum" = '0ec6ccd75f050650c92400c553fcbb2b  -' ] || fail "300,000 lines make a file of another sum, $sum"
+[ "$sum" = '0ec6ccd75f050650c92400c553fcbb2b  -' ] \
+    || fail "300,000 lines make a file of another sum, $sum"
 
-# Sources of all kinds, and a second emit after one line of a feed changed; the other program's bytes again.
+# Sources of all kinds, and a second emit after one line of a feed changed; the other program's
+# bytes again.
 awk -v lines=100000 -f "$made" > stats.txt
 awk -v lines=100000 -f "$world"
 runs 20 400000 build job
 wanted='emit out.mmdb nodes 226633 data 587011 bits 24 bytes 1947030
 emit second.mmdb nodes 226633 data 587120 bits 24 bytes 1947139'
-[ "$status $(cat printed)" = "0 $wanted" ] || fail "sources of all kinds end with status $status and '$(cat printed)'"
+[ "$status $(cat printed)" = "0 $wanted" ] \
+    || fail "sources of all kinds end with status $status and '$(cat printed)'"
 sum=$(cat out.mmdb second.mmdb 2>&1 | md5sum)
-[ "$sum" = '248753193bd68d470ceecf363da36530  -' ] || fail "sources of all kinds make files of another sum, $sum"
+[ "$sum" = '248753193bd68d470ceecf363da36530  -' ] \
+    || fail "sources of all kinds make files of another sum, $sum"
 
 # As many delegations as before are not too many, and as many notes: one for each line.
 awk 'BEGIN { for (n = 0; n < 100000; n++) print "x|DE|ipv4|here|256||allocated" }' > s.txt
@@ -41,14 +47,16 @@ printf 'epoch 1700000000\nstats made s.txt\nreport\nemit out.mmdb\n' > job
 runs 20 400000 build job
 awk 'BEGIN { for (n = 1; n <= 100000; n++) print "stats made " n " S04"; print "notes 100000"
     print "emit out.mmdb nodes 1 data 0 bits 24 bytes 225" }' > wanted
-[ "$status" -eq 0 ] && cmp printed wanted || fail "100,000 noted lines end with status $status and $(wc -l < printed) lines"
+[ "$status" -eq 0 ] && cmp printed wanted \
+    || fail "100,000 noted lines end with status $status and $(wc -l < printed) lines"
 
 # A comment of 5,000 bytes in a job, and one in a source.
 comment=$(printf '#%4999s' '' | tr ' ' x)
 printf '%s\nx|DE|ipv4|128.0.0.0|2147483648||allocated\n' "$comment" > s.txt
 printf '%s\nepoch 1700000000\nstats x s.txt\nemit out.mmdb\n' "$comment" > job
 runs 5 200000 build job
-[ "$status $(cat printed)" = '0 emit out.mmdb nodes 124 data 22 bits 24 bytes 985' ] || fail "long comments end with status $status"
+[ "$status $(cat printed)" = '0 emit out.mmdb nodes 124 data 22 bits 24 bytes 985' ] \
+    || fail "long comments end with status $status"
 
 # A tree of one node, whose two records lead to a list that claims 16,843,036 values and has none.
 {
@@ -59,10 +67,12 @@ runs 5 200000 build job
     printf '\x4Aip_version\xA1\x06\x4Anode_count\xC1\x01\x4Brecord_size\xA1\x18'
 } > claims
 runs 5 200000 lookup claims 192.0.2.1
-[[ "$status $(cat printed)" == '9 stop file '* ]] || fail "a list that claims 16.8 million values ends with status $status and '$(cat printed)'"
+[[ "$status $(cat printed)" == '9 stop file '* ]] \
+    || fail "a list that claims 16.8 million values ends with status $status and '$(cat printed)'"
 
-# Records of 28 bits: 100,000 ranges of 16 addresses, each with one of 20,000 cities, whose names have 1,000 bytes. Two feeds
-# have them, and a dump the references to both. Perl makes the feeds, and of some ranges the city of their ends and none beside.
+# Records of 28 bits: 100,000 ranges of 16 addresses, each with one of 20,000 cities, whose names
+# have 1,000 bytes. Two feeds have them, and a dump the references to both. Perl makes the feeds,
+# and of some ranges the city of their ends and none beside.
 if ! command -v perl > /dev/null; then
     echo "$check: not tried: records of 28 bits: there is no perl"
 else
@@ -93,12 +103,15 @@ else
     while read -r at city; do
         wanted=none
         [ -z "$city" ] || wanted="{\"city\":{\"names\":{\"en\":\"$(printf '%1000s' "$city" | tr ' ' x)\"}},\"country\":{\"iso_code\":\"DE\"}}"
-        [ "$("$program" lookup wide.mmdb "$at")" = "$wanted" ] || fail "records of 28 bits: $at has not city $city"
+        [ "$("$program" lookup wide.mmdb "$at")" = "$wanted" ] \
+            || fail "records of 28 bits: $at has not city $city"
         command -v mmdblookup > /dev/null || continue
         other=$(mmdblookup --file wide.mmdb --ip "$at" city names en 2>&1 | sed -n 's/^ *"x*\([0-9]*\)" <utf8_string>.*/\1/p')
-        [ "$other" = "$city" ] || fail "records of 28 bits: mmdblookup of $at finds '$other', and not $city"
+        [ "$other" = "$city" ] \
+            || fail "records of 28 bits: mmdblookup of $at finds '$other', and not $city"
     done < places
-    [ "$(wc -l < places)" -eq 63 ] || fail "records of 28 bits: $(wc -l < places) addresses are looked up, and not 63"
+    [ "$(wc -l < places)" -eq 63 ] \
+        || fail "records of 28 bits: $(wc -l < places) addresses are looked up, and not 63"
 fi
 
 verdict

@@ -1,7 +1,7 @@
 #!/usr/bin/env bash
-# What the built program says of mistakes: each with its status, its stop line on standard output, and its one line of words
-# on standard error. And each line of words that docs/stops.md shows is one that is said here, and the jobs that the manual
-# and docs/job-file.md show are jobs.
+# What the built program says of mistakes: each with its status, its stop line on standard output,
+# and its one line of words on standard error. And each line of words that docs/stops.md shows is
+# one that is said here, and the jobs that the manual and docs/job-file.md show are jobs.
 set -u
 cd "$(dirname "${BASH_SOURCE[0]}")/.." || exit 1
 page=$PWD/docs/stops.md
@@ -44,7 +44,8 @@ stops 2 'stop words' 'geofeed: the file name "/etc/job" is absolute; names are a
 stops 2 'stop words' 'geofeed: the address "192.0.2" is not an address: not in the form of an address' lookup geo.mmdb 192.0.2
 stops 4 'stop missing job' 'geofeed: the job "job" is not there; names are looked up from the current folder' build job
 "$program" build $'\xff' > printed 2> told
-[ "$? $(cat printed told)" = '2 geofeed: a word is not UTF-8' ] || fail "a word that is not UTF-8: '$(cat printed told)'"
+[ "$? $(cat printed told)" = '2 geofeed: a word is not UTF-8' ] \
+    || fail "a word that is not UTF-8: '$(cat printed told)'"
 
 refuses 'epoch 1\nstats x /etc/s.txt' 'the file name "/etc/s.txt" is absolute; names are at or below the current folder'
 refuses 'epoch 1\nstatistics x s.txt' "no line begins with \"statistics\"; lines begin with $lines, in lower case"
@@ -100,7 +101,8 @@ else
         sed -nE 's/^(rpsl|stats|feed) [^ ]* //p; s/^overrides //p' "$job" | while read -r file; do
             mkdir -p "$(dirname "$file")" && : > "$file"
         done
-        "$program" build "$job" > printed 2> told || fail "a job that a page shows ends otherwise: $(cat printed told)"
+        "$program" build "$job" > printed 2> told \
+            || fail "a job that a page shows ends otherwise: $(cat printed told)"
     done
     cp "$example"/* . 2> told
     if [ "$("$program" check job https://no.example/f.csv 2> told)" = 'stop words' ]; then

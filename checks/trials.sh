@@ -1,11 +1,12 @@
 #!/usr/bin/env bash
-# The trials of checks/trials/*.txt by the built program: what commands print, write and end with over given files.
-# checks/trials/README.md says how a table is written.
+# The trials of checks/trials/*.txt by the built program: what commands print, write and end with
+# over given files. checks/trials/README.md says how a table is written.
 set -u
 export LC_ALL=C
 cd "$(dirname "${BASH_SOURCE[0]}")/.." || exit 1
 tables=$PWD/checks/trials
-# Hundreds of small files are written, and some large ones: in memory where that goes, since a disk is asked to keep each.
+# Hundreds of small files are written, and some large ones: in memory where that goes, since a disk
+# is asked to keep each.
 room=$(df -k --output=avail /dev/shm 2> /dev/null | tail -n 1)
 [ ! -w /dev/shm ] || [ "${room:-0}" -lt 300000 ] || export TMPDIR=/dev/shm
 . checks/with_program.bash
@@ -47,7 +48,8 @@ run() {
     ended=$?
     content "$work/told"
     told=$found
-    [ "$ended" = "$status" ] || differs "the status of '${words[*]}'" "$status" "$ended, saying '$told'"
+    [ "$ended" = "$status" ] \
+        || differs "the status of '${words[*]}'" "$status" "$ended, saying '$told'"
     if [ "$status" = 0 ]; then
         [ -z "$told" ] || differs "what '${words[*]}' says" nothing "$told"
     elif [[ "$told" != ?*$'\n' || "$told" == *$'\n'?* ]]; then

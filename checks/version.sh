@@ -1,6 +1,7 @@
 #!/usr/bin/env bash
-# The toolchain's line that the program and the README name is that of the toolchain which proves them; and what the
-# program prints of itself, where it is built: its version, its help, and how it is used.
+# The toolchain's line that the program and the README name is that of the toolchain which proves
+# them; and what the program prints of itself, where it is built: its version, its help, and how it
+# is used.
 set -u
 cd "$(dirname "${BASH_SOURCE[0]}")/.." || exit 1
 source=$PWD/crates/geofeed/src/main.rt
@@ -17,7 +18,8 @@ else
 fi
 . checks/with_program.bash
 
-# says STATUS WORDS..: the program ends so, with what it prints in `printed` and what it says in `told`.
+# says STATUS WORDS..: the program ends so, with what it prints in `printed` and what it says in
+# `told`.
 says() {
     local wanted=$1
     shift
@@ -31,7 +33,8 @@ wanted=$(sed -n 's/^const VERSION: &str = "\(.*\)";$/\1/p' "$source")
 for word in --version -V; do
     says 0 "$word"
     printed=$(sed -E '1s/ commit [0-9a-f]{7,40}(\+changes)?$//' printed)
-    [ -n "$wanted" ] && [ "$printed" = "$wanted" ] && [ ! -s told ] || fail "$word prints '$(cat printed)'"
+    [ -n "$wanted" ] && [ "$printed" = "$wanted" ] && [ ! -s told ] \
+        || fail "$word prints '$(cat printed)'"
 done
 for word in --help -h; do
     says 0 "$word"

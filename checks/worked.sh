@@ -1,5 +1,6 @@
 #!/usr/bin/env bash
-# Worked files: what jobs of a few sources emit, how many nodes and bytes their files have, and what these answer.
+# Worked files: what jobs of a few sources emit, how many nodes and bytes their files have, and what
+# these answer.
 set -u
 cd "$(dirname "${BASH_SOURCE[0]}")/.." || exit 1
 . checks/with_program.bash
@@ -18,7 +19,8 @@ emits() {
 # stats NAME FIRST COUNT CODE: the file NAME has one delegation.
 stats() { echo "x|$4|ipv4|$2|$3||allocated" > "$1"; }
 
-# answers ADDRESS CODE: the file `o` has this country for an address, or nothing where there is no code.
+# answers ADDRESS CODE: the file `o` has this country for an address, or nothing where there is no
+# code.
 answers() {
     local wanted=none printed
     [ -z "$2" ] || wanted="{\"country\":{\"iso_code\":\"$2\"}}"
@@ -60,14 +62,15 @@ stats x 1 S06\nnotes 1\nemit p nodes 147 data 22 bits 24 bytes 1123' \
     'stats x x' report 'emit o' 'drop stats x' 'stats x y' report 'emit p'
 cmp -s o p || fail "the file changes with the order of lines"
 
-# Ranges that nest, overlap without nesting, repeat, and touch both ends of both families; those that no line of statistics
-# can have are overrides.
+# Ranges that nest, overlap without nesting, repeat, and touch both ends of both families; those
+# that no line of statistics can have are overrides.
 stats g 0.0.0.0 4294967296 US
 stats f 10.0.0.0 16777216 DE
 stats e 10.0.0.0 16777216 AT
 stats d 10.128.0.0 16777215 FR
 stats c 0.0.0.0 1 NL
-printf '%s\n' '::2:0:0-ffff:ffff:ffff:ffff:ffff:ffff:ffff:ffff,set,SE' '::ffff:ffff-::1:0:0,set,CH' \
+printf '%s\n' '::2:0:0-ffff:ffff:ffff:ffff:ffff:ffff:ffff:ffff,set,SE' \
+    '::ffff:ffff-::1:0:0,set,CH' \
     'ffff:ffff:ffff:ffff:ffff:ffff:ffff:ffff/128,set,JP' > own
 emits 'emit o nodes 343 data 76 bits 24 bytes 2354' \
     'stats g g' 'stats f f' 'stats e e' 'stats d d' 'stats c c' 'overrides own' 'emit o'

@@ -65,7 +65,8 @@ static ROWS: [Row; 20] = [
     ),
     (
         b"10.0.0.1,set,DE\n10.0.0.0/8,void\n10.0.0.1/32,void\n10.0.0.1,set,DE",
-        b"2 10.0.0.0-10.255.255.255 void\noverrides - 1 O08\noverrides - 3 O08\noverrides - 4 O08\n",
+        b"2 10.0.0.0-10.255.255.255 void\n\
+overrides - 1 O08\noverrides - 3 O08\noverrides - 4 O08\n",
     ),
     (
         b"\n \n#\n\xEF\xBB\xBF10.0.0.0/8,void",

@@ -11,7 +11,8 @@ pub returns-clause-exact : goal.returns-clause-exact
 returns-clause-exact c k =
     let stand = c.self.invariant.cuts k in
     let same : Contains c.in_ok-points.points.items k
-    ↔ Contains (map (λ (b : Boundary). b.at) c.deref.result.now) k = c.in_ok-points.ensures.same k in
+    ↔ Contains (map (λ (b : Boundary). b.at) c.deref.result.now) k =
+    c.in_ok-points.ensures.same k in
     let here =
     subst (λ (bs : List Boundary). Contains c.in_ok-points.points.items k
     ↔ Contains (map (λ (b : Boundary). b.at) bs) k) c.deref.ensures same in

@@ -1,0 +1,81 @@
+#!/usr/bin/env bash
+# Want of memory, by `ulimit -v` at many limits: each command ends with status 1 and one line of
+# words, what it has printed till then is the beginning of what it prints otherwise, the old file
+# stands or the whole new one, and nothing is left behind. With more memory it does all.
+set -u
+cd "$(dirname "${BASH_SOURCE[0]}")/.." || exit 1
+statistics=$PWD/bench/statistics.awk
+world=$PWD/bench/world.awk
+. checks/with_program.bash
+
+awk -v lines=4000 -f "$statistics" > stats.txt
+awk -v lines=4000 -f "$world"
+sed -i 's/^emit out.mmdb$/report\n&/' job
+sed '1a pieces 1' job > single
+url=$(sed -n 's/^feed \([^ ]*\) feed8.csv$/\1/p' job)
+
+# The least limit with which the program is loaded at all, in KiB.
+least=1000
+until { (ulimit -v "$least" && exec "$program" --version > printed 2>&1); } 2> told; do
+    least=$((least + 250))
+    [ "$least" -lt 100000 ] || { fail "no limit lets the program begin"; verdict; }
+done
+
+# is_old_or_new FILE: the file is what stood there, or all that the command writes.
+is_old_or_new() {
+    cmp -s "$1" "old/$1" || cmp -s "$1" "new/$1"
+}
+
+# tried FILE WORDS..: the command at limits from the least on up to where it does all. It writes
+# FILE, or nothing where that is `-`.
+tried() {
+    local file=$1 limit=$least lacking=0 status name
+    shift
+    rm -rf old new .geofeed* && mkdir old new
+    "$program" "$@" > whole 2> told || fail "'$*' ends with status $? where memory is ample"
+    for name in "$file" second.mmdb; do
+        [ ! -f "$name" ] || { mv "$name" new && echo "an older $name" > "old/$name"; }
+    done
+    while :; do
+        cp old/* . 2> /dev/null
+        (ulimit -v "$limit" && exec "$program" "$@") > printed 2> told
+        status=$?
+        for name in old/*; do
+            [ ! -e "$name" ] || is_old_or_new "${name#old/}" \
+                || fail "'$*' with $limit KiB: ${name#old/} is neither the old file nor the new one"
+        done
+        [ -z "$(find . -name '.geofeed new *')" ] || fail "'$*' with $limit KiB leaves a new file"
+        [ "$status" -ne 0 ] || break
+        lacking=$((lacking + 1))
+        [ "$status" -eq 1 ] || fail "'$*' with $limit KiB ends with status $status: $(cat told)"
+        [ "$(wc -l < told)" -eq 1 ] && grep -q '^geofeed: memory ran out; ' told \
+            || fail "'$*' with $limit KiB says '$(cat told)'"
+        head -c "$(wc -c < printed)" whole | cmp -s - printed \
+            || fail "'$*' with $limit KiB prints '$(head -c 300 printed)'"
+        limit=$((limit + limit / 6))
+        [ "$limit" -lt 4000000 ] || { fail "'$*' does not end well with $limit KiB"; break; }
+    done
+    cmp -s whole printed && [ ! -s told ] || fail "'$*' with $limit KiB says '$(cat told)'"
+    [ "$file" = - ] || cmp -s "$file" "new/$file" \
+        || fail "'$*' with $limit KiB writes another $file"
+    counted 3 "$lacking" "limits at which '$*' lacks memory"
+}
+
+tried out.mmdb build single
+tried out.mmdb build job
+tried - census job
+tried - explain job 20.0.8.1
+tried - check job "$url"
+tried own.csv publish job 20.0.0.0/8 own.csv
+tried made.mmdb gen 3000 made.mmdb
+# A file of one node and one value, the empty map, and 9 MB that nothing leads to.
+{
+    printf '\0\0\x11\0\0\x11'
+    head -c 16 /dev/zero
+    printf '\xE0'
+    head -c 9000000 /dev/zero
+    printf '\xAB\xCD\xEFMaxMind.com\xE4\x5Bbinary_format_major_version\xA1\x02'
+    printf '\x4Aip_version\xA1\x06\x4Anode_count\xC1\x01\x4Brecord_size\xA1\x18'
+} > large
+tried - lookup large 192.0.2.1
+verdict
