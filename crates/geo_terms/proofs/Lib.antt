@@ -10,5 +10,6 @@ pub mod NestedLemmas
 pub mod NumberLemmas
 pub mod PlaceLemmas
 pub mod RankLemmas
+pub mod ReportLemmas
 pub mod SlotLemmas
 pub mod StandLemmas

@@ -13,10 +13,11 @@ pub mod Numbers
 pub mod Orders
 pub mod PlaceEquality
 pub mod PlaceForm
-pub mod PlaceOrder
 pub mod PlaceLead
+pub mod PlaceOrder
 pub mod Precedence
 pub mod Report
+pub mod ReportOrder
 pub mod SaidOf
 pub mod SlotOrder
 pub mod SourceForm

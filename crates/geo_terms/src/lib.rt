@@ -18,7 +18,7 @@ mod source;
 mod statement;
 mod texts;
 
-pub use alias::{home, is_alias, lies_in_alias};
+pub use alias::{MAPPED_HEAD, SIX_TO_FOUR_HEAD, home, is_alias, lies_in_alias};
 pub use fields::{country_place, place_in, place_of};
 pub use first_index::FirstIndex;
 pub use note::{LineNote, Note, Origin, Rule, note_text};
@@ -27,4 +27,4 @@ pub use place::{Place, PlaceFault, Said};
 pub use places::{Places, PlacesFault};
 pub use source::{Dump, Feed, Overrides, SourceFault, Stats};
 pub use statement::{Delegation, Entry, Override, Reference};
-pub use texts::Texts;
+pub use texts::{Texts, mixed};

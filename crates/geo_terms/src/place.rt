@@ -234,9 +234,9 @@ impl Ord for Place {
     fn cmp(&self, other: &Place) -> Ordering {
         self.country()
             .cmp(other.country())
-            .then(self.region().cmp(other.region()))
-            .then(self.city().cmp(other.city()))
-            .then(self.postal().cmp(other.postal()))
+            .then_with(|| self.region().cmp(other.region()))
+            .then_with(|| self.city().cmp(other.city()))
+            .then_with(|| self.postal().cmp(other.postal()))
     }
 }
 

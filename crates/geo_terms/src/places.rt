@@ -10,12 +10,14 @@ use geo_addr::Memory;
 use std::alloc::Global;
 use std::collections::BTreeMap;
 use std::marker::Model;
+use std::mem;
 use thiserror::Error;
 
 /// Distinct places with their numbers, in the order in which they came.
 ///
 /// The first place has number 1; a number that was given is never changed. A place is looked for by
-/// its mark first, and only where that leads to another by its texts.
+/// its mark first, and only where that leads to others by its texts, in a tree: a stranger who
+/// chooses marks makes a look-up as dear as the tree, and no dearer.
 #[derive(Drop)]
 pub struct Places {
     list: Vec<Place>,
@@ -23,8 +25,10 @@ pub struct Places {
     recent: Vec<u32>,
 }
 
-/// How many numbers are kept by marks: so few that all stay near the processor.
-const SLOTS: u64 = 1 << 14;
+/// How many numbers are kept by marks at first, and at most.
+const FIRST_RECENT: usize = 1 << 14;
+
+const MOST_RECENT: usize = 1 << 20;
 
 impl Model for Places {
     ghost use Rattle.std.specs.Prelude.{List, ◌^◌, ◌<◌, length};
@@ -85,19 +89,46 @@ impl Places {
     fn remember(&mut self, place: &Place, number: u32)
         ensures { self.new ≡ self.old }
     {
-        if self.recent.is_empty() && self.recent.resize(SLOTS as usize, 0).is_err() {
-            return;
+        let count = self.recent.len();
+        if count < MOST_RECENT && count / 4 <= self.list.len() {
+            self.more_recent(count);
         }
-        if let Some(slot) = self.recent.get_mut(slot_of(place)) {
-            *slot = number;
-        }
+        note_recent(&mut self.recent, place, number);
     }
 
-    // The number of a place that its mark leads to.
+    // More slots for numbers by marks, if there is memory for them, with the numbers given so far.
+    fn more_recent(&mut self, count: usize)
+        ensures { self.new ≡ self.old }
+    {
+        let mut recent = Vec::new(*self.list.allocator());
+        if recent
+            .resize(count.saturating_mul(2).max(FIRST_RECENT), 0)
+            .is_err()
+        {
+            return;
+        }
+        for (index, place) in self.list.iter().enumerate() {
+            note_recent(&mut recent, place, index as u32 + 1);
+        }
+        self.recent = recent;
+    }
+
+    // The number of a place that its mark leads to, in the slot of the mark or the one beside it.
     fn number_by_mark(&self, place: &Place) -> Option<u32>
         ensures { IfSome result (λ number. number_of self.now place.now ≡ Some number) }
     {
-        let number = *self.recent.get(slot_of(place))?;
+        let slot = slot_of(&self.recent, place);
+        match self.number_in(slot, place) {
+            Some(number) => Some(number),
+            None => self.number_in(slot ^ 1, place),
+        }
+    }
+
+    // The number in this slot, if it is that of the place.
+    fn number_in(&self, slot: usize, place: &Place) -> Option<u32>
+        ensures { IfSome result (λ number. number_of self.now place.now ≡ Some number) }
+    {
+        let number = *self.recent.get(slot)?;
         let found = self.get(number)?;
         if found != place {
             return None;
@@ -162,7 +193,19 @@ impl Places {
     }
 }
 
+// Puts a number into the slot of the place's mark, and what was there into the one beside it.
+fn note_recent(recent: &mut [u32], place: &Place, number: u32) {
+    let slot = slot_of(recent, place);
+    let Some(first) = recent.get_mut(slot) else {
+        return;
+    };
+    let before = mem::replace(first, number);
+    if let Some(second) = recent.get_mut(slot ^ 1) {
+        *second = before;
+    }
+}
+
 // Where the number of a place with this mark is kept.
-fn slot_of(place: &Place) -> usize {
-    (place.mark() % SLOTS) as usize
+fn slot_of(recent: &[u32], place: &Place) -> usize {
+    place.mark() as usize & recent.len().saturating_sub(1)
 }

@@ -10,8 +10,8 @@ use std::mem;
 /// The texts and the places of one source so far: one that came before is given again, and takes no
 /// bytes.
 ///
-/// Which texts it holds changes what memory is taken, and never what a text says. Two texts with
-/// one mark, which strangers may make, stand beside one another without being shared.
+/// Which texts it holds changes what memory is taken, and never what a text says. A look-up is at
+/// most two, whatever strangers write: of texts whose marks lead to one slot the last two are shared.
 #[derive(Drop)]
 pub struct Texts {
     alloc: Global,
@@ -88,13 +88,13 @@ impl<T: Drop> Slots<T> {
         }
     }
 
-    // Puts a value in; the table doubles once as many were put in as it has slots.
+    // Puts a value in; the table doubles once half as many were put in as it has slots.
     fn keep(&mut self, alloc: Global, mark: u64, value: T) -> Result<(), Memory> {
         let count = self.slots.len() as u64;
         if count == 0 {
             self.slots = empty_slots(alloc, FIRST)?;
             self.last = FIRST - 1;
-        } else if self.put >= count && count < MOST {
+        } else if self.put >= count / 2 && count < MOST {
             self.double(alloc)?;
         }
         self.put = self.put.saturating_add(1);
@@ -132,7 +132,7 @@ impl<T: Drop> Slots<T> {
 }
 
 fn empty_slots<T: Drop>(alloc: Global, count: u64) -> Result<Vec<Option<(u64, T)>>, Memory> {
-    let mut slots = Vec::new(alloc);
+    let mut slots = Vec::with_capacity(alloc, count as usize)?;
     for _ in 0..count {
         slots.push(None).map_err(Memory::from)?;
     }
@@ -324,9 +324,10 @@ pub(crate) fn mark_of(text: &[u8]) -> u64 {
     mixed(mark ^ short_word(left))
 }
 
-// The halves of the product, one over the other, so that no text is
-// found back from a mark with ease.
-fn mixed(mark: u64) -> u64 {
+/// A number for a table's slot, mixed from this one: the halves of a product, one over the other.
+///
+/// Whoever wants to finds numbers that are mixed alike, so no table may be slow where many are.
+pub fn mixed(mark: u64) -> u64 {
     let product = u128::from(mark) * 0x9e37_79b9_7f4a_7c15;
     (product & 0xffff_ffff_ffff_ffff) as u64 ^ (product >> 64) as u64
 }

@@ -3,7 +3,7 @@ use Rattle.std.proofs.Common.{sym, subst, ◌∙◌}
 use Rattle.std.specs.List.{IsDistinct}
 use Rattle.geo_terms.specs.Numbers.{same_place}
 use Rattle.geo_terms.proofs.NumberLemmas.{number_of_equal}
-use Rattle.geo_terms.proofs.places.Places.number_by_mark.Goals as goal
+use Rattle.geo_terms.proofs.places.Places.number_in.Goals as goal
 
 pub returns : goal.returns
 returns c =
