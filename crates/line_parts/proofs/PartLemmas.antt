@@ -3,7 +3,7 @@ use Rattle.std.proofs.Common.{◌≡◌, ℕ, ◌+◌, ◌<◌, ◌≤◌, ◌&&
 use Rattle.std.proofs.Common.{◌++◌, length, map, take, drop, inl, inr, refl, sym, ap, ap₂, ◌∙◌}
 use Rattle.std.proofs.Common.{subst, arith}
 use Rattle.std.proofs.Common.{Option, None, Some, eqb, get_or, ne_eqb, All, ◌⊎◌, ◌≢◌, ◌^◌, ◌-◌}
-use Rattle.std.specs.List.{enumerate_from, flat_map, onto_first, slice_split, starts_with}
+use Rattle.std.specs.List.{enumerate_from, flat_map, onto_first, starts_with}
 use Rattle.std.specs.Prelude.{nat_eq}
 use Rattle.std.specs.Str.Lines.{strip_carriage_return}
 use Rattle.std.proofs.lemmas.Bool.{eqb-true}
@@ -18,7 +18,7 @@ use Rattle.std.proofs.lemmas.List.Splits.{length-slice_split, slice_split_none}
 use Rattle.geo_addr.specs.Lines.{byte_order_mark, lines_of, lines_of_pieces, numbered_lines}
 use Rattle.geo_addr.specs.Lines.{pieces, without_mark}
 use Rattle.std.proofs.lemmas.Grind.{flat_map-append}
-use Rattle.line_parts.specs.Parts.{EndsBehind, EndsWithFeed, HasInnerMark, behind, feeds, lines_in}
+use Rattle.line_parts.specs.Parts.{EndsBehind, EndsWithFeed, behind, feeds, lines_in}
 use Rattle.line_parts.specs.declared.part.LinePart.{LinePart}
 
 -- a first piece before others is a line
