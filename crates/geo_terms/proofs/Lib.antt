@@ -4,7 +4,6 @@ pub mod FirstLemmas
 pub mod IndexLemmas
 pub mod LeadLemmas
 pub mod LineOrder
-pub mod MarkLemmas
 pub mod Members
 pub mod NearLemmas
 pub mod NestedLemmas

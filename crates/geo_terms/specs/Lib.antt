@@ -7,13 +7,13 @@ pub mod DelegationForm
 pub mod Edges
 pub mod First
 pub mod FirstIndex
-pub mod MarkHash
 pub mod Nested
 pub mod NoteText
 pub mod Numbers
 pub mod Orders
 pub mod PlaceEquality
 pub mod PlaceForm
+pub mod PlaceOrder
 pub mod PlaceLead
 pub mod Precedence
 pub mod Report

@@ -7,9 +7,13 @@ ghost use Rattle.geo_terms.specs.PlaceForm.{IsPlace, same_text};
 ghost use Rattle.geo_terms.specs.PlaceLead.{Tells};
 ghost use Rattle.geo_terms.specs.Numbers.{same_place};
 ghost use Rattle.geo_terms.specs.PlaceEquality as equality;
+ghost use Rattle.geo_terms.specs.PlaceOrder as order;
+ghost use Rattle.std.specs.Prelude.{Some, refl};
+ghost use Rattle.std.specs.Cmp.{partial_order_from_agreeing_total};
 
 use geo_addr::{Memory, Text};
 use std::alloc::Global;
+use std::cmp::Ordering;
 use std::hash::{Hash, Hasher};
 use std::marker::Model;
 use std::sync::Arc;
@@ -205,6 +209,35 @@ impl PartialEq for Place {
 
 impl Eq for Place {
     ghost laws = { equality.place_equiv };
+}
+
+impl PartialOrd for Place {
+    ghost partial_cmp = { λ x y. Some (order.place_cmp x y) };
+
+    ghost laws = { partial_order_from_agreeing_total order.place_cmp order.place_total
+        (λ x y. refl) order.place_ties };
+
+    fn partial_cmp(&self, other: &Place) -> Option<Ordering> {
+        Some(self.cmp(other))
+    }
+}
+
+impl Ord for Place {
+    ghost cmp = { order.place_cmp };
+
+    ghost total = { order.place_total };
+
+    ghost matches_partial_cmp = { λ x y. refl };
+
+    ghost matches_eq = { order.place_ties };
+
+    fn cmp(&self, other: &Place) -> Ordering {
+        self.country()
+            .cmp(other.country())
+            .then(self.region().cmp(other.region()))
+            .then(self.city().cmp(other.city()))
+            .then(self.postal().cmp(other.postal()))
+    }
 }
 
 impl Hash for Place {

@@ -7,8 +7,8 @@ ghost use Rattle.geo_terms.specs.Numbers.{number_of, place_at, same_place, with_
 
 use crate::place::Place;
 use geo_addr::Memory;
-use indexmap::IndexSet;
 use std::alloc::Global;
+use std::collections::BTreeMap;
 use std::marker::Model;
 use thiserror::Error;
 
@@ -18,7 +18,8 @@ use thiserror::Error;
 /// its mark first, and only where that leads to another by its texts.
 #[derive(Drop)]
 pub struct Places {
-    places: IndexSet<Place>,
+    list: Vec<Place>,
+    index: BTreeMap<Place, u32>,
     recent: Vec<u32>,
 }
 
@@ -30,13 +31,14 @@ impl Model for Places {
     ghost use Rattle.std.specs.List.{IsDistinct};
     ghost use Rattle.geo_terms.specs.PlaceForm.{PlaceParts};
     ghost use Rattle.geo_terms.specs.Numbers.{same_place};
+    ghost use Rattle.geo_terms.specs.PlaceOrder.{Leads};
 
     ghost Value = { List PlaceParts };
 
-    ghost view = { λ p. p.places.keys };
+    ghost view = { λ p. p.list.items };
 
-    ghost invariant = { λ p. IsDistinct same_place p.places.keys
-        × (length p.places.keys < 2 ^ 32) };
+    ghost invariant = { λ p. IsDistinct same_place p.list.items
+        × (length p.list.items < 2 ^ 32) × Leads p.list.items p.index };
 }
 
 /// Why a place has no number.
@@ -54,7 +56,8 @@ impl Places {
         ensures { result ≡ [] }
     {
         Places {
-            places: IndexSet::new(alloc),
+            list: Vec::new(alloc),
+            index: BTreeMap::new(alloc),
             recent: Vec::new(alloc),
         }
     }
@@ -113,19 +116,24 @@ impl Places {
             ↔ (IsNone (number_of self.old place.now) × (length self.old ≡ 2 ^ 32 - 1)) }
         ensures err { OnErr result (self.new ≡ self.old) }
     {
-        if let Some(index) = self.places.get_index_of(place) {
-            return Ok(index as u32 + 1);
+        if let Some(number) = self.index.get(place) {
+            return Ok(*number);
         }
-        if self.places.len() >= u32::MAX as usize {
+        if self.list.len() >= u32::MAX as usize {
             return Err(PlacesFault::Full);
         }
-        let Ok(copy) = place.copied() else {
+        let (Ok(copy), Ok(key)) = (place.copied(), place.copied()) else {
             return Err(PlacesFault::Memory);
         };
-        let Ok((index, _)) = self.places.insert_full(copy) else {
+        let number = self.list.len() as u32 + 1;
+        if self.list.push(copy).is_err() {
             return Err(PlacesFault::Memory);
-        };
-        Ok(index as u32 + 1)
+        }
+        if self.index.insert(key, number).is_err() {
+            self.list.pop();
+            return Err(PlacesFault::Memory);
+        }
+        Ok(number)
     }
 
     /// The place of a number.
@@ -135,7 +143,7 @@ impl Places {
         if number == 0 {
             return None;
         }
-        self.places.get_index(number as usize - 1)
+        self.list.get(number as usize - 1)
     }
 
     /// How many places have a number.
@@ -143,14 +151,14 @@ impl Places {
         ensures count { result ≡ length self.now }
         ensures distinct { IsDistinct same_place self.now }
     {
-        self.places.len() as u32
+        self.list.len() as u32
     }
 
     /// Whether no place has a number.
     pub fn is_empty(&self) -> bool
         ensures { IsTrue result ↔ (self.now ≡ []) }
     {
-        self.places.is_empty()
+        self.list.is_empty()
     }
 }
 

@@ -1,13 +1,11 @@
 //! Texts and places that stand in a source many times.
 ghost use Rattle.std.specs.Prelude.{◌≡◌, [], IfOk, IfSome};
-ghost use Rattle.geo_terms.specs.MarkHash as marks;
 ghost use Rattle.geo_terms.specs.PlaceForm.{IsPlace};
 
 use crate::place::Place;
 use geo_addr::{Memory, Text};
-use indexmap::IndexMap;
 use std::alloc::Global;
-use std::hash::{BuildHasherDefault, Hasher};
+use std::mem;
 
 /// The texts and the places of one source so far: one that came before is given again, and takes no
 /// bytes.
@@ -18,8 +16,8 @@ use std::hash::{BuildHasherDefault, Hasher};
 pub struct Texts {
     alloc: Global,
     empty: Option<Text>,
-    seen: IndexMap<u64, Text, BuildHasherDefault<MarkHasher>>,
-    places: IndexMap<u64, Place, BuildHasherDefault<MarkHasher>>,
+    seen: Slots<Text>,
+    places: Slots<Place>,
 }
 
 /// The marks of four texts: numbers by which they are found again, which others may have too.
@@ -49,24 +47,96 @@ impl Marks {
     }
 }
 
-/// A hasher of marks: a mark is mixed already, and is its own hash.
-#[derive(Clone, Copy, Default)]
-pub struct MarkHasher {
-    mark: u64,
+/// Values by marks, without chains: one has the slot of its mark or the one beside it, and an older
+/// one may go for a newer one.
+#[derive(Drop)]
+struct Slots<T: Drop> {
+    slots: Vec<Option<(u64, T)>>,
+    last: u64,
+    put: u64,
 }
 
-impl Hasher for MarkHasher {
-    ghost write = { marks.write };
+/// How many slots a table has at first, and at most.
+const FIRST: u64 = 1 << 6;
 
-    ghost finish = { marks.finish };
+const MOST: u64 = 1 << 20;
 
-    fn finish(&self) -> u64 {
-        self.mark
+impl<T: Drop> Slots<T> {
+    // No slot yet; it takes no memory.
+    fn new(alloc: Global) -> Slots<T> {
+        Slots {
+            slots: Vec::new(alloc),
+            last: 0,
+            put: 0,
+        }
     }
 
-    fn write(&mut self, bytes: &[u8]) {
-        self.mark = first_word(bytes);
+    // What the slot of this mark holds, if it came by this mark.
+    fn first(&self, mark: u64) -> Option<&T> {
+        self.held((mark & self.last) as usize, mark)
     }
+
+    // The same of the slot beside it.
+    fn second(&self, mark: u64) -> Option<&T> {
+        self.held((mark & self.last) as usize ^ 1, mark)
+    }
+
+    fn held(&self, slot: usize, mark: u64) -> Option<&T> {
+        match self.slots.get(slot) {
+            Some(Some((own, value))) if *own == mark => Some(value),
+            _ => None,
+        }
+    }
+
+    // Puts a value in; the table doubles once as many were put in as it has slots.
+    fn keep(&mut self, alloc: Global, mark: u64, value: T) -> Result<(), Memory> {
+        let count = self.slots.len() as u64;
+        if count == 0 {
+            self.slots = empty_slots(alloc, FIRST)?;
+            self.last = FIRST - 1;
+        } else if self.put >= count && count < MOST {
+            self.double(alloc)?;
+        }
+        self.put = self.put.saturating_add(1);
+        self.place(mark, value);
+        Ok(())
+    }
+
+    fn double(&mut self, alloc: Global) -> Result<(), Memory> {
+        let more = (self.last & (MOST - 1)) * 2 + 1;
+        let slots = empty_slots(alloc, more + 1)?;
+        let before = mem::replace(&mut self.slots, slots);
+        self.last = more;
+        for slot in before {
+            if let Some((mark, value)) = slot {
+                self.place(mark, value);
+            }
+        }
+        Ok(())
+    }
+
+    // Puts a value into the slot of its mark, and what was there into the one beside it.
+    fn place(&mut self, mark: u64, value: T) {
+        let slot = (mark & self.last) as usize;
+        let Some(first) = self.slots.get_mut(slot) else {
+            return;
+        };
+        let before = mem::replace(first, Some((mark, value)));
+        if before.is_none() {
+            return;
+        }
+        if let Some(second) = self.slots.get_mut(slot ^ 1) {
+            *second = before;
+        }
+    }
+}
+
+fn empty_slots<T: Drop>(alloc: Global, count: u64) -> Result<Vec<Option<(u64, T)>>, Memory> {
+    let mut slots = Vec::new(alloc);
+    for _ in 0..count {
+        slots.push(None).map_err(Memory::from)?;
+    }
+    Ok(slots)
 }
 
 impl Texts {
@@ -75,8 +145,8 @@ impl Texts {
         Texts {
             alloc,
             empty: None,
-            seen: IndexMap::with_hasher(alloc, BuildHasherDefault::new()),
-            places: IndexMap::with_hasher(alloc, BuildHasherDefault::new()),
+            seen: Slots::new(alloc),
+            places: Slots::new(alloc),
         }
     }
 
@@ -119,10 +189,14 @@ impl Texts {
     pub(crate) fn known(&self, mark: u64, text: &[u8]) -> Result<Option<Text>, Memory>
         ensures { IfOk result (λ found. IfSome found (λ given. given ≡ text.now)) }
     {
-        match self.seen.get(&mark) {
-            Some(found) if found.as_str().as_bytes() == text => Ok(Some(found.copied()?)),
-            _ => Ok(None),
-        }
+        let found = match said(self.seen.first(mark), text) {
+            Some(found) => found,
+            None => match said(self.seen.second(mark), text) {
+                Some(found) => found,
+                None => return Ok(None),
+            },
+        };
+        Ok(Some(found.copied()?))
     }
 
     /// The text itself, from now on one that came before by this mark.
@@ -130,7 +204,7 @@ impl Texts {
         ensures { IfOk result (λ given. given ≡ text) }
     {
         let copy = text.copied()?;
-        self.seen.insert(mark, copy).map_err(Memory::from)?;
+        self.seen.keep(self.alloc, mark, copy)?;
         Ok(text)
     }
 
@@ -151,9 +225,9 @@ impl Texts {
           postal = postal.now;
         }) }
     {
-        match self.places.get(&mark) {
-            Some(place) if place.has(country, region, city, postal) => Some(place),
-            _ => None,
+        match of_texts(self.places.first(mark), country, region, city, postal) {
+            Some(place) => Some(place),
+            None => of_texts(self.places.second(mark), country, region, city, postal),
         }
     }
 
@@ -193,13 +267,49 @@ impl Texts {
     {
         let place = Place::of(self.alloc, mark, country, region, city, postal)?;
         let copy = place.copied()?;
-        self.places.insert(mark, copy).map_err(Memory::from)?;
+        self.places.keep(self.alloc, mark, copy)?;
         Ok(place)
     }
 
     /// Where new texts take their memory.
     pub(crate) fn alloc(&self) -> Global {
         self.alloc
+    }
+}
+
+// A text that was found, where it says these bytes.
+fn said<'a>(found: Option<&'a Text>, text: &[u8]) -> Option<&'a Text>
+    ensures { IfSome result (λ found. found.now ≡ text.now) }
+{
+    let found = found?;
+    if found.as_str().as_bytes() == text {
+        Some(found)
+    } else {
+        None
+    }
+}
+
+// A place that was found, where these are its texts.
+fn of_texts<'a>(
+    found: Option<&'a Place>,
+    country: &[u8],
+    region: &[u8],
+    city: &[u8],
+    postal: &[u8],
+) -> Option<&'a Place>
+    ensures form { IfSome result (λ place. IsPlace place.now) }
+    ensures texts { IfSome result (λ place. place.now ≡ record {
+      country = country.now;
+      region = region.now;
+      city = city.now;
+      postal = postal.now;
+    }) }
+{
+    let found = found?;
+    if found.has(country, region, city, postal) {
+        Some(found)
+    } else {
+        None
     }
 }
 
@@ -222,9 +332,7 @@ fn mixed(mark: u64) -> u64 {
 }
 
 // The number that the first eight bytes spell, the lowest first; 0 where there are fewer.
-fn first_word(bytes: &[u8]) -> u64
-    ensures { result ≡ marks.first_word bytes.now }
-{
+fn first_word(bytes: &[u8]) -> u64 {
     let [a, b, c, d, e, f, g, h, ..] = bytes else {
         return 0;
     };
