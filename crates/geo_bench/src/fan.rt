@@ -2,7 +2,7 @@
 
 use crate::fault::Fault;
 use crate::ranges::mixed;
-use fan_work::{Forks, Work, map_pieces};
+use fan_work::{Work, map_pieces};
 use geo_addr::Memory;
 use geo_outside::OpenGate;
 use std::alloc::Global;
@@ -23,13 +23,14 @@ pub(crate) fn run<R: Threads + Sync + Print + AllocGlobal>(
     let alloc = rt.alloc();
     let items = all_items(alloc)?;
     let pieces = if is_parallel { 4 } else { 1 };
-    let forks = Forks {
+    let results = map_pieces(
         rt,
         alloc,
-        gate: &OpenGate,
+        &OpenGate,
         pieces,
-    };
-    let results = map_pieces(&forks, items.as_slice(), &Rounds(rounds))?;
+        items.as_slice(),
+        &Rounds(rounds),
+    )?;
     println!(rt; "results {}", results.len())?;
     println!(rt; "together {}", together(results.as_slice()))?;
     Ok(())
@@ -60,7 +61,7 @@ impl Work<u32, u32> for Rounds {
 
     ghost related = { λ work x y. ⊤ };
 
-    fn done(&self, _alloc: Global, item: &u32) -> Result<u32, Memory> {
+    fn done(&self, item: &u32) -> Result<u32, Memory> {
         let mut number = *item;
         for round in 0..self.0 {
             number = mixed(number.wrapping_add(round));

@@ -20,6 +20,7 @@ const LEAST_PART: usize = 262_144;
 /// Work that reads the lines of a part of the file in a slot, which has `size` bytes.
 #[derive(Drop)]
 struct PartReading<'a> {
+    alloc: Global,
     slot: &'a str,
     size: usize,
 }
@@ -29,7 +30,7 @@ impl<'a, 'b> Work<LinePart<'b>, Found> for PartReading<'a> {
 
     ghost related = { λ work part found. IsPartRead work.slot.now part found };
 
-    fn done(&self, alloc: Global, item: &LinePart<'b>) -> Result<Found, Memory> {
+    fn done(&self, item: &LinePart<'b>) -> Result<Found, Memory> {
         // The rows of the other parts come to stand behind those of the first.
         let room = if item.before == 0 {
             self.size
@@ -37,8 +38,8 @@ impl<'a, 'b> Work<LinePart<'b>, Found> for PartReading<'a> {
             item.text.len()
         };
         // A text of its own, since all copies of a text are counted in one cell.
-        let slot = Text::of(alloc, self.slot)?;
-        match read_lines(alloc, &slot, *item, room, usize::MAX) {
+        let slot = Text::of(self.alloc, self.slot)?;
+        match read_lines(self.alloc, &slot, *item, room, usize::MAX) {
             Ok(found) => Ok(found),
             Err(_) => Err(Memory),
         }
@@ -68,10 +69,18 @@ pub fn read_stats_by_parts<R: Threads + Sync, G: Gate>(
     let size = (bytes.len() / forks.pieces as usize).max(LEAST_PART);
     let parts = parts_of(forks.alloc, bytes, size)?;
     let work = PartReading {
+        alloc: forks.alloc,
         slot,
         size: bytes.len(),
     };
-    let found = map_pieces(forks, parts.as_slice(), &work)?;
+    let found = map_pieces(
+        forks.rt,
+        forks.alloc,
+        forks.gate,
+        forks.pieces,
+        parts.as_slice(),
+        &work,
+    )?;
     let all = joined(forks.alloc, found)?;
     if all.rows.len() > MOST {
         return Err(SourceFault::TooMany);
