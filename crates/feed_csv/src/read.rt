@@ -1,7 +1,7 @@
 //! A feed.
 ghost use Rattle.std.specs.Prelude.{◌≡◌, ◌≢◌, ◌<◌, ◌≤◌, ◌↔◌, ◌++◌, ℕ, [], List, Some, length, map};
 ghost use Rattle.std.specs.Prelude.{IfOk, IsSome, OnOk, option_to_list};
-ghost use Rattle.csv_lines.specs.Rests.{CanRead, Stands, handed};
+ghost use Rattle.csv_lines.specs.Rests.{CanRead, StandsIf, handed};
 ghost use Rattle.feed_csv.specs.File.{AreClean, accepted, entry_of, fault_of, feed, longest};
 ghost use Rattle.feed_csv.specs.File.{most, note_of};
 ghost use Rattle.feed_csv.specs.Parts.{IsFileRead, accepted_in, refused_in};
@@ -128,7 +128,7 @@ fn with_room(alloc: Global, size: usize) -> Result<Vec<Entry>, Memory>
 fn take_line<'a>(
     line: Line<'a>,
     limit: usize,
-    reader: &mut Reader<&[u8]>,
+    reader: &mut Option<Reader<&[u8]>>,
     found: &mut Reading<'a>,
 ) -> Result<(), SourceFault>
     requires few { length found.old.entries.items ≤ limit }
@@ -139,8 +139,8 @@ fn take_line<'a>(
         ++ option_to_list (fault_of (line.entry.number, line.entry.text.now))) }
     ensures within { OnOk result (length found.new.entries.items ≤ limit) }
     ensures stands { (left : List ℕ)
-        → Stands (λ s. Some s.now) reader.old (handed line.entry.text.now ++ left)
-        → OnOk result (Stands (λ s. Some s.now) reader.new left) }
+        → StandsIf (λ s. Some s.now) reader.old (handed line.entry.text.now ++ left)
+        → OnOk result (StandsIf (λ s. Some s.now) reader.new left) }
     ensures too_many { result ≡ Err SourceFault.TooMany
         → IsSome (entry_of (line.entry.number, line.entry.text.now))
         × (length found.old.entries.items ≡ limit) }

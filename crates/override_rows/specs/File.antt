@@ -12,6 +12,7 @@ use Rattle.csv_lines.specs.Clean.{IsCleanSaid}
 use Rattle.csv_lines.specs.Repeats.{fate, fault_by, kept}
 use Rattle.csv_lines.specs.declared.fate.RepeatRules.{RepeatRules}
 use Rattle.csv_lines.specs.declared.fault.Fault.{Fault}
+use Rattle.override_rows.specs.declared.read.TheConstants.{LONGEST_OVERRIDES, MOST}
 use Rattle.override_rows.specs.declared.verdict.Verdict.{Verdict}
 use Rattle.override_rows.specs.declared.verdict.Verdict.TheVariants.{Silent, Broken, Accepted}
 use Rattle.override_rows.specs.Verdicts.{verdict}
@@ -88,7 +89,7 @@ overrides file = record { rows = rows file; notes = notes file }
 
 -- the most bytes of a file, and the most lines that pass the line rules
 abbrev pub longest : ℕ
-longest = 67108864
+longest = LONGEST_OVERRIDES
 
 abbrev pub most : ℕ
-most = 2097152
+most = MOST

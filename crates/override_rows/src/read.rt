@@ -1,7 +1,7 @@
 //! A file of overrides.
 ghost use Rattle.std.specs.Prelude.{◌≡◌, ◌≢◌, ◌<◌, ◌≤◌, ◌↔◌, ◌++◌, ℕ, List, Some, length, map};
 ghost use Rattle.std.specs.Prelude.{IfOk, IsSome, OnOk, option_to_list};
-ghost use Rattle.csv_lines.specs.Rests.{CanRead, Stands, handed};
+ghost use Rattle.csv_lines.specs.Rests.{CanRead, StandsIf, handed};
 ghost use Rattle.override_rows.specs.File.{AreClean, accepted, refused, row_of_line, fault_of};
 ghost use Rattle.override_rows.specs.File.{longest, most, note_of, overrides};
 
@@ -16,7 +16,7 @@ use std::alloc::Global;
 pub const LONGEST_OVERRIDES: usize = 67_108_864;
 
 /// The most lines that pass the line rules.
-const MOST: usize = 2_097_152;
+pub(crate) const MOST: usize = 2_097_152;
 
 /// Reads a file of overrides: the rows and the notes of its lines.
 ///
@@ -77,7 +77,7 @@ fn read_lines(alloc: Global, bytes: &[u8]) -> Result<Found, SourceFault>
 }
 
 // Adds what one more line says.
-fn take_line(line: Line, reader: &mut Reader<&[u8]>, found: &mut Found) -> Result<(), SourceFault>
+fn take_line(line: Line, reader: &mut Option<Reader<&[u8]>>, found: &mut Found) -> Result<(), SourceFault>
     requires few { length found.old.rows.items ≤ most }
     requires reads { CanRead (λ s. Some s.now) reader.old line.text.now }
     ensures rows { OnOk result (found.new.rows.items ≡ found.old.rows.items
@@ -86,8 +86,8 @@ fn take_line(line: Line, reader: &mut Reader<&[u8]>, found: &mut Found) -> Resul
         ++ option_to_list (fault_of (line.entry.number, line.entry.text.now))) }
     ensures within { OnOk result (length found.new.rows.items ≤ most) }
     ensures stands { (left : List ℕ)
-        → Stands (λ s. Some s.now) reader.old (handed line.entry.text.now ++ left)
-        → OnOk result (Stands (λ s. Some s.now) reader.new left) }
+        → StandsIf (λ s. Some s.now) reader.old (handed line.entry.text.now ++ left)
+        → OnOk result (StandsIf (λ s. Some s.now) reader.new left) }
     ensures too_many { result ≡ Err SourceFault.TooMany
         → IsSome (row_of_line (line.entry.number, line.entry.text.now))
         × (length found.old.rows.items ≡ most) }
