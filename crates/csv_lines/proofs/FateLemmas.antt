@@ -14,7 +14,7 @@ use Rattle.std.proofs.lemmas.List.Quantifiers.{all_pairs_push}
 use Rattle.std.proofs.lemmas.List.Filters.{FiltersInPlace, FiltersInPlace-more_no}
 use Rattle.std.proofs.lemmas.List.Filters.{FiltersInPlace-more_swap}
 use Rattle.std.specs.List.{SwappedAt}
-use Rattle.csv_lines.specs.declared.fault.Fault.{Fault}
+use Rattle.geo_terms.specs.declared.note.LineNote.{LineNote}
 use Rattle.std.proofs.lemmas.List.Elements.{All-head, All-tail, All-weaker, filter_map-append}
 use Rattle.std.proofs.lemmas.List.Folds.{list_any_none}
 use Rattle.std.proofs.lemmas.List.Sums.{fold_push}
@@ -497,14 +497,14 @@ module _ {X : Type 0} (line : X → ℕ) (range : X → Ends) (said : X → Said
       ) (ap (λ t. map (fate line range said rows) (take i rows) ++ (t ∷ []))
       (one ∙ ap (fate line range said rows) is))
 
-pub faults_more : {X : Type 0} (h : X → Option Fault) (rows : List X) (i : ℕ) (x : X)
-    (found : Option Fault) → i < length rows → x ≡ get_or rows i x → found ≡ h x
+pub faults_more : {X : Type 0} (h : X → Option LineNote) (rows : List X) (i : ℕ) (x : X)
+    (found : Option LineNote) → i < length rows → x ≡ get_or rows i x → found ≡ h x
     → filter_map h (take i rows) ++ option_to_list found ≡ filter_map h (take (i + 1) rows)
 faults_more h rows i x found l is told =
     rw (take_more rows i x l, filter_map-append h (take i rows) (get_or rows i x ∷ [])) (ap
     (λ t. filter_map h (take i rows) ++ t) (one_kept (h (get_or rows i x)) found (told ∙ ap h is)))
   where
-    one_kept : (o p : Option Fault) → p ≡ o → option_to_list p ≡ cons_option o []
+    one_kept : (o p : Option LineNote) → p ≡ o → option_to_list p ≡ cons_option o []
     one_kept None p e = ap option_to_list e
     one_kept (Some f) p e = ap option_to_list e
 

@@ -10,9 +10,9 @@ ghost use Rattle.csv_lines.specs.Repeats.{repeat_faults, same_said};
 ghost use Rattle.csv_lines.specs.Seen.{IsBelow, ends_cmp, fate_by, shown, with_row};
 ghost use Rattle.csv_lines.specs.declared.fate.Fate.{Fate};
 
-use crate::fault::{Fault, merged};
+use crate::fault::merged;
 use geo_addr::{Memory, Range, range_of};
-use geo_terms::{Entry, Override, Rule, Said};
+use geo_terms::{Entry, LineNote, Override, Rule, Said};
 use std::alloc::Global;
 use std::collections::BTreeMap;
 use std::marker::Model;
@@ -102,7 +102,7 @@ pub struct RepeatRules {
 #[derive(Debug, Drop)]
 pub struct Judged<T> {
     pub rows: Vec<T>,
-    pub faults: Vec<Fault>,
+    pub faults: Vec<LineNote>,
 }
 
 /// Leaves of the accepted lines those that speak, and puts the faults of the others to those of the
@@ -112,7 +112,7 @@ pub struct Judged<T> {
 pub fn judge<T: Accepted + Drop>(
     alloc: Global,
     rows: Vec<T>,
-    faults: Vec<Fault>,
+    faults: Vec<LineNote>,
     rules: RepeatRules,
 ) -> Result<Judged<T>, Memory>
     requires { Rises 0 (map T.line rows.items) }
@@ -274,7 +274,7 @@ fn repeat_faults<T: Accepted>(
     rows: &[T],
     fates: &[Fate],
     rules: RepeatRules,
-) -> Result<Vec<Fault>, Memory>
+) -> Result<Vec<LineNote>, Memory>
     requires { length fates.now ≡ length rows.now }
     ensures { (f : T → Fate) → fates.now ≡ map f rows.now → IfOk result
         (λ faults. faults.items ≡ filter_map (λ x. fault_by rules (T.line x) (f x)) rows.now) }
@@ -286,7 +286,7 @@ fn repeat_faults<T: Accepted>(
     Ok(faults)
 }
 
-fn push_some(faults: &mut Vec<Fault>, fault: Option<Fault>) -> Result<(), Memory>
+fn push_some(faults: &mut Vec<LineNote>, fault: Option<LineNote>) -> Result<(), Memory>
     ensures { OnOk result (faults.new.items ≡ faults.old.items ++ option_to_list fault) }
 {
     if let Some(fault) = fault {
@@ -295,16 +295,16 @@ fn push_some(faults: &mut Vec<Fault>, fault: Option<Fault>) -> Result<(), Memory
     Ok(())
 }
 
-fn fault_of(rules: RepeatRules, line: u64, fate: Fate) -> Option<Fault>
+fn fault_of(rules: RepeatRules, line: u64, fate: Fate) -> Option<LineNote>
     ensures { result ≡ fault_by rules line fate }
 {
     match fate {
         Fate::Kept => None,
-        Fate::Repeats => Some(Fault {
+        Fate::Repeats => Some(LineNote {
             line,
             rule: rules.repeats,
         }),
-        Fate::Differs => Some(Fault {
+        Fate::Differs => Some(LineNote {
             line,
             rule: rules.differs,
         }),
