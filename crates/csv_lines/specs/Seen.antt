@@ -1,6 +1,8 @@
 -- How lines of the same range are found: by the first line of each range.
 use Rattle.std.specs.Prelude.{◌≡◌, ℕ, ◌<◌, ◌⊎◌, Bool, false, not, ◌||◌, nat_lt, List, fold, Option}
 use Rattle.std.specs.Prelude.{Some, None, if◌then◌else◌}
+use Rattle.std.specs.Ordering.{nat_cmp, ordering_then}
+use Rattle.std.specs.declared.cmp.Ordering.{Ordering}
 use Rattle.geo_addr.specs.Ranges.{Ends}
 use Rattle.geo_terms.specs.Report.{same_ends}
 use Rattle.geo_terms.specs.declared.place.Said.{Said}
@@ -11,6 +13,10 @@ use Rattle.csv_lines.specs.declared.fate.Fate.TheVariants.{Kept, Repeats, Differ
 -- a range begins above another, or where it does and ends above it
 abbrev pub IsBelow : Ends → Ends → Type 0
 IsBelow a b = (a.first < b.first) ⊎ ((a.first ≡ b.first) × (a.last < b.last))
+
+-- ranges by their first ends, and those that begin together by their last ones
+abbrev pub ends_cmp : Ends → Ends → Ordering
+ends_cmp a b = ordering_then (nat_cmp a.first b.first) (nat_cmp a.last b.last)
 
 -- the first line of a range, what it says, and whether a later one says something else
 pub record Shown : Type 0 where

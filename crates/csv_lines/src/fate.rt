@@ -3,19 +3,18 @@ ghost use Rattle.std.specs.Prelude.{◌≡◌, ℕ, IfOk, IsTrue, AllPairs, filt
 ghost use Rattle.std.specs.Prelude.{map, OnOk, MatchOption, ◌++◌, option_to_list};
 ghost use Rattle.std.specs.Option.{option_copied};
 ghost use Rattle.geo_addr.specs.Ranges.{Ends};
-ghost use Rattle.geo_terms.specs.Report.{same_ends};
 ghost use Rattle.geo_terms.specs.declared.place.Said.{Said};
-ghost use Rattle.indexmap.specs.IndexMap.{get};
+ghost use Rattle.std.specs.BTreeMap.{get};
 ghost use Rattle.csv_lines.specs.Repeats.{Rises, fate, fault_by, is_kept_by, kept, merged};
 ghost use Rattle.csv_lines.specs.Repeats.{repeat_faults, same_said};
-ghost use Rattle.csv_lines.specs.Seen.{IsBelow, fate_by, shown, with_row};
+ghost use Rattle.csv_lines.specs.Seen.{IsBelow, ends_cmp, fate_by, shown, with_row};
 ghost use Rattle.csv_lines.specs.declared.fate.Fate.{Fate};
 
-use crate::fault::{Fault, merged};
+use crate::fault::merged;
 use geo_addr::{Memory, Range, range_of};
-use geo_terms::{Entry, Override, Rule, Said};
-use indexmap::IndexMap;
+use geo_terms::{Entry, LineNote, Override, Rule, Said};
 use std::alloc::Global;
+use std::collections::BTreeMap;
 use std::marker::Model;
 
 /// A line that was accepted: what it is about and what it says.
@@ -103,7 +102,7 @@ pub struct RepeatRules {
 #[derive(Debug, Drop)]
 pub struct Judged<T> {
     pub rows: Vec<T>,
-    pub faults: Vec<Fault>,
+    pub faults: Vec<LineNote>,
 }
 
 /// Leaves of the accepted lines those that speak, and puts the faults of the others to those of the
@@ -113,7 +112,7 @@ pub struct Judged<T> {
 pub fn judge<T: Accepted + Drop>(
     alloc: Global,
     rows: Vec<T>,
-    faults: Vec<Fault>,
+    faults: Vec<LineNote>,
     rules: RepeatRules,
 ) -> Result<Judged<T>, Memory>
     requires { Rises 0 (map T.line rows.items) }
@@ -199,11 +198,11 @@ impl<'a> Model for Seen<'a> {
 }
 
 // What the lines show, by their ranges.
-fn seen_in<T: Accepted>(alloc: Global, rows: &[T]) -> Result<IndexMap<Range, Seen<'_>>, Memory>
+fn seen_in<T: Accepted>(alloc: Global, rows: &[T]) -> Result<BTreeMap<Range, Seen<'_>>, Memory>
     ensures { IfOk result
-        (λ seen. (k : Ends) → get same_ends seen k ≡ shown T.line T.range T.said rows.now k) }
+        (λ seen. (k : Ends) → get ends_cmp seen k ≡ shown T.line T.range T.said rows.now k) }
 {
-    let mut seen: IndexMap<Range, Seen<'_>> = IndexMap::with_capacity(alloc, rows.len())?;
+    let mut seen: BTreeMap<Range, Seen<'_>> = BTreeMap::new(alloc);
     for row in rows {
         see(&mut seen, row)?;
     }
@@ -211,9 +210,9 @@ fn seen_in<T: Accepted>(alloc: Global, rows: &[T]) -> Result<IndexMap<Range, See
 }
 
 // Takes one more line.
-fn see<'a, T: Accepted>(seen: &mut IndexMap<Range, Seen<'a>>, row: &'a T) -> Result<(), Memory>
-    ensures { (k : Ends) → OnOk result (get same_ends seen.new k
-        ≡ with_row T.line T.range T.said (get same_ends seen.old k) row.now k) }
+fn see<'a, T: Accepted>(seen: &mut BTreeMap<Range, Seen<'a>>, row: &'a T) -> Result<(), Memory>
+    ensures { (k : Ends) → OnOk result (get ends_cmp seen.new k
+        ≡ with_row T.line T.range T.said (get ends_cmp seen.old k) row.now k) }
 {
     let range = row.range();
     if let Some(found) = seen.get_mut(&range) {
@@ -248,8 +247,8 @@ fn says_same(one: &Said, other: &Said) -> bool
     }
 }
 
-fn fate_in<T: Accepted>(seen: &IndexMap<Range, Seen<'_>>, row: &T) -> Fate
-    ensures { result ≡ fate_by (get same_ends seen.now (T.range row.now)) (T.line row.now) }
+fn fate_in<T: Accepted>(seen: &BTreeMap<Range, Seen<'_>>, row: &T) -> Fate
+    ensures { result ≡ fate_by (get ends_cmp seen.now (T.range row.now)) (T.line row.now) }
 {
     fate_of(seen.get(&row.range()), row.line())
 }
@@ -275,7 +274,7 @@ fn repeat_faults<T: Accepted>(
     rows: &[T],
     fates: &[Fate],
     rules: RepeatRules,
-) -> Result<Vec<Fault>, Memory>
+) -> Result<Vec<LineNote>, Memory>
     requires { length fates.now ≡ length rows.now }
     ensures { (f : T → Fate) → fates.now ≡ map f rows.now → IfOk result
         (λ faults. faults.items ≡ filter_map (λ x. fault_by rules (T.line x) (f x)) rows.now) }
@@ -287,7 +286,7 @@ fn repeat_faults<T: Accepted>(
     Ok(faults)
 }
 
-fn push_some(faults: &mut Vec<Fault>, fault: Option<Fault>) -> Result<(), Memory>
+fn push_some(faults: &mut Vec<LineNote>, fault: Option<LineNote>) -> Result<(), Memory>
     ensures { OnOk result (faults.new.items ≡ faults.old.items ++ option_to_list fault) }
 {
     if let Some(fault) = fault {
@@ -296,16 +295,16 @@ fn push_some(faults: &mut Vec<Fault>, fault: Option<Fault>) -> Result<(), Memory
     Ok(())
 }
 
-fn fault_of(rules: RepeatRules, line: u64, fate: Fate) -> Option<Fault>
+fn fault_of(rules: RepeatRules, line: u64, fate: Fate) -> Option<LineNote>
     ensures { result ≡ fault_by rules line fate }
 {
     match fate {
         Fate::Kept => None,
-        Fate::Repeats => Some(Fault {
+        Fate::Repeats => Some(LineNote {
             line,
             rule: rules.repeats,
         }),
-        Fate::Differs => Some(Fault {
+        Fate::Differs => Some(LineNote {
             line,
             rule: rules.differs,
         }),

@@ -2,7 +2,7 @@
 use Rattle.std.proofs.Common.{◌∙◌, ◌∷◌, inr, ap, Some}
 use Rattle.csv.specs.Reading.{strip_bom}
 use Rattle.csv_lines.proofs.CsvLemmas.{after_feed, strip_feed}
-use Rattle.csv_lines.proofs.rows.reader_of.Goals as goal
+use Rattle.csv_lines.proofs.rows.new_reader.Goals as goal
 
 pub returns : goal.returns
 returns c left is =
