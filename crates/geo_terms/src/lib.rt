@@ -21,7 +21,7 @@ mod texts;
 pub use alias::{home, is_alias, lies_in_alias};
 pub use fields::{country_place, place_in, place_of};
 pub use first_index::FirstIndex;
-pub use note::{Note, Origin, Rule, note_text};
+pub use note::{LineNote, Note, Origin, Rule, note_text};
 pub use order::Statement;
 pub use place::{Place, PlaceFault, Said};
 pub use places::{Places, PlacesFault};

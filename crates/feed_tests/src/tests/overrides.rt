@@ -21,7 +21,7 @@ fn push_rows(alloc: Global, text: &mut Vec<u8>, rows: &[Override]) -> Result<(),
 // The line, the range and the texts of each row, and the notes.
 fn push_overrides(alloc: Global, text: &mut Vec<u8>, said: &Overrides) -> Result<(), Fail> {
     push_rows(alloc, text, said.rows.as_slice())?;
-    push_notes(text, said.notes.as_slice())
+    push_notes(text, b"overrides -", said.notes.as_slice())
 }
 
 /// Overrides, by a function that promises nothing.
