@@ -1,3 +1,4 @@
+//! What a reader is asked for.
 ghost use Rattle.std.specs.Prelude.{◌≡◌, ◌∷◌, ◌++◌, [], true, false, map, IfOk, OnOk, OnErr};
 ghost use Rattle.std.specs.Prelude.{IsTrue, Some, None, if◌then◌else◌};
 ghost use Rattle.std.specs.Char.{to_ascii_lowercase};

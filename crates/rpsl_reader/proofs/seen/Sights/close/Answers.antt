@@ -1,8 +1,8 @@
 use Rattle.std.proofs.Common.{◌≡◌, ◌++◌, ◌∷◌, [], None, length, ap, arith, ◌∙◌}
 use Rattle.rpsl_reader.specs.declared.item.Item.TheVariants.{Whole}
-use Rattle.rpsl_reader.specs.Seen.{items_in}
+use Rattle.rpsl_reader.specs.Sights.{items_in}
 use Rattle.rpsl_reader.proofs.Rows.{one_more}
-use Rattle.rpsl_reader.proofs.seen.Seen.close.Goals as goal
+use Rattle.rpsl_reader.proofs.seen.Sights.close.Goals as goal
 
 pub returns : goal.returns
 returns c =

@@ -1,6 +1,6 @@
 use Rattle.std.proofs.Common.{arith, ◌∙◌}
 use Rattle.rpsl_reader.proofs.Rows.{copy_step}
-use Rattle.rpsl_reader.proofs.seen.Seen.items.Goals as goal
+use Rattle.rpsl_reader.proofs.seen.Sights.items.Goals as goal
 
 pub loop-index-preserved : goal.loop-index-preserved
 loop-index-preserved c =

@@ -2,7 +2,7 @@
 use Rattle.std.proofs.Common.{◌≡◌, ◌++◌, drop}
 use Rattle.std.specs.List.{flat_map}
 use Rattle.feed_refs.specs.Dumps.{notes_of, references_of}
-use Rattle.feed_refs.proofs.found.Found.of.Given as goal
+use Rattle.feed_refs.proofs.found.RefsAndNotes.of.Given as goal
 
 abbrev pub invariant-loop-index : goal.invariant-loop-index
 invariant-loop-index l =

@@ -1,7 +1,7 @@
 use Rattle.std.proofs.Common.{◌<◌, length, arith}
 use Rattle.feed_refs.specs.Dumps.{notes_of, references_of}
 use Rattle.feed_refs.proofs.ItemLemmas.{taken}
-use Rattle.feed_refs.proofs.found.Found.of.Goals as goal
+use Rattle.feed_refs.proofs.found.RefsAndNotes.of.Goals as goal
 
 pub loop-index-preserved : goal.loop-index-preserved
 loop-index-preserved c =
