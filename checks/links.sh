@@ -2,19 +2,19 @@
 # Every relative link of the documents leads to a file of the repository.
 set -u
 cd "$(dirname "${BASH_SOURCE[0]}")/.." || exit 1
-failed=0
+. checks/words.bash
 
-for page in *.md docs/*.md; do
+count=0
+for page in *.md docs/*.md checks/*/*.md bench/*.md; do
+    [ -f "$page" ] || continue
     while IFS= read -r target; do
         case "$target" in
             http://* | https://* | '#'*) continue ;;
         esac
-        if [ ! -e "$(dirname "$page")/${target%%#*}" ]; then
-            echo "checks/links.sh: $page links to $target, which is not there"
-            failed=1
-        fi
+        count=$((count + 1))
+        [ -e "$(dirname "$page")/${target%%#*}" ] \
+            || fail "$page links to $target, which is not there"
     done < <(grep -oE '\]\([^) ]+\)' "$page" | sed -E 's/^\]\(//; s/\)$//')
 done
-
-[ "$failed" -eq 0 ] && echo "checks/links.sh: passed"
-exit "$failed"
+counted 50 "$count" links
+verdict

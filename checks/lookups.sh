@@ -38,7 +38,7 @@ finds() {
     status=$?
     printf '%s\n' "$2" > line
     [ "$status" -eq "$wanted" ] && cmp -s line printed \
-        || fail "$(head -c 99 file | od -An -v -tx1 | tr -d '\n'): $1 ends with $status and prints" \
+        || fail "$(head -c 99 file | od -An -v -tx1 | tr -d '\n'): $1 ends with $status, prints" \
             "'$(head -c 300 printed)', and not '${2:0:300}'"
 }
 

@@ -73,9 +73,7 @@ runs 5 200000 lookup claims 192.0.2.1
 # Records of 28 bits: 100,000 ranges of 16 addresses, each with one of 20,000 cities, whose names
 # have 1,000 bytes. Two feeds have them, and a dump the references to both. Perl makes the feeds,
 # and of some ranges the city of their ends and none beside.
-if ! command -v perl > /dev/null; then
-    echo "$check: not tried: records of 28 bits: there is no perl"
-else
+if needs perl perl; then
     perl -Minteger -e '
         sub text { my $at = shift; join ".", map { $at >> $_ & 255 } 24, 16, 8, 0 }
         my @feeds = map { open(my $feed, ">", "wide$_.csv") or die; $feed } 0, 1;
@@ -86,7 +84,8 @@ else
             my $mixed = $twice ^ $twice >> 16;
             my $first = 0x10000000 + $n * 32 + ($mixed & 1) * 16;
             my $city = sprintf "%d", ($mixed >> 1) % 20000;
-            printf { $feeds[$n / 50000] } "%s/28,DE,,%s%s,\n", text($first), "x" x (1000 - length $city), $city;
+            my $name = "x" x (1000 - length $city) . $city;
+            printf { $feeds[$n / 50000] } "%s/28,DE,,%s,\n", text($first), $name;
             next if ($n - 7) % 4999;
             for ([$first, $city], [$first + 15, $city], [$first + ($mixed & 1 ? -1 : 16), ""]) {
                 printf $places "%s %s\n", text($$_[0]), $$_[1];
@@ -98,15 +97,20 @@ else
     printf 'feed https://made.example/wide%d.csv wide%d.csv\n' 0 0 1 1 >> job
     printf 'report\nemit wide.mmdb\n' >> job
     runs 20 800000 build job
-    [ "$status" -eq 0 ] && [ "$(head -n 1 printed)" = 'notes 0' ] && grep -q '^emit wide.mmdb nodes .* bits 28 bytes ' printed \
+    [ "$status" -eq 0 ] && [ "$(head -n 1 printed)" = 'notes 0' ] \
+        && grep -q '^emit wide.mmdb nodes .* bits 28 bytes ' printed \
         || fail "records of 28 bits end with status $status and '$(cat printed)'"
+    has_mmdblookup=
+    ! needs mmdblookup mmdb-bin || has_mmdblookup=yes
     while read -r at city; do
         wanted=none
-        [ -z "$city" ] || wanted="{\"city\":{\"names\":{\"en\":\"$(printf '%1000s' "$city" | tr ' ' x)\"}},\"country\":{\"iso_code\":\"DE\"}}"
+        name=$(printf '%1000s' "$city" | tr ' ' x)
+        [ -z "$city" ] || wanted='{"city":{"names":{"en":"'$name'"}},"country":{"iso_code":"DE"}}'
         [ "$("$program" lookup wide.mmdb "$at")" = "$wanted" ] \
             || fail "records of 28 bits: $at has not city $city"
-        command -v mmdblookup > /dev/null || continue
-        other=$(mmdblookup --file wide.mmdb --ip "$at" city names en 2>&1 | sed -n 's/^ *"x*\([0-9]*\)" <utf8_string>.*/\1/p')
+        [ -n "$has_mmdblookup" ] || continue
+        other=$(mmdblookup --file wide.mmdb --ip "$at" city names en 2>&1 \
+            | sed -n 's/^ *"x*\([0-9]*\)" <utf8_string>.*/\1/p')
         [ "$other" = "$city" ] \
             || fail "records of 28 bits: mmdblookup of $at finds '$other', and not $city"
     done < places

@@ -17,8 +17,10 @@ stops() {
     shift 3
     timeout 120 "$program" "$@" > printed 2> told
     ended=$?
-    [ "$ended" -eq "$status" ] && [ "$(tail -n 1 printed)" = "$line" ] && [ "$(cat told)" = "$said" ] \
-        || fail "'$*' ends with $ended, prints '$(cat printed)' and says '$(cat told)', and not with $status, '$line' and '$said'"
+    [ "$ended" -eq "$status" ] && [ "$(tail -n 1 printed)" = "$line" ] \
+        && [ "$(cat told)" = "$said" ] \
+        || fail "'$*' ends with $ended, prints '$(cat printed)' and says '$(cat told)'," \
+            "and not with $status, '$line' and '$said'"
     cat told >> all
 }
 
@@ -30,91 +32,103 @@ refuses() {
     stops 6 "stop job $number" "job:$number: $2" build job
 }
 
-printf 'epoch 1\nmark m\n' > job
-marks= lines='epoch, type, pieces, rpsl, stats, feed, overrides, drop, emit or report'
-if "$program" build job > printed 2>&1; then
-    marks=yes lines='epoch, type, pieces, rpsl, stats, feed, overrides, drop, emit, report, mark, back or compact'
-fi
-rm job
-
 stops 2 'stop words' 'geofeed: a command is missing; geofeed --help names them'
-stops 2 'stop words' 'geofeed: "bulid" is no command; commands are build, lookup, explain, gen, publish, check and census' bulid job
+commands='build, lookup, explain, gen, publish, check and census'
+stops 2 'stop words' \
+    'geofeed: "bulid" is no command; commands are '"$commands" bulid job
 stops 2 'stop words' 'geofeed: a wrong number of words; the command is: geofeed build JOB' build
-stops 2 'stop words' 'geofeed: the file name "/etc/job" is absolute; names are at or below the current folder' build /etc/job
-stops 2 'stop words' 'geofeed: the address "192.0.2" is not an address: not in the form of an address' lookup geo.mmdb 192.0.2
-stops 4 'stop missing job' 'geofeed: the job "job" is not there; names are looked up from the current folder' build job
+stops 2 'stop words' \
+    'geofeed: the file name "/etc/job" is absolute; names are at or below the current folder' \
+    build /etc/job
+stops 2 'stop words' \
+    'geofeed: the address "192.0.2" is not an address: not in the form of an address' \
+    lookup geo.mmdb 192.0.2
+stops 4 'stop missing job' \
+    'geofeed: the job "job" is not there; names are looked up from the current folder' build job
 "$program" build $'\xff' > printed 2> told
 [ "$? $(cat printed told)" = '2 geofeed: a word is not UTF-8' ] \
     || fail "a word that is not UTF-8: '$(cat printed told)'"
 
-refuses 'epoch 1\nstats x /etc/s.txt' 'the file name "/etc/s.txt" is absolute; names are at or below the current folder'
-refuses 'epoch 1\nstatistics x s.txt' "no line begins with \"statistics\"; lines begin with $lines, in lower case"
+refuses 'epoch 1\nstats x /etc/s.txt' \
+    'the file name "/etc/s.txt" is absolute; names are at or below the current folder'
+lines='epoch, type, pieces, rpsl, stats, feed, overrides, drop, emit, report, mark, back or compact'
+refuses 'epoch 1\nstatistics x s.txt' \
+    "no line begins with \"statistics\"; lines begin with $lines, in lower case"
 refuses 'epoch 1\n# mine\nstats s.txt' 'a wrong number of words; the line is: stats SLOT FILE'
-refuses 'stats x s.txt' '"stats" stands before the epoch; the first line that says something is: epoch N'
-refuses 'epoch 1\nreport\ntype City' '"type" stands behind a line that does something; type and pieces stand before all of these'
-refuses 'epoch 1\nstats a/b s.txt' 'the name "a/b" has a character that is no ASCII letter, digit, "-", "_" or "."'
+refuses 'stats x s.txt' \
+    '"stats" stands before the epoch; the first line that says something is: epoch N'
+refuses 'epoch 1\nreport\ntype City' \
+    '"type" stands behind a line that does something; type and pieces stand before all of these'
+refuses 'epoch 1\nstats a/b s.txt' \
+    'the name "a/b" has a character that is no ASCII letter, digit, "-", "_" or "."'
 refuses 'epoch yesterday' 'the epoch "yesterday" is not 1 to 20 decimal digits'
 printf '# nothing\n' > job
-stops 6 'stop job empty' 'geofeed: the job has no line but blank ones and comments; it begins with: epoch N' build job
+stops 6 'stop job empty' \
+    'geofeed: the job has no line but blank ones and comments; it begins with: epoch N' build job
 printf 'epoch 1\n# \xff\n' > job
 stops 6 'stop job utf8' 'job:2: the line is not UTF-8, as a job has to be' build job
 head -c 1048577 /dev/zero | tr '\0' '#' > job
 stops 6 'stop job long' 'geofeed: the job has more than 1,048,576 bytes' build job
 
 printf 'epoch 1\nstats x s.txt\nemit out.mmdb\n' > job
-stops 4 'stop missing s.txt' 'job:2: the file "s.txt" is not there; names are looked up from the current folder' build job
+stops 4 'stop missing s.txt' \
+    'job:2: the file "s.txt" is not there; names are looked up from the current folder' build job
 mkdir s.txt
 stops 3 'stop read s.txt' 'job:2: the file "s.txt" could not be read: is a directory' build job
 rmdir s.txt && truncate -s 268435457 s.txt
 stops 7 'stop source 2 bytes' 'job:2: the file "s.txt" has more than 268,435,456 bytes' build job
 printf 'x|DE|ipv4|192.0.2.0|256||allocated\n' > s.txt
 mkdir out.mmdb
-stops 5 'stop write out.mmdb' 'job:3: the file "out.mmdb" could not be written; what stood there before stands there still: is a directory' build job
+said='job:3: the file "out.mmdb" could not be written; what stood there before stands there still: '
+stops 5 'stop write out.mmdb' "${said}is a directory" build job
 rmdir out.mmdb
-stops 9 'stop file NoMarker' 'geofeed: the file "s.txt" is no MaxMind DB file, or its end is cut off: no metadata marker stands in it' lookup s.txt 192.0.2.1
+said='geofeed: the file "s.txt" is no MaxMind DB file, or its end is cut off: '
+stops 9 'stop file NoMarker' "${said}no metadata marker stands in it" lookup s.txt 192.0.2.1
 "$program" build job > printed 2> told
 [ $? -eq 0 ] && [ ! -s told ] || fail "where all is done it says '$(cat told)'"
 if [ -c /dev/full ]; then
     "$program" build job > /dev/full 2> told
-    [ "$? $(cat told)" = '5 geofeed: standard output could not be written: No space left on device (os error 28)' ] \
+    ended=$?
+    said='geofeed: standard output could not be written: No space left on device (os error 28)'
+    [ "$ended $(cat told)" = "5 $said" ] \
         || fail "of a full output it says '$(cat told)'"
     cat told >> all
 fi
 
-# From here on with all kinds of sources and all commands.
+# All kinds of sources and all commands.
 printf 'epoch 1\ndrop stats x\n' > job
-if [ "$("$program" build job 2> told)" != 'stop drop 2' ]; then
-    echo "$check: not tried: what takes all lines of a job and all commands, which the program does not yet"
-else
-    stops 10 'stop drop 2' 'job:2: no statistics are set in the slot "x" at this line' build job
-    if [ -n "$marks" ]; then
-        printf 'epoch 1\nback plain\n' > job
-        stops 11 'stop back 2' 'job:2: no mark "plain" stands before this line' build job
-    fi
-    refuses 'epoch 1\nfeed http://geo.example.net/a.csv a.csv' 'the URL "http://geo.example.net/a.csv" is not a URL that begins with https://'
-    refuses 'epoch 1\ndrop feeds https://geo.example.net/a.csv' '"feeds" is no kind of source; the line is one of: drop rpsl SLOT, drop stats SLOT, drop feed URL or drop overrides'
-    sed -n '/^\.SH EXAMPLES/,/^\.fi/p' "$manual" | grep -v '^\.' | sed 's/\\-/-/g' > shown
-    sed -n '/^```$/,/^```$/p' "$jobs" | grep -v '^```' > more
-    [ -n "$marks" ] || : > more
-    for job in shown more; do
-        [ -s "$job" ] || continue
-        sed -nE 's/^(rpsl|stats|feed) [^ ]* //p; s/^overrides //p' "$job" | while read -r file; do
-            mkdir -p "$(dirname "$file")" && : > "$file"
-        done
-        "$program" build "$job" > printed 2> told \
-            || fail "a job that a page shows ends otherwise: $(cat printed told)"
+stops 10 'stop drop 2' 'job:2: no statistics are set in the slot "x" at this line' build job
+printf 'epoch 1\nback plain\n' > job
+stops 11 'stop back 2' 'job:2: no mark "plain" stands before this line' build job
+refuses 'epoch 1\nfeed http://geo.example.net/a.csv a.csv' \
+    'the URL "http://geo.example.net/a.csv" is not a URL that begins with https://'
+said='"feeds" is no kind of source; the line is one of: '
+refuses 'epoch 1\ndrop feeds https://geo.example.net/a.csv' \
+    "${said}drop rpsl SLOT, drop stats SLOT, drop feed URL or drop overrides"
+sed -n '/^\.SH EXAMPLES/,/^\.fi/p' "$manual" | grep -v '^\.' | sed 's/\\-/-/g' > shown
+sed -n '/^```$/,/^```$/p' "$jobs" | grep -v '^```' > more
+for job in shown more; do
+    [ -s "$job" ] || fail "a page shows no job"
+    sed -nE 's/^(rpsl|stats|feed) [^ ]* //p; s/^overrides //p' "$job" | while read -r file; do
+        mkdir -p "$(dirname "$file")" && : > "$file"
     done
-    cp "$example"/* . 2> told
-    if [ "$("$program" check job https://no.example/f.csv 2> told)" = 'stop words' ]; then
-        echo "$check: not tried: the program has no 'check' yet"
-    else
-        stops 12 'stop absent https://no.example/f.csv' 'geofeed: no feed of the URL "https://no.example/f.csv" is in force at the job'"'"'s end; the URL is that of a feed line' check job https://no.example/f.csv
-    fi
-    stops 2 'stop words' 'geofeed: the prefix "::/0" reaches from the IPv4 addresses into the IPv6 addresses; it begins at ::1:0:0 or above' publish job ::/0 own.csv
-    stops 2 'stop words' 'geofeed: the number of lines "0" is not a number from 1 to 1,000,000 without leading zeros' gen 0 out.mmdb
-    while IFS= read -r line; do
-        grep -qxF -- "$line" all || fail "docs/stops.md shows '$line', which is not said"
-    done < <(sed -n '/^## In words/,/^## /p' "$page" | sed -n '/^```/,/^```/p' | grep -v '^```')
-fi
+    "$program" build "$job" > printed 2> told \
+        || fail "a job that a page shows ends otherwise: $(cat printed told)"
+done
+cp "$example"/* . 2> told
+said='geofeed: no feed of the URL "https://no.example/f.csv" is in force at '
+stops 12 'stop absent https://no.example/f.csv' \
+    "${said}the job's end; the URL is that of a feed line" check job https://no.example/f.csv
+said='geofeed: the prefix "::/0" reaches from the IPv4 addresses into the IPv6 addresses; '
+stops 2 'stop words' "${said}it begins at ::1:0:0 or above" publish job ::/0 own.csv
+stops 2 'stop words' \
+    'geofeed: the number of lines "0" is not a number from 1 to 1,000,000 without leading zeros' \
+    gen 0 out.mmdb
+count=0
+while IFS= read -r line; do
+    count=$((count + 1))
+    grep -qxF -- "$line" all || fail "docs/stops.md shows '$line', which is not said"
+done < <(sed -n '/^## In words/,/^## /p' "$page" | sed -n '/^```/,/^```/p' | grep -v '^```')
+counted 5 "$count" 'lines of words that docs/stops.md shows'
 
 verdict
