@@ -1,7 +1,7 @@
 #!/usr/bin/env bash
-# The commands of docs/guide.md, taken from the page and run in its order, with a `curl` that copies made files; and its
-# daily script on downloads that are broken in several ways, none of which may replace the file in use. And the example
-# lines of docs/statistics.md, each of which has to be noted with its code, and the quick start of README.md.
+# The commands of docs/guide.md, taken from the page and run in its order, with a `curl` that copies made files. And the
+# example lines of docs/statistics.md, each of which has to be noted with its code, and the quick start of README.md. What
+# the daily run does on bad days is tried by checks/daily.sh.
 set -u
 cd "$(dirname "${BASH_SOURCE[0]}")/.." || exit 1
 guide=$PWD/docs/guide.md
@@ -11,9 +11,12 @@ examples=$PWD/examples
 contrib=$PWD/contrib
 made=$PWD/bench/statistics.awk
 . checks/with_program.bash
+[ -x /usr/bin/python3 ] || skip "the guide: package python3"
 mkdir bin net
 ln -s "$program" bin/geofeed
-ln -s "$contrib/feeds-of-dump" bin/feeds-of-dump
+for tool in feeds-of-dump geofeed-daily geofeed-notes; do
+    ln -s "$contrib/$tool" "bin/$tool"
+done
 # The last word is the URL and the one before it the file. What is not in the folder net is answered as by a server's 503.
 cat > bin/curl <<'END'
 #!/bin/sh
@@ -21,9 +24,9 @@ while [ $# -gt 2 ]; do shift; done
 cp "$NET/${2##*/}" "$1" 2> /dev/null || exit 22
 END
 chmod +x bin/curl
-export PATH="$work/bin:$PATH" NET="$work/net" GEO="$work/geo" LEAST=1000
+export PATH="$work/bin:$PATH" NET="$work/net" FETCH=curl
 {
-    awk -v lines=2000 -f "$made" | grep -v '|summary$' | sed 1d
+    awk -v lines=120000 -f "$made" | grep -v '|summary$' | sed 1d
     echo 'nro|CH|ipv4|192.0.2.0|256|20240301|allocated|a|e-stats'
     echo 'nro|AT|ipv6|2001:db8::|32|20240301|allocated|b|e-stats'
     echo 'nro|ZZ|ipv4|192.0.3.0|256|20240301|allocated|c|e-stats'
@@ -42,22 +45,16 @@ geofeed: https://geo.example.net/gone.csv
 END
 gzip -c inetnum > net/ripe.db.inetnum.gz
 printf 'inet6num: 2001:db8::/32\ngeofeed: https://geo.example.net/six.csv\n' | gzip -c > net/ripe.db.inet6num.gz
+# The other registries' dumps name the same feed.
+for dump in apnic.db.inetnum apnic.db.inet6num afrinic.db; do
+    cp net/ripe.db.inet6num.gz "net/$dump.gz"
+done
 echo '192.0.2.0/25,CH,CH-ZH,Zurich,' > net/a.csv
 echo '2001:db8::/33,AT,AT-9,Wien,' > net/six.csv
 
-# The page's commands, block by block: those from the second part on need a program that takes dumps.
+# The page's commands, block by block.
 sed -n '/^```sh$/,/^```$/p' "$guide" | grep -v '^```' > commands
-[ "$(wc -l < commands)" -gt 100 ] || fail "docs/guide.md has only $(wc -l < commands) lines of commands"
-printf 'epoch 1\nrpsl x inetnum\nreport\n' > dumps
-if ! "$program" build dumps > printed 2>&1; then
-    echo "$check: not tried: the second part of the guide and its daily script, since the program takes no dumps yet"
-    sed -n '1,/^geofeed lookup country.mmdb 2001/p' commands > some && mv some commands
-fi
-printf 'epoch 1\nmark m\n' > marks
-if ! "$program" build marks > printed 2>&1; then
-    echo "$check: not tried: the guide's job that marks sources, since the program knows no marks yet"
-    sed -i '/^mark plain$/d; /^back plain$/d; /^emit again.mmdb$/d; /^cmp country.mmdb again.mmdb$/d' commands
-fi
+[ "$(wc -l < commands)" -gt 50 ] || fail "docs/guide.md has only $(wc -l < commands) lines of commands"
 bash -eu commands > printed 2> told || fail "the guide's commands end with status $?: $(cat printed told)"
 grep -qx 'notes 1' printed && grep -q '^emit country.mmdb nodes ' printed \
     && grep -qxF '{"country":{"iso_code":"CH"}}' printed && grep -qxF '{"country":{"iso_code":"AT"}}' printed \
@@ -68,44 +65,17 @@ if grep -q '^geofeed check ' commands; then
 fi
 
 cd geo || exit 1
-
-# daily WHAT: the daily script refuses what is there to be fetched, says why, and leaves the file in use.
-daily() {
-    if ./daily > printed 2> told; then
-        fail "the daily script takes $1"
-    fi
-    [ "$(wc -l < told)" -eq 1 ] && grep -q '^daily: .*: the file is not replaced$' told \
-        || fail "the daily script says of $1 '$(cat told)'"
-    cmp -s good city.mmdb || fail "$1 replaces the file in use"
-    cp ../whole/* ../net/
-}
-
-# One reason at a time, over the day before's files.
-if [ -x daily ]; then
-    [ "$(cat ../told)" = 'feeds-of-dump: not fetched: https://geo.example.net/gone.csv
-feeds-of-dump: 1 of 3 feeds did not come' ] || fail "the guide's commands say '$(cat ../told)'"
-    grep -q 'DE-BE,Berlin' feed.csv || fail "the feed that is published is '$(cat feed.csv)'"
-    [ "$(geofeed lookup city.mmdb 192.0.2.1)" = '{"city":{"names":{"en":"Zurich"}},"country":{"iso_code":"CH"},"subdivisions":[{"iso_code":"ZH"}]}' ] \
-        || fail "the daily file is wrong: $(geofeed lookup city.mmdb 192.0.2.1)"
-    [ "$(geofeed lookup city.mmdb 192.0.2.200)" = '{"country":{"iso_code":"CH"}}' ] || fail "the daily file has no country of the statistics"
-    geofeed build job > printed 2> told && grep -q '^emit city.mmdb ' printed || fail "the job that daily leaves is none: $(cat printed told)"
-    cp city.mmdb good
-    cp -r ../net ../whole
-    now=../net/nro-delegated-stats was=../whole/nro-delegated-stats
-    rm "$now" && daily "no answer"
-    head -c 30000 "$was" > "$now" && daily "half a file of statistics"
-    : > "$now" && daily "an empty file of statistics"
-    printf '<html>503 Service Unavailable</html>\n' > "$now" && daily "a page of the server's"
-    head -n 500 "$was" | sed '1s/|[0-9]*|19830101/|498|19830101/' > "$now" && daily "statistics of few records"
-    sed 's/|allocated|/|alocated|/' "$was" > "$now" && daily "statistics of another form"
-    head -c 60 ../whole/ripe.db.inetnum.gz > ../net/ripe.db.inetnum.gz && daily "half a dump"
-    rm ../net/ripe.db.inet6num.gz && daily "no dump"
-    sed 's/|CH|/|DE|/' "$was" > "$now" && daily "statistics in which a country is gone"
-    sed 's/|CH|ipv4|192.0.2.0|/|DE|ipv4|192.0.2.0|/' "$was" > "$now" && rm ../net/a.csv && ./daily 2> told || fail "the daily script refuses good files: $(cat told)"
-    [ ! -s told ] || fail "the daily script says '$(cat told)' of good files"
-    [ "$(geofeed lookup city.mmdb 192.0.2.200)" = '{"country":{"iso_code":"DE"}}' ] || fail "the daily file is not replaced"
-    geofeed lookup city.mmdb 192.0.2.1 | grep -q Zurich || fail "a feed that did not come is not yesterday's"
-fi
+[ "$(cat ../told)" = "feeds-of-dump: not fetched: https://geo.example.net/gone.csv: the command that fetches ends with status 22
+feeds-of-dump: 1 of 3 did not come" ] || fail "the guide's commands say '$(cat ../told)'"
+grep -q 'DE-BE,Berlin' feed.csv || fail "the feed that is published is '$(cat feed.csv)'"
+grep -qF "ripe.inetnum:5: P09 the feed is not among the sources: geofeed: https://geo.example.net/gone.csv" notes \
+    || fail "the notes in words are '$(cat notes)'"
+[ "$(geofeed lookup daily/city.mmdb 192.0.2.1)" = '{"city":{"names":{"en":"Zurich"}},"country":{"iso_code":"CH"},"subdivisions":[{"iso_code":"ZH"}]}' ] \
+    || fail "the daily file is wrong: $(geofeed lookup daily/city.mmdb 192.0.2.1)"
+[ "$(geofeed lookup daily/city.mmdb 192.0.2.200)" = '{"country":{"iso_code":"CH"}}' ] || fail "the daily file has no country of the statistics"
+[ "$(geofeed lookup daily/city.mmdb 198.51.100.7)" = "$(geofeed lookup city.mmdb 198.51.100.7)" ] || fail "the daily file is without the overrides"
+[ "$(find daily/runs -name city.mmdb | wc -l)" -eq 2 ] && grep -q '^city.mmdb is that of .*/runs/000001; ' ../printed \
+    || fail "no run is kept, or it does not go back: $(cat ../printed)"
 
 count=0
 while read -r code line; do

@@ -33,7 +33,7 @@ use std::thread::Threads;
 use std::{env, io};
 
 /// What `--version` prints: the program, and the toolchain that it is proved and built with.
-const VERSION: &str = "geofeed 0.1.0 (rattle-kit-13f logic dac8208d650f15bf)";
+const VERSION: &str = "geofeed 0.2.0 (rattle-kit-13f logic dac8208d650f15bf)";
 
 const HELP: &str = "\
 geofeed compiles the location of IP addresses into MaxMind DB files.
