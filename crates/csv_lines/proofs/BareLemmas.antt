@@ -377,7 +377,8 @@ untrimmed_start q blank (x ∷ xs) e = by (is_blank x) refl e (untrimmed_start q
         let adds : 1 + prefix_len is_blank xs ≡ suc (prefix_len is_blank xs) = omega arith in
         rw (blank x is, later (rw adds at h)) refl
 
-pub reversed_all : (q : ℕ → Bool) (xs : List ℕ) → list_all q xs ≡ true → list_all q (reverse xs) ≡ true
+pub reversed_all : (q : ℕ → Bool) (xs : List ℕ) → list_all q xs ≡ true
+    → list_all q (reverse xs) ≡ true
 reversed_all q [] e = refl
 reversed_all q (x ∷ xs) e =
     let (one, more) = and_parts (q x) (list_all q xs) e in
@@ -476,4 +477,5 @@ taken_bare line rest is taken =
 
 pub taken_few : (line : List ℕ) (fields : List (List ℕ)) → fields ≡ row_of (rest_of line)
     → IsBareLine line → length fields ≤ MOST_FIELDS
-taken_few line fields is taken = subst (λ (f : List (List ℕ)). length f ≤ MOST_FIELDS) (sym is) taken.few
+taken_few line fields is taken =
+    subst (λ (f : List (List ℕ)). length f ≤ MOST_FIELDS) (sym is) taken.few

@@ -39,7 +39,7 @@ Member (y ∷ ys) x = (y ≡ x) ⊎ Member ys x
 
 -- ---- the tests
 
-ends_same : (x y : Ends) → same_ends x y ≡ true → x ≡ y
+pub ends_same : (x y : Ends) → same_ends x y ≡ true → x ≡ y
 ends_same x y h =
     let (one, two) = and_parts (x.first == y.first) (x.last == y.last) h in
     let first = eqb-true x.first y.first one in
@@ -59,7 +59,7 @@ said_same Nothing (At q) h = absurd cc
 said_same (At p) Nothing h = absurd cc
 said_same (At p) (At q) h = ap At ((places_are_told_apart p q).0 h)
 
-said_itself : (x : Said) → same_said x x ≡ true
+pub said_itself : (x : Said) → same_said x x ≡ true
 said_itself Nothing = refl
 said_itself (At p) = (places_are_told_apart p p).1 refl
 
@@ -112,7 +112,7 @@ apart_back x y e = elim (cases_Bool (same_said x y)) [
   | inr other ↦ rw other refl
 ]
 
-get_or_same : {X : Type 0} (xs : List X) (i : ℕ) (d e : X) → i < length xs
+pub get_or_same : {X : Type 0} (xs : List X) (i : ℕ) (d e : X) → i < length xs
     → get_or xs i d ≡ get_or xs i e
 get_or_same [] i d e l = absurd (omega arith)
 get_or_same (x ∷ xs) zero d e l = refl
@@ -485,17 +485,15 @@ module _ {X : Type 0} (line : X → ℕ) (range : X → Ends) (said : X → Said
       rw e (ap range (get_or_same rows i d x l ∙ sym is))
 
   pub fates_more : (rows : List X) (i : ℕ) (x : X) (r : Fate)
-      → Rises 0 (map line rows) → i < length rows → x ≡ get_or rows i x
-      → r ≡ fate_by (shown line range said rows (range x)) (line x)
+      → i < length rows → x ≡ get_or rows i x → r ≡ fate line range said rows x
       → map (fate line range said rows) (take i rows) ++ (r ∷ [])
       ≡ map (fate line range said rows) (take (i + 1) rows)
-  fates_more rows i x r up l is told =
-      let one = told ∙ fate_told 0 rows up x (member_at rows i x l is) in
+  fates_more rows i x r l is told =
       rw (
         take_more rows i x l,
         map-append (fate line range said rows) (take i rows) (get_or rows i x ∷ []),
       ) (ap (λ t. map (fate line range said rows) (take i rows) ++ (t ∷ []))
-      (one ∙ ap (fate line range said rows) is))
+      (told ∙ ap (fate line range said rows) is))
 
 pub faults_more : {X : Type 0} (h : X → Option LineNote) (rows : List X) (i : ℕ) (x : X)
     (found : Option LineNote) → i < length rows → x ≡ get_or rows i x → found ≡ h x

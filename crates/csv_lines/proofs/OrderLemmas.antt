@@ -188,7 +188,8 @@ module _ {A X : Type 0} (acc : ℕ × A → Option X) (bad : ℕ × A → Option
     late_first n g later (f ∷ early) is r = rw (le-ltb f.line g.line (omega (arith, r.0))) refl
 
     merged_one : (n : ℕ) (a : A) (accs : List X) (bads whole : List LineNote) → (o : Option X)
-        → acc (n, a) ≡ o → (b : Option LineNote) → bad (n, a) ≡ b → ((x : X) → o ≡ Some x → b ≡ None)
+        → acc (n, a) ≡ o → (b : Option LineNote) → bad (n, a) ≡ b
+        → ((x : X) → o ≡ Some x → b ≡ None)
         → Rises (n + 1) (map line accs)
         → Rises (n + 1) (map (λ f. f.line) bads) → merged (lates accs) bads ≡ whole
         → merged (lates (cons_option o accs)) (cons_option b bads) ≡ cons_option (either o b) whole

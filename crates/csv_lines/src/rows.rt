@@ -1,5 +1,5 @@
-//! The fields of all lines that have any; one `csv` reader reads those with quotes, where a file has
-//! any.
+//! The fields of all lines that have any; where a file has quotes, one `csv` reader reads the lines
+//! with them.
 ghost use Rattle.std.specs.Prelude.{◌≡◌, ◌≢◌, [], ◌∷◌, ◌++◌, ◌<◌, ℕ, List, Some, IfOk, OnOk};
 ghost use Rattle.std.specs.Prelude.{option_map};
 ghost use Rattle.geo_addr.specs.Lines.{numbered_lines};

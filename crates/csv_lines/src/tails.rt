@@ -110,7 +110,7 @@ impl<'a> Tail<'a> {
 /// The most slots for the tails of a file.
 pub(crate) const MOST_TAILS: usize = 16_384;
 
-/// For each so many bytes of a file one slot is made; few files have shorter lines on the average.
+/// For each so many bytes of a file one slot is made; most files have longer lines on the average.
 const TAIL_BYTES: usize = 32;
 
 /// Tails of one file, and the places that they say.
@@ -161,7 +161,8 @@ impl<'a> Tails<'a> {
 
     /// Holds the tail of a line that says this place; an older one may have to go for it.
     pub fn keep(&mut self, cut: &LineCut<'a>, place: &Place) -> Result<(), Memory>
-        requires { (line : List ℕ) × IsCut line cut.now.first cut.now.tail × SaysBare line place.now }
+        requires { (line : List ℕ)
+            × IsCut line cut.now.first cut.now.tail × SaysBare line place.now }
     {
         let place = place.copied()?;
         let tail = Tail {

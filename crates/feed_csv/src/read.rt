@@ -20,9 +20,9 @@ pub const LONGEST_FEED: usize = 67_108_864;
 /// The most lines that pass the line rules.
 pub(crate) const MOST: usize = 2_097_152;
 
-/// For each so many bytes of a file room for one entry is taken ahead; few files have shorter lines
-/// on the average.
-const SHORT_LINE: usize = 16;
+/// For each so many bytes of a file room for one entry is taken ahead; most files have longer lines
+/// on the average, and for shorter ones the list grows once.
+const SHORT_LINE: usize = 32;
 
 /// Reads a geofeed (RFC 8805): the entries and the notes of its lines.
 ///

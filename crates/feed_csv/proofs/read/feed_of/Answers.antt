@@ -23,8 +23,8 @@ invariant_of-result c =
     c.of-3.ensures ∙ c.in_ok-judged.ensures.faults
     ∙ ap (λ (es : List Entry). merged (repeat_faults entry_line entry_range entry_said repeat_rules
     es) c.args.found.faults.items) said.0
-    ∙ ap (λ (fs : List LineNote). merged (repeat_faults entry_line entry_range entry_said repeat_rules
-    (accepted file)) fs) said.1
+    ∙ ap (λ (fs : List LineNote). merged (repeat_faults entry_line entry_range entry_said
+    repeat_rules (accepted file)) fs) said.1
     ∙ faults_are file in
     feed_in_form file c.args.url.now _ _ _ c.in_ok-url.ensures entries notes
 
@@ -37,8 +37,8 @@ returns-clause-read c file said =
     c.of-3.ensures ∙ c.in_ok-judged.ensures.faults
     ∙ ap (λ (es : List Entry). merged (repeat_faults entry_line entry_range entry_said repeat_rules
     es) c.args.found.faults.items) said.0
-    ∙ ap (λ (fs : List LineNote). merged (repeat_faults entry_line entry_range entry_said repeat_rules
-    (accepted file)) fs) said.1
+    ∙ ap (λ (fs : List LineNote). merged (repeat_faults entry_line entry_range entry_said
+    repeat_rules (accepted file)) fs) said.1
     ∙ faults_are file in
     λ i. record { url = url i; entries = entries i; notes = notes i }
 
