@@ -5,16 +5,7 @@ set -u
 cd "$(dirname "${BASH_SOURCE[0]}")/.." || exit 1
 script=$PWD/contrib/feeds-of-dump
 example=$PWD/examples/realistic
-program=$PWD/crates/geofeed/out/geofeed
-work=$(mktemp -d) || exit 1
-trap 'rm -rf "$work"' EXIT
-cd "$work" || exit 1
-failed=0
-
-fail() {
-    echo "checks/feeds_of_dump.sh: $*"
-    failed=1
-}
+. checks/with_program.bash
 
 # A reference in each shape: an attribute, one with a comment, a continued one, a remark with words behind it, and a line end
 # of two bytes; and two objects that name one feed. Line 5 is Latin-1.
@@ -80,17 +71,13 @@ done
 # The report and the job's lines are those of the program.
 cp "$example/ripe.db" .
 printf 'epoch 1\nrpsl ripe ripe.db\nreport\n' > job
-if [ ! -x "$program" ] || ! "$program" build job > report 2> told; then
-    echo "checks/feeds_of_dump.sh: not tried with the program: it is not built, or takes no dumps yet"
-else
-    "$script" job report > list
-    [ "$(cut -d ' ' -f 1 list | tr '\n' ' ')" = 'https://geo.example.net/a.csv https://geo.example.net/b.csv https://geo.example.net/c.csv https://geo.example.org/d.csv ' ] \
-        || fail "it finds '$(cat list)' in the example"
-    FETCH=./fetch "$script" --fetch list
-    { echo 'epoch 1' && echo 'rpsl ripe ripe.db' && "$script" --lines list && echo report; } > job
-    "$program" build job > report 2> told || fail "the job with its lines is refused: $(cat report told)"
-    ! grep -q P09 report || fail "a feed is not set: $(cat report)"
-fi
+"$program" build job > report 2> told || fail "the example's dump is not read: $(cat report told)"
+"$script" job report > list
+[ "$(cut -d ' ' -f 1 list | tr '\n' ' ')" = 'https://geo.example.net/a.csv https://geo.example.net/b.csv https://geo.example.net/c.csv https://geo.example.org/d.csv ' ] \
+    || fail "it finds '$(cat list)' in the example"
+FETCH=./fetch "$script" --fetch list
+{ echo 'epoch 1' && echo 'rpsl ripe ripe.db' && "$script" --lines list && echo report; } > job
+"$program" build job > report 2> told || fail "the job with its lines is refused: $(cat report told)"
+! grep -q P09 report || fail "a feed is not set: $(cat report)"
 
-[ "$failed" -eq 0 ] && echo "checks/feeds_of_dump.sh: passed"
-exit "$failed"
+verdict

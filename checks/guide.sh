@@ -45,27 +45,15 @@ printf 'inet6num: 2001:db8::/32\ngeofeed: https://geo.example.net/six.csv\n' | g
 echo '192.0.2.0/25,CH,CH-ZH,Zurich,' > net/a.csv
 echo '2001:db8::/33,AT,AT-9,Wien,' > net/six.csv
 
-# The page's commands, block by block: those from the second part on need a program that takes dumps.
+# The page's commands, block by block.
 sed -n '/^```sh$/,/^```$/p' "$guide" | grep -v '^```' > commands
 [ "$(wc -l < commands)" -gt 100 ] || fail "docs/guide.md has only $(wc -l < commands) lines of commands"
-printf 'epoch 1\nrpsl x inetnum\nreport\n' > dumps
-if ! "$program" build dumps > printed 2>&1; then
-    echo "$check: not tried: the second part of the guide and its daily script, since the program takes no dumps yet"
-    sed -n '1,/^geofeed lookup country.mmdb 2001/p' commands > some && mv some commands
-fi
-printf 'epoch 1\nmark m\n' > marks
-if ! "$program" build marks > printed 2>&1; then
-    echo "$check: not tried: the guide's job that marks sources, since the program knows no marks yet"
-    sed -i '/^mark plain$/d; /^back plain$/d; /^emit again.mmdb$/d; /^cmp country.mmdb again.mmdb$/d' commands
-fi
 bash -eu commands > printed 2> told || fail "the guide's commands end with status $?: $(cat printed told)"
 grep -qx 'notes 1' printed && grep -q '^emit country.mmdb nodes ' printed \
     && grep -qxF '{"country":{"iso_code":"CH"}}' printed && grep -qxF '{"country":{"iso_code":"AT"}}' printed \
     || fail "the guide's commands print '$(cat printed)'"
-if grep -q '^geofeed check ' commands; then
-    grep -qx '1 speaks ripe4 2' printed && grep -qx 'lines 1' printed && grep -qE '^CH [0-9]+ [0-9]+$' printed \
-        && grep -qE '^countries [0-9]+$' printed || fail "the guide's check and census print '$(cat printed)'"
-fi
+grep -qx '1 speaks ripe4 2' printed && grep -qx 'lines 1' printed && grep -qE '^CH [0-9]+ [0-9]+$' printed \
+    && grep -qE '^countries [0-9]+$' printed || fail "the guide's check and census print '$(cat printed)'"
 
 cd geo || exit 1
 
@@ -81,7 +69,9 @@ daily() {
 }
 
 # One reason at a time, over the day before's files.
-if [ -x daily ]; then
+if [ ! -x daily ]; then
+    fail "the guide's commands leave no daily script"
+else
     [ "$(cat ../told)" = 'feeds-of-dump: not fetched: https://geo.example.net/gone.csv
 feeds-of-dump: 1 of 3 feeds did not come' ] || fail "the guide's commands say '$(cat ../told)'"
     grep -q 'DE-BE,Berlin' feed.csv || fail "the feed that is published is '$(cat feed.csv)'"
