@@ -39,15 +39,18 @@ files() {
 kinds=('*.rt' '*.antt' '*.edit' '*.sh' '*.bash' '*.awk' '*.pl' '*.py' '*.cpp' '*.hpp')
 while IFS=: read -r file line _; do
     fail "$file has more than 100 characters in line $line"
-done < <(files "${kinds[@]}" | tr '\n' '\0' | xargs -0 grep -nE '^.{101}' /dev/null)
+done < <(files "${kinds[@]}" | xargs -d '\n' grep -nE '^.{101}' /dev/null)
 
 sources=0
-while IFS= read -r file; do
+while read -r lines told file; do
     sources=$((sources + 1))
-    [ "$(wc -l < "$file")" -le 800 ] || fail "$file has more than 800 lines"
-    [[ "$(head -n 1 "$file")" == '//! '* ]] \
-        || fail "$file does not begin with //! and what it is for"
-done < <(files '*.rt')
+    [ "$lines" -le 800 ] || fail "$file has $lines lines, more than 800"
+    [ "$told" = '//!' ] || fail "$file does not begin with //! and what it is for"
+done < <(files '*.rt' | xargs -d '\n' awk '
+    function told() { if (file) print lines, begins, file }
+    FNR == 1 { told(); file = FILENAME; begins = $1 == "//!" && NF > 1 ? $1 : "-" }
+    { lines = FNR }
+    END { told() }')
 counted 200 "$sources" 'files of code'
 
 # A row of docs/SPEC.md names a crate and a file below its specs/.

@@ -5,18 +5,16 @@
 set -u
 cd "$(dirname "${BASH_SOURCE[0]}")/.." || exit 1
 source=$PWD/crates/geofeed/src/main.rt
+readme=$PWD/README.md
+. checks/with_program.bash
 if command -v rt > /dev/null; then
     line=$(rt version)
-    for file in README.md "$source"; do
-        if ! grep -qF "$line" "$file"; then
-            echo "checks/version.sh: $file does not name '$line'"
-            exit 1
-        fi
+    for file in "$readme" "$source"; do
+        grep -qF "$line" "$file" || fail "$file does not name '$line'"
     done
 else
-    echo "checks/version.sh: the toolchain's line is not looked at: there is no rt"
+    part "the toolchain's line: there is no rt"
 fi
-. checks/with_program.bash
 
 # says STATUS WORDS..: the program ends so, with what it prints in `printed` and what it says in
 # `told`.
