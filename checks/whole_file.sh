@@ -9,11 +9,11 @@ list=$PWD/contrib/mmdb-list
 . checks/with_program.bash
 /usr/bin/python3 -c 'import maxminddb.decoder' 2> /dev/null || skip "mmdb-list: package python3-maxminddb"
 
-# runs SECONDS KILOBYTES COMMAND..: prints to `printed` and `told`; the status is in `status`.
+# runs SECONDS KILOBYTES COMMAND..: so much processor time and memory. Prints to `printed` and `told`; the status is in `status`.
 runs() {
     local seconds=$1 kilobytes=$2
     shift 2
-    (ulimit -v "$kilobytes" && exec timeout "$seconds" "$@") > printed 2> told
+    (ulimit -v "$kilobytes" && ulimit -t "$seconds" && exec "$@") > printed 2> told
     status=$?
 }
 
