@@ -17,7 +17,7 @@ use Rattle.geo_terms.specs.First.{better}
 use Rattle.geo_terms.specs.FirstIndex.{index_cmp}
 use Rattle.geo_terms.specs.Nested.{AreBoundariesOf, ArePassed, Climb, Closes, IsPut, Nest, Reach}
 use Rattle.geo_terms.specs.Nested.{best, best_index, innermost, is_edge, is_end, stands_at, top}
-use Rattle.geo_terms.specs.declared.boundaries.Boundary.{Boundary}
+use Rattle.geo_terms.specs.declared.firsts.boundaries.Boundary.{Boundary}
 use Rattle.geo_terms.proofs.BoundaryLemmas.{ground_before, held}
 
 -- a list with a last item

@@ -1,9 +1,13 @@
-//! Numbers for places.
+//! Places of texts, and numbers for them.
 ghost use Rattle.std.specs.Prelude.{◌≡◌, ℕ, ◌-◌, ◌^◌, ◌<◌, ◌≤◌, ◌↔◌, [], length, IfOk, OnOk, OnErr};
 ghost use Rattle.std.specs.Prelude.{IsNone, IfSome, IsTrue, Some};
 ghost use Rattle.std.specs.Option.{option_copied};
 ghost use Rattle.std.specs.List.{IsDistinct};
 ghost use Rattle.geo_terms.specs.Numbers.{number_of, place_at, same_place, with_place};
+
+pub(crate) mod fields;
+mod slots;
+pub(crate) mod texts;
 
 use crate::place::Place;
 use geo_addr::Memory;

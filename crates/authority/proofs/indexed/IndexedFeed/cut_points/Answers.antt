@@ -3,7 +3,7 @@ use Rattle.std.proofs.Common.{◌-◌, ◌^◌, ◌↔◌, List, map, subst}
 use Rattle.std.specs.Prelude.{Contains}
 use Rattle.geo_addr.specs.Ranges.{IsCut, IsWithin, range_of_block}
 use Rattle.geo_terms.specs.SourceForm.{FeedParts}
-use Rattle.geo_terms.specs.declared.boundaries.Boundary.{Boundary}
+use Rattle.geo_terms.specs.declared.firsts.boundaries.Boundary.{Boundary}
 use Rattle.geo_terms.specs.declared.statement.Entry.{Entry}
 use Rattle.authority.proofs.indexed.IndexedFeed.cut_points.Goals as goal
 
