@@ -90,7 +90,8 @@ lines_of_notes : (ns : List LineNote)
 lines_of_notes [] = refl
 lines_of_notes (n ∷ ns) = ap (λ ls. n.line ∷ ls) (lines_of_notes ns)
 
-up_before : (low line : ℕ) (ns : List LineNote) (rest : List ℕ) → low ≤ line → Up low (note_lines ns)
+up_before : (low line : ℕ) (ns : List LineNote) (rest : List ℕ) → low ≤ line
+    → Up low (note_lines ns)
     → Up (line + 1) rest → Up low (note_lines (before line ns) ++ line ∷ rest)
 unfolding Up
 up_before low line [] rest le up later = (le, later)

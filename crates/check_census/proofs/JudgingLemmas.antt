@@ -51,7 +51,8 @@ read_at [] i x lt is = absurd (omega arith)
 read_at (y ∷ ys) zero x lt is = ap Some (sym is)
 read_at (y ∷ ys) (suc i) x lt is = read_at ys i x (omega arith) is
 
-pub merged_step : (s : InForce) (url : List ℕ) (es : List Entry) (left : List LineNote) (i count : ℕ)
+pub merged_step : (s : InForce) (url : List ℕ) (es : List Entry) (left : List LineNote)
+    (i count : ℕ)
     (e : Entry) (vs more both whole : List Verdict) (earlier later : List LineNote) (v : Verdict)
     → slice_get es i ≡ Some e → count ≡ length (before e.line left) → earlier ≡ take count left
     → later ≡ drop count left → more ≡ vs ++ map note_verdict earlier → both ≡ more ++ v ∷ []

@@ -1,6 +1,7 @@
 -- Ranges that at most one line has, and those of a sorted list that stand more than once.
 use Rattle.std.proofs.Common.{inl, inr, ◌≡◌, ℕ, ◌+◌, ◌<◌, ◌-◌, ◌⊎◌, ltb, Bool, true, false, not}
-use Rattle.std.proofs.Common.{cond, ◌&&◌, List, length, map, get_or, Option, Some, None, refl, sym, ap, ◌∙◌}
+use Rattle.std.proofs.Common.{cond, ◌&&◌, List, length, map, get_or, Option, Some, None, refl, sym}
+use Rattle.std.proofs.Common.{ap, ◌∙◌}
 use Rattle.std.proofs.Common.{subst, arith, take, ◌||◌}
 use Rattle.std.specs.Cmp.{IsTotalOrder, nat_cmp_total, on_total, then_total}
 use Rattle.std.specs.List.{list_any}

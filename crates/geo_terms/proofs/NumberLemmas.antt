@@ -1,6 +1,7 @@
 -- The number of a place that was just put into the list, and of one that stands in it.
 use Rattle.std.proofs.Common.{◌≡◌, ℕ, suc, ◌+◌, ◌<◌, Bool, true, false, cond, not, ◌&&◌, ◌||◌, ltb}
-use Rattle.std.proofs.Common.{zero, eqb, get_or, length-append, List, [], ◌∷◌, ◌++◌, length, position}
+use Rattle.std.proofs.Common.{zero, eqb, get_or, length-append, List, [], ◌∷◌, ◌++◌, length}
+use Rattle.std.proofs.Common.{position}
 use Rattle.std.proofs.Common.{Some, None, option_map, refl, sym, ap, ◌∙◌, arith, subst, ◌≤◌}
 use Rattle.std.proofs.Common.{inl, inr}
 use Rattle.std.proofs.lemmas.Bool.{cases_Bool}
@@ -207,7 +208,8 @@ number_push xs p q none =
     → cond b (Some (length xs + 1)) (number_of xs q) ≡ number_of (xs ++ p ∷ []) q) [
       | true ↦ λ e.
           let is : p ≡ q = same_parts p q e in
-          let own : number_of xs q ≡ None = subst (λ (z : PlaceParts). number_of xs z ≡ None) is none in
+          let own : number_of xs q ≡ None = subst (λ (z : PlaceParts). number_of xs z
+          ≡ None) is none in
           rw (
             position_or_len_push (same_place q) xs p,
             place_is_itself q p (sym is),
@@ -238,7 +240,8 @@ absent_any xs p none =
 pub number_new : (xs ys : List PlaceParts) (p : PlaceParts) (n : ℕ) → number_of xs p ≡ None
     → ys ≡ xs ++ p ∷ [] → n ≡ length xs → number_of ys p ≡ Some (n + 1)
 number_new xs ys p n none pushed long =
-    let last : cond (same_place p p) (Some (length xs + 1)) (number_of xs p) ≡ Some (length xs + 1) =
+    let last : cond (same_place p p) (Some (length xs + 1)) (number_of xs p)
+    ≡ Some (length xs + 1) =
     rw (place_is_itself p p refl) refl in
     rw (pushed, long) (sym (number_push xs p p none) ∙ last)
 

@@ -1,3 +1,4 @@
+//! Places and what a line says of its addresses.
 ghost use Rattle.std.specs.Prelude.{◌≡◌, ◌++◌, ◌&&◌, IfOk, IsTrue};
 ghost use Rattle.std.specs.Cmp.{partial_equiv_from_equiv};
 ghost use Rattle.std.specs.Cmp.Rules.{hashing};
@@ -73,7 +74,13 @@ impl Place {
         city: Text,
         postal: Text,
     ) -> Result<Place, Memory>
-        requires { IsPlace (record { country = country; region = region; city = city; postal = postal }) }
+        requires { IsPlace (record {
+          country = country;
+          region = region;
+          city = city;
+          postal =
+              postal;
+        }) }
         ensures { IfOk result (λ place. place
             ≡ record { country = country; region = region; city = city; postal = postal }) }
     {
@@ -186,7 +193,8 @@ fn tells(lead: u64, country: &[u8], region: &[u8]) -> bool
     &bytes[1..3] == country && &bytes[1..count] == region
 }
 
-// One more than the length of the region, and its bytes behind that, or where there is none those of
+// One more than the length of the region, and its bytes behind that, or where there is none those
+// of
 // the country: the lowest first.
 fn spelled(country: &[u8], region: &[u8]) -> u64 {
     let text = if region.is_empty() { country } else { region };

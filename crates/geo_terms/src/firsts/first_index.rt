@@ -126,7 +126,8 @@ fn indexed<'a, S: Statement>(
     Ok(ranked)
 }
 
-// The boundaries of grounds that nest, in the order that the statements are put in; `None` where two
+// The boundaries of grounds that nest, in the order that the statements are put in; `None` where
+// two
 // cross.
 fn nested_in_some_order<S: Statement>(
     alloc: Global,

@@ -1,11 +1,14 @@
 //! The boundaries of grounds that nest, by one pass.
-ghost use Rattle.std.specs.Prelude.{◌≡◌, ◌<◌, ◌≤◌, ◌+◌, ◌-◌, ◌^◌, ◌++◌, ◌∷◌, [], ℕ, All, IfOk, IfSome};
-ghost use Rattle.std.specs.Prelude.{IsTrue, MatchOption, length, None, OnOk, Some, nat_lt, option_map};
+ghost use Rattle.std.specs.Prelude.{◌≡◌, ◌<◌, ◌≤◌, ◌+◌, ◌-◌, ◌^◌, ◌++◌, ◌∷◌, [], ℕ, All, IfOk};
+ghost use Rattle.std.specs.Prelude.{IfSome};
+ghost use Rattle.std.specs.Prelude.{IsTrue, MatchOption, length, None, OnOk, Some, nat_lt};
+ghost use Rattle.std.specs.Prelude.{option_map};
 ghost use Rattle.std.specs.Option.{unwrap_or};
 ghost use Rattle.std.specs.Ordering.{is_lt};
 ghost use Rattle.geo_terms.specs.First.{better};
 ghost use Rattle.geo_terms.specs.FirstIndex.{index_cmp};
-ghost use Rattle.geo_terms.specs.Nested.{AreBoundariesOf, ArePassed, Closes, IsPut, Nest, Reach, top};
+ghost use Rattle.geo_terms.specs.Nested.{AreBoundariesOf, ArePassed, Closes, IsPut, Nest, Reach};
+ghost use Rattle.geo_terms.specs.Nested.{top};
 
 use crate::firsts::boundaries::Boundary;
 use crate::firsts::order::Statement;
@@ -46,8 +49,10 @@ fn pass<'a, S: Statement>(
     statement: (usize, &'a S),
 ) -> Result<Option<u128>, Memory>
     ensures passed { IfOk result (λ next. IfSome next (λ first. (cs : _) → ArePassed
-        (λ x y. S.order x.now y.now) (λ x. S.range x.now) cs low boundaries.old.items opened.old.items
-        → ArePassed (λ x y. S.order x.now y.now) (λ x. S.range x.now) (cs ++ statement.entry ∷ []) first
+        (λ x y. S.order x.now y.now)
+        (λ x. S.range x.now) cs low boundaries.old.items opened.old.items
+        → ArePassed (λ x y. S.order x.now y.now) (λ x. S.range x.now) (cs
+        ++ statement.entry ∷ []) first
         boundaries.new.items opened.new.items)) }
     ensures kept { IfOk result (λ next. IfSome next (λ _. S.kept statement.entry.1.now)) }
 {
@@ -110,7 +115,8 @@ fn is_before(last: u128, next: Option<u128>) -> bool
 
 // Whether an address lies before the ends of all open grounds, which nest.
 fn lies_within<S>(last: u128, opened: &[(u128, (usize, &S))]) -> bool
-    ensures { IsTrue result → Nest (2 ^ 128 - 1) opened.entry.now → Reach (last + 1) opened.entry.now }
+    ensures { IsTrue result → Nest (2 ^ 128 - 1) opened.entry.now
+        → Reach (last + 1) opened.entry.now }
 {
     match opened.last() {
         Some((end, _)) => last <= *end,
@@ -131,7 +137,8 @@ fn better<'a, S: Statement>(
     best: Option<(usize, &'a S)>,
     statement: (usize, &'a S),
 ) -> (usize, &'a S)
-    ensures { Some result ≡ better (λ x y. is_lt (index_cmp (λ v w. S.order v.now w.now) x y)) best.entry
+    ensures { Some result
+        ≡ better (λ x y. is_lt (index_cmp (λ v w. S.order v.now w.now) x y)) best.entry
         statement.entry }
 {
     let Some(best) = best else {
@@ -159,7 +166,8 @@ fn put_end<S>(
     outer: Option<(usize, &S)>,
 ) -> Result<(), Memory>
     ensures put { OnOk result (last < 2 ^ 128 - 1
-        → IsPut (last + 1) (option_map (λ c. c.0) outer.entry) boundaries.old.items boundaries.new.items) }
+        → IsPut (last + 1) (option_map
+        (λ c. c.0) outer.entry) boundaries.old.items boundaries.new.items) }
     ensures none { OnOk result (last ≡ 2 ^ 128 - 1 → boundaries.new.items ≡ boundaries.old.items) }
 {
     if let Some(at) = last.checked_add(1) {

@@ -94,7 +94,7 @@ fn said_before<'a>(
 /// The place that a country code alone names, or `None` where it is not two letters, or is `ZZ`.
 ///
 /// The code is read in either case and kept in upper case.
-#[tactic(auto, using(crate::proofs::PlaceLemmas::country_in_form), unfolding(crate::specs::PlaceForm::place_of_country))]
+#[tactic(auto, using(crate::proofs::PlaceLemmas::country_in_form), unfolding(crate::specs::PlaceForm::place_of_country),)]
 pub fn country_place(texts: &mut Texts, country: &[u8]) -> Result<Option<Place>, Memory>
     ensures { IfOk result (λ place. place ≡ place_of_country country.now) }
 {

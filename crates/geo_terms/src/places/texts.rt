@@ -11,7 +11,8 @@ use std::alloc::Global;
 /// bytes.
 ///
 /// Which texts it holds changes what memory is taken, and never what a text says. A look-up is at
-/// most two, whatever strangers write: of texts whose marks lead to one slot the last two are shared.
+/// most two, whatever strangers write: of texts whose marks lead to one slot the last two are
+/// shared.
 #[derive(Drop)]
 pub struct Texts {
     alloc: Global,
@@ -151,7 +152,13 @@ impl Texts {
         city: Text,
         postal: Text,
     ) -> Result<Place, Memory>
-        requires { IsPlace (record { country = country; region = region; city = city; postal = postal }) }
+        requires { IsPlace (record {
+          country = country;
+          region = region;
+          city = city;
+          postal =
+              postal;
+        }) }
         ensures { IfOk result (λ place. place
             ≡ record { country = country; region = region; city = city; postal = postal }) }
     {
@@ -173,7 +180,13 @@ impl Texts {
         city: Text,
         postal: Text,
     ) -> Result<Place, Memory>
-        requires { IsPlace (record { country = country; region = region; city = city; postal = postal }) }
+        requires { IsPlace (record {
+          country = country;
+          region = region;
+          city = city;
+          postal =
+              postal;
+        }) }
         ensures { IfOk result (λ place. place
             ≡ record { country = country; region = region; city = city; postal = postal }) }
     {

@@ -8,4 +8,5 @@ returns-in-Some g c is nest =
     let t = c.in-Some.field-0.now in
     let e : leb c.args.last t.0 ≡ true = is in
     let le : c.args.last + 1 ≤ t.0 + 1 = grind (arith, nat_tests) in
-    all_reach (2 ^ 128 - 1) (c.args.last + 1) c.args.opened.now t (sym c.in-Some.ensures.value) le nest
+    all_reach (2 ^ 128 - 1) (c.args.last + 1) c.args.opened.now t
+    (sym c.in-Some.ensures.value) le nest

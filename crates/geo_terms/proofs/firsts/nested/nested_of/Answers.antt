@@ -17,7 +17,8 @@ loop-statement-preserved g c =
     let x : ℕ × Bor X = c.statement-item.result in
     let within : i < length xs = omega arith in
     let more : take (i + 1) xs ≡ take i xs ++ x ∷ [] =
-    take_more xs i x within ∙ ap (λ (y : ℕ × Bor X). take i xs ++ y ∷ []) (sym c.statement-item.is) in
+    take_more xs i x within
+    ∙ ap (λ (y : ℕ × Bor X). take i xs ++ y ∷ []) (sym c.statement-item.is) in
     let step = rw c.in-Some.is at c.in_ok-first.ensures.passed in
     let kept = rw c.in-Some.is at c.in_ok-first.ensures.kept in
     record {

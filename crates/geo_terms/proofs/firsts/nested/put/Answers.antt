@@ -3,7 +3,8 @@ use Rattle.std.proofs.lemmas.Bool.Decides.{nat_tests}
 use Rattle.geo_terms.specs.declared.firsts.boundaries.Boundary.{Boundary}
 use Rattle.geo_terms.proofs.NestedLemmas.{put_new, put_over}
 use Rattle.geo_terms.proofs.firsts.nested.put.Goals as goal
-use Rattle.geo_terms.proofs.firsts.nested.put.Goals.{in-Some+then-last-at+in_ok-push, in-Some+else-last-at}
+use Rattle.geo_terms.proofs.firsts.nested.put.Goals.{in-Some+then-last-at+in_ok-push}
+use Rattle.geo_terms.proofs.firsts.nested.put.Goals.{in-Some+else-last-at}
 use Rattle.geo_terms.proofs.firsts.nested.put.Goals.{in_default}
 
 pub returns : goal.returns
@@ -16,7 +17,8 @@ returns c =
           let same : c.match-pop.boundaries.items ≡ c.args.boundaries.now.items = search rules in
           rw (out, same) (put_new c.args.at c.args.first c.args.boundaries.now.items)
       | in-Some+else-last-at w ↦
-          let old : c.args.boundaries.now.items ≡ c.match-pop.boundaries.items ++ w.in-Some.last ∷ []
+          let old : c.args.boundaries.now.items ≡ c.match-pop.boundaries.items
+          ++ w.in-Some.last ∷ []
           = search rules in
           rw (out, old) (put_over c.args.at c.args.first c.match-pop.boundaries.items w.in-Some.last
           (grind (arith, nat_tests)))

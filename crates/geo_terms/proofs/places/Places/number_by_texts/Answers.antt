@@ -1,5 +1,6 @@
 -- A place that is new is led to its number.
-use Rattle.std.proofs.Common.{◌≡◌, ◌++◌, ◌∷◌, ◌+◌, [], ℕ, List, Some, None, length, cond, sym, ap, subst, ◌∙◌, arith, rules}
+use Rattle.std.proofs.Common.{◌≡◌, ◌++◌, ◌∷◌, ◌+◌, [], ℕ, List, Some, None, length, cond, sym, ap}
+use Rattle.std.proofs.Common.{subst, ◌∙◌, arith, rules}
 use Rattle.std.specs.BTreeMap.{get}
 use Rattle.std.specs.Ordering.{is_eq}
 use Rattle.std.proofs.lemmas.Map.Keys.{IsDistinct-push}
@@ -7,7 +8,8 @@ use Rattle.geo_terms.specs.Numbers.{number_of, same_place, with_place}
 use Rattle.geo_terms.specs.PlaceForm.{PlaceParts}
 use Rattle.geo_terms.specs.PlaceEquality.{place_equiv}
 use Rattle.geo_terms.specs.PlaceOrder.{place_cmp, place_ties}
-use Rattle.geo_terms.proofs.NumberLemmas.{absent_any, number_new, number_push, numbers_name_places, table_kept, table_new}
+use Rattle.geo_terms.proofs.NumberLemmas.{absent_any, number_new, number_push, numbers_name_places}
+use Rattle.geo_terms.proofs.NumberLemmas.{table_kept, table_new}
 use Rattle.geo_terms.proofs.places.Places.number_by_texts.Goals as goal
 
 pub returns-in-Some-clause-table : goal.returns-in-Some-clause-table
