@@ -229,8 +229,8 @@ numbers_below : (before n top : ℕ) (xs : List (List ℕ)) → before + n + len
     → All (λ (l : ℕ × List ℕ). before + l.0 < top) (enumerate_from n xs)
 numbers_below before n top [] few = All-nil (λ (l : ℕ × List ℕ). before + l.0 < top)
 numbers_below before n top (x ∷ xs) few =
-    All-cons (λ (l : ℕ × List ℕ). before + l.0 < top) (n, x) (enumerate_from (n + 1) xs) (omega arith)
-    (numbers_below before (n + 1) top xs (omega arith))
+    All-cons (λ (l : ℕ × List ℕ). before + l.0 < top) (n, x) (enumerate_from (n + 1) xs)
+    (omega arith) (numbers_below before (n + 1) top xs (omega arith))
 
 -- the numbers of the lines of a part are small
 pub numbers_fit : (before : ℕ) (text : List ℕ) → before + length text < 2 ^ 64
@@ -285,7 +285,8 @@ module _ (size : ℕ) (text piece after : List ℕ) where
   long_head : size ≤ length text → length (take size text) ≡ size
   long_head within = length-take-le size text within
 
-  pub cut_short : size ≤ length text → All (λ b. b ≢ 10) piece → drop size text ≡ piece ++ 10 ∷ after
+  pub cut_short : size ≤ length text → All (λ b. b ≢ 10) piece
+      → drop size text ≡ piece ++ 10 ∷ after
       → EndsBehind size (take (length text - length after) text)
   cut_short within free cut =
       let behind_it : drop size (take (length text - length after) text) ≡ piece ++ 10 ∷ [] =

@@ -4,7 +4,8 @@ ghost use Rattle.std.specs.Prelude.{IfOk, length, map, drop, take, nat_eq, ◌==
 ghost use Rattle.std.specs.List.{flat_map, starts_with};
 ghost use Rattle.std.specs.Simd.Lanes.{mask_l};
 ghost use Rattle.geo_addr.specs.Lines.{byte_order_mark, numbered_lines, without_mark};
-ghost use Rattle.line_parts.specs.Parts.{AreCut, EndsBehind, EndsWithFeed, feeds, lines_in, part_end};
+ghost use Rattle.line_parts.specs.Parts.{AreCut, EndsBehind, EndsWithFeed, feeds, lines_in};
+ghost use Rattle.line_parts.specs.Parts.{part_end};
 
 use crate::part::LinePart;
 use geo_addr::{Memory, cut_at, skip_mark};
