@@ -40,7 +40,7 @@ pub(crate) struct Held<'a> {
 }
 
 /// Work that reads the lines of a feed and makes it ready to be set.
-#[derive(Clone, Copy, Debug)]
+#[derive(Drop)]
 struct Parsing {
     alloc: Global,
 }

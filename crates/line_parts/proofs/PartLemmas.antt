@@ -230,8 +230,7 @@ numbers_below : (before n top : ℕ) (xs : List (List ℕ)) → before + n + len
 numbers_below before n top [] few = All-nil (λ (l : ℕ × List ℕ). before + l.0 < top)
 numbers_below before n top (x ∷ xs) few =
     All-cons (λ (l : ℕ × List ℕ). before + l.0 < top) (n, x) (enumerate_from (n + 1) xs)
-    (omega arith)
-    (numbers_below before (n + 1) top xs (omega arith))
+    (omega arith) (numbers_below before (n + 1) top xs (omega arith))
 
 -- the numbers of the lines of a part are small
 pub numbers_fit : (before : ℕ) (text : List ℕ) → before + length text < 2 ^ 64

@@ -40,8 +40,8 @@ loop-left-preserved c =
           part.result after inv.cut (search rules)
           (part.ensures.text ∙ c.cut_behind.ensures.first) c.cut_behind.ensures.rest);
       short =
-          subst (λ (ps : List LinePart).
-          All (λ (p : LinePart). EndsBehind c.args.size p.text.now) ps)
+          subst
+          (λ (ps : List LinePart). All (λ (p : LinePart). EndsBehind c.args.size p.text.now) ps)
           (sym pushed) (All-push (λ (p : LinePart). EndsBehind c.args.size p.text.now)
           c.loop-left.parts.items part.result inv.short
           (subst (EndsBehind c.args.size) (sym part.ensures.text) c.cut_behind.ensures.short));
