@@ -76,7 +76,11 @@ fn read_lines(alloc: Global, bytes: &[u8]) -> Result<Found, SourceFault>
 }
 
 // Adds what one more line says.
-fn take_line(line: Line, reader: &mut Option<Reader<&[u8]>>, found: &mut Found) -> Result<(), SourceFault>
+fn take_line(
+    line: Line,
+    reader: &mut Option<Reader<&[u8]>>,
+    found: &mut Found,
+) -> Result<(), SourceFault>
     requires few { length found.old.rows.items ≤ most }
     requires reads { CanRead (λ s. Some s.now) reader.old line.text.now }
     ensures rows { OnOk result (found.new.rows.items ≡ found.old.rows.items
