@@ -1,8 +1,7 @@
 -- Ranges that at most one line has, and those of a sorted list that stand more than once.
 use Rattle.std.proofs.Common.{inl, inr, ◌≡◌, ℕ, ◌+◌, ◌<◌, ◌-◌, ◌⊎◌, ltb, Bool, true, false, not}
-use Rattle.std.proofs.Common.{cond, ◌&&◌, List, length, map, get_or, Option, Some, None, refl, sym}
-use Rattle.std.proofs.Common.{ap, ◌∙◌}
-use Rattle.std.proofs.Common.{subst, arith, take, ◌||◌}
+use Rattle.std.proofs.Common.{◌&&◌, List, length, map, get_or, Option, refl, sym, ap, ◌∙◌}
+use Rattle.std.proofs.Common.{subst, arith, ◌||◌}
 use Rattle.std.specs.Cmp.{IsTotalOrder, nat_cmp_total, on_total, then_total}
 use Rattle.std.specs.List.{list_any}
 use Rattle.std.specs.List.Sorted.{IsPermutation, IsSorted}
@@ -21,8 +20,7 @@ use Rattle.geo_terms.specs.declared.place.Said.{Said}
 use Rattle.csv_lines.specs.Repeats.{Rises, fate, same_range, same_said}
 use Rattle.csv_lines.specs.Seen.{IsAlone, IsSeen, Shown, ends_cmp, fate_by, held, shown}
 use Rattle.csv_lines.specs.Seen.{with_row}
-use Rattle.csv_lines.specs.declared.fate.Fate.{Fate}
-use Rattle.csv_lines.specs.declared.fate.Fate.TheVariants.{Kept, Repeats, Differs}
+use Rattle.csv_lines.specs.declared.fate.Fate.TheVariants.{Kept}
 use Rattle.csv_lines.proofs.FateLemmas.{both, ends_itself, ends_same, fate_told, get_or_same}
 use Rattle.csv_lines.proofs.FateLemmas.{member_at, said_itself}
 

@@ -1,5 +1,5 @@
 -- The lists of a file keep what `Overrides` promises.
-use Rattle.std.proofs.Common.{◌≡◌, ℕ, List, [], ◌∷◌, map, Option, Some, None, refl, sym, ap, ◌∙◌}
+use Rattle.std.proofs.Common.{◌≡◌, ℕ, List, map, Option, Some, None, refl, sym, ◌∙◌}
 use Rattle.std.proofs.Common.{subst, arith}
 use Rattle.std.specs.List.{enumerate_from}
 use Rattle.geo_addr.specs.Lines.{lines_of, without_mark}

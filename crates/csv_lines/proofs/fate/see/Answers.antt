@@ -1,5 +1,5 @@
 -- A line of a new range is its first.
-use Rattle.std.proofs.Common.{sym, true, false, ap, ◌≡◌, ◌∙◌, cond, Some, subst, rules}
+use Rattle.std.proofs.Common.{sym, true, false, ap, ◌≡◌, ◌∙◌, cond, Some, rules}
 use Rattle.std.specs.BTreeMap.{get}
 use Rattle.csv_lines.specs.Seen.{ends_cmp, Shown}
 use Rattle.csv_lines.specs.Repeats.{same_said}

@@ -1,5 +1,5 @@
 -- One more line, and all of them.
-use Rattle.std.proofs.Common.{◌≡◌, ◌∙◌, ◌<◌, List, ap, length, rules, sym, take}
+use Rattle.std.proofs.Common.{◌∙◌, ◌<◌, List, ap, length, rules, sym, take}
 use Rattle.std.proofs.lemmas.List.{take_all}
 use Rattle.std.specs.BTreeMap.{get}
 use Rattle.std.specs.BTreeSet.{contains}
