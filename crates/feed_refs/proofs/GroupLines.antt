@@ -206,7 +206,8 @@ whole_lines : (slot : List ℕ) (o : Object) (ls : List Numbered)
     → note_lines (noted slot (Whole o ∷ strays ls))
     ≡ note_lines (found slot o).notes ++ note_lines (stray_notes slot ls)
 unfolding noted
-whole_lines slot o ls = map-append (λ (n : LineNote). n.line) (found slot o).notes (stray_notes slot ls)
+whole_lines slot o ls =
+    map-append (λ (n : LineNote). n.line) (found slot o).notes (stray_notes slot ls)
 
 whole_references : (slot : List ℕ) (o : Object) (ls : List Numbered)
     → references slot (Whole o ∷ strays ls) ≡ reference_in (found slot o).what

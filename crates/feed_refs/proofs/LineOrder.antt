@@ -47,8 +47,8 @@ climbs_in_order [] = tt
 climbs_in_order (n ∷ ns) =
     climbs_put_in 0 n (in_line_order ns) (omega arith) (climbs_in_order ns)
 
-low-le-each : (low : ℕ) (ns : List LineNote) → Climbs low ns → (j : ℕ) (d : LineNote) → j < length ns
-    → low ≤ (slice_index_or ns j d).line
+low-le-each : (low : ℕ) (ns : List LineNote) → Climbs low ns → (j : ℕ) (d : LineNote)
+    → j < length ns → low ≤ (slice_index_or ns j d).line
 low-le-each low [] up j d below = absurd (omega (arith, below))
 low-le-each low (n ∷ ns) up zero d below = up.0
 low-le-each low (n ∷ ns) up (suc j) d below =

@@ -108,7 +108,8 @@ has_ordered (n ∷ ns) m =
     )
 
 -- what holds of all notes of a list
-pub each : (P : LineNote → Type 0) (ns : List LineNote) → AllByRecursion P ns → (m : LineNote) → Has ns m → P m
+pub each : (P : LineNote → Type 0) (ns : List LineNote) → AllByRecursion P ns → (m : LineNote)
+    → Has ns m → P m
 each P [] a m h = absurd h
 each P (n ∷ ns) a m h = elim h [ inl e ↦ subst P (sym e) a.0 | inr i ↦ each P ns a.1 m i ]
 
@@ -122,8 +123,9 @@ all_of_lines : (P : ℕ → Type 0) (ns : List LineNote) → AllByRecursion P (n
 all_of_lines P [] a = tt
 all_of_lines P (n ∷ ns) a = (a.0, all_of_lines P ns a.1)
 
-rises_put_in : (low : ℕ) (n : LineNote) (ns : List LineNote) → low ≤ n.line → Rises low (note_lines ns)
-    → AllByRecursion (λ m. nat_eq n.line m.line ≡ false) ns → Rises low (note_lines (put_in n ns))
+rises_put_in : (low : ℕ) (n : LineNote) (ns : List LineNote) → low ≤ n.line
+    → Rises low (note_lines ns) → AllByRecursion (λ m. nat_eq n.line m.line ≡ false) ns
+    → Rises low (note_lines (put_in n ns))
 rises_put_in low n [] le r other = (le, tt)
 rises_put_in low n (m ∷ ms) le r other =
     cond_both (nat_lt m.line n.line) (m ∷ put_in n ms) (n ∷ m ∷ ms) (λ l. Rises low (note_lines l))
@@ -146,8 +148,8 @@ ordered_rises (n ∷ ns) d =
     (all_of_lines (λ l. nat_eq n.line l ≡ false) ns d.0) m ((has_ordered ns m).0 h)))
 
 -- the first of notes whose lines do not fall is on no later line than another
-first_le : (y : LineNote) (ys : List LineNote) → IsNonDecreasingBy (λ n. n.line) (y ∷ ys) → (m : LineNote)
-    → Has ys m → y.line ≤ m.line
+first_le : (y : LineNote) (ys : List LineNote) → IsNonDecreasingBy (λ n. n.line) (y ∷ ys)
+    → (m : LineNote) → Has ys m → y.line ≤ m.line
 first_le y ys up m h =
     let c = contains_from_has ys m h in
     let at : y.line ≤ (get_or ys c.0 m).line =

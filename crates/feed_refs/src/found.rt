@@ -37,7 +37,8 @@ impl RefsAndNotes {
         seen: &Sights,
         urls: &mut Texts,
     ) -> Result<RefsAndNotes, Memory>
-        ensures refs { IfOk result (λ found. found.refs.items ≡ references slot.now seen.now.items) }
+        ensures refs { IfOk result
+            (λ found. found.refs.items ≡ references slot.now seen.now.items) }
         ensures notes { IfOk result (λ found. found.notes.items ≡ noted slot.now seen.now.items) }
     {
         let mut found = RefsAndNotes::new(alloc);
@@ -110,7 +111,8 @@ fn take_object(
     ensures refs { OnOk result (found.new.refs.items
         ≡ found.old.refs.items ++ reference_in (found_in_parts slot.now parts.now).what) }
     ensures notes { OnOk result
-        (found.new.notes.items ≡ found.old.notes.items ++ (found_in_parts slot.now parts.now).notes) }
+        (found.new.notes.items
+        ≡ found.old.notes.items ++ (found_in_parts slot.now parts.now).notes) }
 {
     let told = found_of(alloc, slot, parts)?;
     let mut notes = told.notes.into_vec();

@@ -43,11 +43,13 @@ pub name_is_text : (name : List ℕ) → IsTrue (is_name name) → IsUtf8 name
 name_is_text [] h = IsUtf8-from_ascii [] IsAscii-nil
 name_is_text (b ∷ bs) h =
     let front : (is_ascii_alphabetic b && nat_le (length bs) LONGEST_NAME) ≡ true =
-    and_left (is_ascii_alphabetic b && nat_le (length bs) LONGEST_NAME) (list_all is_name_byte bs) h in
+    and_left (is_ascii_alphabetic b && nat_le (length bs) LONGEST_NAME)
+    (list_all is_name_byte bs) h in
     IsUtf8-from_ascii (b ∷ bs) (IsAscii-cons b bs
     (letter_is_ascii b (and_left (is_ascii_alphabetic b) (nat_le (length bs) LONGEST_NAME) front))
     (bytes_are_ascii bs
-    (and_right (is_ascii_alphabetic b && nat_le (length bs) LONGEST_NAME) (list_all is_name_byte bs) h)))
+    (and_right (is_ascii_alphabetic b && nat_le (length bs) LONGEST_NAME)
+    (list_all is_name_byte bs) h)))
 
 pub same_is : (xs ys : List ℕ) → same_text xs ys ≡ true → xs ≡ ys
 same_is [] [] e = refl

@@ -128,10 +128,12 @@ name_all : (name : List ℕ) → is_name name ≡ true → list_all is_name_byte
 name_all [] e = absurd (let f : false ≡ true = e in cc)
 name_all (b ∷ bs) e =
     let front : (is_ascii_alphabetic b && nat_le (length bs) LONGEST_NAME) ≡ true =
-    and_left (is_ascii_alphabetic b && nat_le (length bs) LONGEST_NAME) (list_all is_name_byte bs) e in
+    and_left (is_ascii_alphabetic b && nat_le (length bs) LONGEST_NAME)
+    (list_all is_name_byte bs) e in
     ap (λ t. t && list_all is_name_byte bs)
     (letter_is b (and_left (is_ascii_alphabetic b) (nat_le (length bs) LONGEST_NAME) front))
-    ∙ and_right (is_ascii_alphabetic b && nat_le (length bs) LONGEST_NAME) (list_all is_name_byte bs) e
+    ∙ and_right (is_ascii_alphabetic b && nat_le (length bs) LONGEST_NAME)
+    (list_all is_name_byte bs) e
 
 named_all : (c : List ℕ × Option (List ℕ)) → is_named c ≡ true → all_named c ≡ true
 named_all (name, None) e = e

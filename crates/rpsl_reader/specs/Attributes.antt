@@ -35,7 +35,8 @@ is_name_byte b = is_ascii_alphanumeric b || b == 45 || b == 95
 -- a name: an ASCII letter, then up to 63 letters, digits, `-` and `_`
 abbrev pub is_name : List ℕ → Bool
 is_name [] = false
-is_name (b ∷ bs) = is_ascii_alphabetic b && nat_le (length bs) LONGEST_NAME && list_all is_name_byte bs
+is_name (b ∷ bs) =
+    is_ascii_alphabetic b && nat_le (length bs) LONGEST_NAME && list_all is_name_byte bs
 
 -- whether bytes that may all stand in a name are one
 abbrev pub may_begin : List ℕ → Bool

@@ -1,6 +1,6 @@
 //! The first bytes of a line, which are looked at together.
-ghost use Rattle.std.specs.Prelude.{◌≡◌, ◌≢◌, ℕ, ◌<◌, ◌≤◌, length, map, slice_index, IsTrue, nat_lt};
-ghost use Rattle.std.specs.Prelude.{◌==◌, false, if◌then◌else◌, true};
+ghost use Rattle.std.specs.Prelude.{◌≡◌, ◌≢◌, ℕ, ◌<◌, ◌≤◌, length, map, slice_index, IsTrue};
+ghost use Rattle.std.specs.Prelude.{◌==◌, false, if◌then◌else◌, nat_lt, true};
 ghost use Rattle.std.specs.List.{list_any};
 ghost use Rattle.std.specs.Simd.Lanes.{mask_l};
 ghost use Rattle.rpsl_reader.specs.Attributes.{is_name_byte};

@@ -128,7 +128,8 @@ impl Reader {
         Ok(progress.with(found))
     }
 
-    /// The same, as it stands in the piece, in this reader and in `line`, whose bytes do not matter.
+    /// The same, as it stands in the piece, in this reader and in `line`, whose bytes before do not
+    /// matter.
     pub fn see<'b, 'a: 'b>(
         &'b self,
         piece: &'a [u8],

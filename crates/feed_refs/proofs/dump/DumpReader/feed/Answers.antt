@@ -4,9 +4,11 @@ use Rattle.geo_terms.specs.declared.source.SourceFault.TheVariants.{TooLong, Too
 use Rattle.rpsl_reader.specs.Reading.{Fed, given}
 use Rattle.feed_refs.specs.Dumps.{longest, most}
 use Rattle.feed_refs.specs.Readings.{Kept}
-use Rattle.feed_refs.proofs.FeedLemmas.{behind_fault, cut_is, fault_found, fault_held, fault_read, fed-le-longest}
+use Rattle.feed_refs.proofs.FeedLemmas.{behind_fault, cut_is, fault_found, fault_held}
+use Rattle.feed_refs.proofs.FeedLemmas.{fault_read, fed-le-longest}
 use Rattle.feed_refs.proofs.FeedLemmas.{held_on, is_faulty, is_whole, leads_long, leads_many}
-use Rattle.feed_refs.proofs.FeedLemmas.{leads_on, length-cut-le, no_fault, notes_are, read_on, refs_are}
+use Rattle.feed_refs.proofs.FeedLemmas.{leads_on, length-cut-le, no_fault, notes_are}
+use Rattle.feed_refs.proofs.FeedLemmas.{read_on, refs_are}
 use Rattle.feed_refs.proofs.dump.DumpReader.feed.Goals as goal
 
 pub returns-in-Some-clause-read : goal.returns-in-Some-clause-read

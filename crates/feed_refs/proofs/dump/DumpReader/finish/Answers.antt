@@ -5,7 +5,8 @@ use Rattle.geo_terms.specs.SourceForm.{DumpParts}
 use Rattle.rpsl_reader.specs.Reading.{last}
 use Rattle.rpsl_reader.specs.Selections.{wanted}
 use Rattle.feed_refs.specs.Readings.{Kept}
-use Rattle.feed_refs.proofs.FeedLemmas.{behind_fault, ends_in_form, ends_many, ends_ok, ends_read, fault_dump}
+use Rattle.feed_refs.proofs.FeedLemmas.{behind_fault, ends_in_form, ends_many, ends_ok}
+use Rattle.feed_refs.proofs.FeedLemmas.{ends_read, fault_dump}
 use Rattle.feed_refs.proofs.FeedLemmas.{is_faulty, no_fault, notes_are, refs_are}
 use Rattle.feed_refs.proofs.dump.DumpReader.finish.Goals as goal
 
