@@ -42,6 +42,16 @@ verdict_of() {
         | grep '^logic=proved .*axioms=' | tail -n 1
 }
 
+# built: the verdict of the build by ./geofeed, where no source is newer.
+built() {
+    local log=crates/geofeed/out/build.log folders=(crates.txt) name
+    for name in $(below); do
+        folders+=("crates/$name"/{src,specs,proofs})
+    done
+    [ -s "$log" ] && [ -z "$(find "${folders[@]}" -newer "$log" -print -quit 2> /dev/null)" ] \
+        && grep '^logic=proved .*axioms=' "$log" | tail -n 1
+}
+
 # heard_again: the verdict of the program's crate, which is proved once more for it, in a copy with
 # a line of its own and without its edits. All below it has to be proved and kept already.
 heard_again() {
@@ -96,7 +106,9 @@ if [ -n "$line" ]; then
     mkdir -p "$kept" && echo "$line" > "$kept/$sum"
 elif [ -s "$kept/$sum" ]; then
     line=$(cat "$kept/$sum")
-elif [ -n "${GATE_LOG:-}" ] && grep -qx 'rt: geofeed is kept: .*' "$GATE_LOG"; then
+elif [ -z "${GATE_LOG:-}" ]; then
+    line=$(built)
+elif grep -qx 'rt: geofeed is kept: .*' "$GATE_LOG"; then
     echo "$check: no run of the gate heard the proof of the program: it is proved once more"
     line=$(heard_again)
     [ -z "$line" ] || { mkdir -p "$kept" && echo "$line" > "$kept/$sum"; }
