@@ -1,6 +1,6 @@
 #!/usr/bin/env bash
 # The toolchain's line that the program and the README name is that of the toolchain which proves them; and what the
-# program prints of itself, where it is built: its version, its help, and how it is used.
+# program prints of itself, where it is built: its version, its help, and how it is used. Tools and manuals have its version.
 set -u
 cd "$(dirname "${BASH_SOURCE[0]}")/.." || exit 1
 source=$PWD/crates/geofeed/src/main.rt
@@ -15,6 +15,14 @@ if command -v rt > /dev/null; then
 else
     echo "checks/version.sh: the toolchain's line is not looked at: there is no rt"
 fi
+number=$(sed -n 's/^const VERSION: &str = "geofeed \([0-9.]*\) .*/\1/p' "$source")
+for file in contrib/feeds-of-dump contrib/geofeed-daily; do
+    grep -qx "VERSION = '$number'" "$file" || { echo "checks/version.sh: $file is not of version $number"; exit 1; }
+done
+for file in geofeed.1 contrib/*.1; do
+    sed -n 1p "$file" | grep -qF "\"geofeed $number\"" || { echo "checks/version.sh: $file is not of version $number"; exit 1; }
+done
+grep -q "^## $number" CHANGELOG.md || { echo "checks/version.sh: CHANGELOG.md does not name version $number"; exit 1; }
 . checks/with_program.bash
 
 # says STATUS WORDS..: the program ends so, with what it prints in `printed` and what it says in `told`.
