@@ -104,6 +104,12 @@ url=$(cut -d ' ' -f 1 one)
 printf '%s\n' 192.0.2.{0..3}/32,DE > "$second" && echo 192.0.2.0/24,DE > served
 FETCH=cp_to PATH=$work:$PATH "$script" --fetch one --accept "$url" && [ "$(cat "$second")" = 192.0.2.0/24,DE ] || fail "--accept takes it not"
 
+# On a terminal it says how far it is.
+if command -v script > /dev/null; then
+    FETCH=./fetch script -qec "'$script' --fetch list" /dev/null < /dev/null > printed
+    grep -q '3 of 3 fetched, 1 did not come, 0.0 MB' printed || fail "on a terminal it says '$(cat printed)'"
+fi
+
 # Names that a stranger could choose so that they act: none leaves the folder, or is more than a word.
 cat > dump <<'END'
 inetnum: 192.0.2.0 - 192.0.2.255

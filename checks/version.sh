@@ -1,7 +1,7 @@
 #!/usr/bin/env bash
 # The toolchain's line that the program and the README name is that of the toolchain which proves
-# them; and what the program prints of itself, where it is built: its version, its help, and how it
-# is used.
+# them; and what the program prints of itself: its version, its help, and how it is used. Tools and
+# manuals have its version.
 set -u
 cd "$(dirname "${BASH_SOURCE[0]}")/.." || exit 1
 source=$PWD/crates/geofeed/src/main.rt
@@ -15,6 +15,15 @@ if command -v rt > /dev/null; then
 else
     part "the toolchain's line: there is no rt"
 fi
+number=$(sed -n 's/^const VERSION: &str = "geofeed \([0-9.]*\) .*/\1/p' "$source")
+top=${readme%/README.md}
+for file in "$top"/contrib/feeds-of-dump "$top"/contrib/geofeed-daily; do
+    grep -qx "VERSION = '$number'" "$file" || fail "$file is not of version $number"
+done
+for file in "$top"/geofeed.1 "$top"/contrib/geofeed-*.1 "$top"/contrib/feeds-of-dump.1; do
+    sed -n 1p "$file" | grep -qF "\"geofeed $number\"" || fail "$file is not of version $number"
+done
+grep -q "^## $number" "$top/CHANGELOG.md" || fail "CHANGELOG.md does not name version $number"
 
 # says STATUS WORDS..: the program ends so, with what it prints in `printed` and what it says in
 # `told`.
