@@ -173,6 +173,18 @@ while read -r command; do
 done < commands > printed 2>&1
 diff screen printed > different || fail "the README's commands print something else: $(head -n 5 different)"
 
+# The scripts' manual pages have no errors of form, and say what the scripts say.
+for tool in geofeed-set mmdb-list mmdb-map; do
+    if command -v man > /dev/null; then
+        told=$(MANWIDTH=80 man --warnings -l "$top/contrib/$tool.1" 2>&1 > /dev/null)
+        [ -z "$told" ] || fail "contrib/$tool.1: $told"
+    fi
+    for option in $(grep -oE -- '--[a-z]+' "$top/contrib/$tool" | sort -u); do
+        grep -qF -- "${option//-/\\-}" "$top/contrib/$tool.1" || [ "$option" = --help ] || [ "$tool" = mmdb-map ] \
+            || fail "contrib/$tool.1 does not name $option"
+    done
+done
+
 # The picture.
 [ "$(head -c 8 "$top/docs/map.png" | od -An -tx1 | tr -d ' \n')" = 89504e470d0a1a0a ] && [ "$(wc -c < "$top/docs/map.png")" -lt 300000 ] \
     && grep -q '](map.png)' "$top/docs/guide.md" || fail "the guide's picture is none, or too large"

@@ -126,8 +126,12 @@ def array(count): return (bytes([count, 4]) if count < 29 else b"\x1e\x04" + str
 def long_text(length): return b"\x5f" + (length - 65821).to_bytes(3, "big") + b"x" * length
 
 def file(name, nodes, data=b"", version=6, more=b"", size=24, entries=4, count=None):
-    """Nodes are pairs of numbers of 24 bits."""
-    tree = b"".join(low.to_bytes(3, "big") + high.to_bytes(3, "big") for low, high in nodes)
+    """Nodes are pairs of numbers of so many bits (any other size is written as 24)."""
+    if size == 28:
+        tree = b"".join((low & 0xffffff).to_bytes(3, "big") + bytes([low >> 24 << 4 | high >> 24]) + (high & 0xffffff).to_bytes(3, "big") for low, high in nodes)
+    else:
+        each = 4 if size == 32 else 3
+        tree = b"".join(low.to_bytes(each, "big") + high.to_bytes(each, "big") for low, high in nodes)
     about = [("binary_format_major_version", b"\xa1\x02"), ("ip_version", bytes([0xa1, version])),
              ("node_count", number(len(nodes) if count is None else count)), ("record_size", bytes([0xa1, size]))]
     about = b"".join(text(key) + value for key, value in about[:entries])
@@ -148,6 +152,15 @@ file("deep4", [(i + 1, 33) for i in range(32)] + [(33, 33)], version=4)
 # Nodes without end from which no leaf is reached in time.
 file("long", [(i + 1, i + 1) for i in range(300000)] + [(300001, 300001)])
 file("ipv4", [(record(2, 0), 1), (2, record(2, 2))], A, version=4)
+# One tree in each size of a record, with 20,000,000 unused bytes before its second record; and a value of each type.
+far = text("A") + bytes(20000000) + text("B")
+for size in 24, 28, 32:
+    wide = size != 24
+    file(f"bits{size}", [(1, 2), (3, record(4, 0)), (record(4, 0), 3), (4, record(4, len(far) - 2 if wide else 0))], far if wide else A, size=size)
+types = [b"\x68\x40\x09\x21\xfb\x54\x44\x2d\x18", b"\x04\x08\x40\x49\x0f\xdb", b"\x82\xbe\xef", b"\xa2\x01\x00", b"\xc1\x07", b"\x04\x01\xff\xff\xff\xfe",
+         b"\x01\x02\x09", b"\x09\x03\x01" + bytes(8), b"\x01\x07", b"\x00\x07", text("x\"\u00e9")]
+file("types", [(1, record(1, 0))], bytes([len(types), 4]) + b"".join(types))
+file("nan", [(1, record(1, 0))], b"\x68\x7f\xf8" + bytes(6))
 # Lists of pointers to the list before: 2^24 values of a record of 150 bytes.
 bomb, at = b"", [0]
 bomb += text("x")
@@ -206,6 +219,12 @@ says deep 1 '' '*deeper than the 128 bits of an address'
 says deep4 1 '' '*deeper than the 32 bits of an address'
 says long 1 '' '*deeper than the 128 bits of an address'
 says ipv4 0 $'0.0.0.0/1 "A"\n192.0.0.0/2 "B"' ''
+says bits24 0 $'2000::/3 "A"\n4000::/2 "A"\n8000::/2 "A"\ne000::/3 "A"' ''
+for size in 28 32; do
+    says "bits$size" 0 $'2000::/3 "B"\n4000::/2 "A"\n8000::/2 "A"\ne000::/3 "B"' ''
+done
+says types 0 '8000::/1 \[3.141592653589793,3.1415927410125732,"beef",256,7,-2,9,18446744073709551616,true,false,"x\\"é"\]' ''
+says nan 1 '8000::/1 damaged: it has no form in JSON' "$damaged"
 says bomb 1 '8000::/1 damaged: too many values' "$damaged"
 says loop 1 '8000::/1 damaged: too deep' "$damaged"
 says nested 1 '8000::/1 damaged: too deep' "$damaged"
