@@ -1,6 +1,8 @@
 -- The slots and the others find each spelling, also once a new one was put.
-use Rattle.std.proofs.Common.{◌≡◌, ◌≢◌, ◌⊎◌, inl, inr, ℕ, zero, suc, ◌+◌, ◌<◌, Bool, true, false, cond}
-use Rattle.std.proofs.Common.{true≢false, List, [], ◌∷◌, ◌++◌, length, get_or, slice_get, set, take, drop}
+use Rattle.std.proofs.Common.{◌≡◌, ◌≢◌, ◌⊎◌, inl, inr, ℕ, zero, suc, ◌+◌, ◌<◌, Bool, true, false}
+use Rattle.std.proofs.Common.{cond}
+use Rattle.std.proofs.Common.{true≢false, List, [], ◌∷◌, ◌++◌, length, get_or, slice_get, set, take}
+use Rattle.std.proofs.Common.{drop}
 use Rattle.std.proofs.Common.{replicate, Option, Some, None, refl, sym, ap, subst, ◌∙◌, arith}
 use Rattle.std.proofs.Common.{length-append, map as map_list}
 use Rattle.std.proofs.lemmas.Grind.{get_or_default_zero}
@@ -175,7 +177,8 @@ module _ (entries : Entries) (slots : List ℕ) (others : BTreeMap (Vec ℕ) ℕ
             ap (λ (r : ℕ). get_or (set slots q (suc (length entries))) r 0) same,
             set_here slots q (suc (length entries)) free.1,
           ))
-          | inr differs ↦ inl (sym (set_other slots q p (suc (length entries)) differs) ∙ sym read ∙ is)
+          | inr differs ↦ inl (sym (set_other slots q p (suc (length entries)) differs)
+              ∙ sym read ∙ is)
         ]
     | inr rest ↦ slot_old_or_new ps rest.1 p k is
   ]
@@ -600,7 +603,8 @@ pub table_next : (list : List (Vec ℕ × ℕ)) (n : ℕ) (e : Vec ℕ × ℕ) (
 table_next list n e slots slots' others others' within is news table put =
     let entries : Entries = map_list entry_view list in
     let read : slice_get entries n ≡ Some (entry_view e) =
-    viewed list n ∙ ap (option_map entry_view) (slice_get_read list (length list) n e refl within is) in
+    viewed list n ∙ ap (option_map entry_view) (slice_get_read list
+    (length list) n e refl within is) in
     let next = take_next entries n (entry_view e) read in
     let count : n ≡ length (take n entries) = sym next.1 in
     let one : take (n + 1) entries ≡ take n entries ++ (e.0.items, e.1) ∷ [] =
@@ -626,7 +630,8 @@ table_same entries slots others others' same table = record {
   within = table.within;
   of = λ x at is. table.of x at (sym (gives x) ∙ is);
   finds = λ x.
-      ap (λ (r : Option ℕ). look entries slots r x.items (slots_of x.items (length slots))) (gives x)
+      ap (λ (r : Option ℕ). look entries slots r x.items (slots_of x.items (length slots)))
+      (gives x)
       ∙ table.finds x;
 }
   where

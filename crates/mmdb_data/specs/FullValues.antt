@@ -1,6 +1,7 @@
 -- How the values that stand in full are found: at two slots of their spellings, or in an ordered
 -- map.
-use Rattle.std.specs.Prelude.{◌≡◌, ◌≢◌, ◌⊎◌, ℕ, zero, suc, ◌+◌, ◌-◌, ◌%◌, ◌<◌, cond, nat_eq, List, []}
+use Rattle.std.specs.Prelude.{◌≡◌, ◌≢◌, ◌⊎◌, ℕ, zero, suc, ◌+◌, ◌-◌, ◌%◌, ◌<◌, cond, nat_eq, List}
+use Rattle.std.specs.Prelude.{[]}
 use Rattle.std.specs.Prelude.{◌∷◌, length, get_or, slice_get, set, take, Option, Some, None}
 use Rattle.std.specs.BTreeMap.{BTreeMap, get}
 use Rattle.std.specs.Cmp.Lexicographic.{pointwise, slice_cmp}
@@ -63,7 +64,8 @@ IsOther x at old new = (y : Vec ℕ) → get bytes_cmp new y
     ≡ cond (pointwise nat_eq x.items y.items) (Some at) (get bytes_cmp old y)
 
 -- the number went to the first free one of these slots, or the spelling to the others
-abbrev pub IsPut : List ℕ → List ℕ → BTreeMap (Vec ℕ) ℕ → BTreeMap (Vec ℕ) ℕ → ℕ → Vec ℕ → ℕ → List ℕ
+abbrev pub IsPut : List ℕ → List ℕ → BTreeMap (Vec ℕ) ℕ → BTreeMap (Vec ℕ) ℕ → ℕ → Vec ℕ → ℕ
+    → List ℕ
     → Type 0
 IsPut slots slots' others others' n x at [] = (slots' ≡ slots) × IsOther x at others others'
 IsPut slots slots' others others' n x at (p ∷ ps) =

@@ -116,7 +116,8 @@ impl Selection {
 
     // Whether a wanted name begins with the letter that a name begins with.
     fn may_want(&self, name: &[u8]) -> bool
-        ensures { result ≡ false → is_among (map to_ascii_lowercase name.now) self.now.names ≡ false }
+        ensures { result ≡ false
+            → is_among (map to_ascii_lowercase name.now) self.now.names ≡ false }
     {
         match name {
             [first, ..] => self.begins[usize::from(first.to_ascii_lowercase())],
