@@ -54,8 +54,9 @@ function stats(file,    n, at, cut) {
         at = below(4) ? four() : six()
         split(at, cut, "/")
         if (at !~ /:/) cut[2] = below(3) ? 2 ^ (32 - (cut[2] == "" ? 32 : cut[2])) : 1 + below(2000)
-        print "x|" pick("DE AT CH ZZ FR de") "|" (at ~ /:/ ? "ipv6" : "ipv4") "|" cut[1] "|" cut[2] \
-            "||" pick("allocated assigned allocated assigned available") > file
+        at = "|" (at ~ /:/ ? "ipv6" : "ipv4") "|" cut[1] "|" cut[2] "||"
+        print "x|" pick("DE AT CH ZZ FR de") at \
+            pick("allocated assigned allocated assigned available") > file
     }
     close(file)
 }
@@ -84,7 +85,8 @@ function feed(file,    n) {
 }
 
 function own(file,    n) {
-    for (n = below(4); n >= 0; n--) print key() "," pick("set,DE,,Bonn void set,JP set,,, set") > file
+    for (n = below(4); n >= 0; n--)
+        print key() "," pick("set,DE,,Bonn void set,JP set,,, set") > file
     close(file)
 }
 
