@@ -6,6 +6,7 @@ set -u
 cd "$(dirname "${BASH_SOURCE[0]}")/.." || exit 1
 top=$PWD
 . checks/with_program.bash
+command -v python3 > /dev/null || skip "the pages: package python3"
 export PATH=$work/bin:$PATH:/usr/sbin:/sbin
 mkdir bin
 ln -s "$program" bin/geofeed

@@ -46,6 +46,8 @@ printf 'nonsense\n\n192.0.2.0/24\n 192.0.2.200 \nfe80::1%%eth0\n\033[2J\n' | "$l
 192.0.2.200 192.0.2.192/26 none
 "fe80::1%eth0" - no address of the file
 "\u001b[2J" - no address' ] || fail "--ask of no addresses prints '$(cat printed)'"
+printf '\377\n' | LC_ALL=en_US.ISO-8859-1 PYTHONIOENCODING=latin1 "$list" --ask expected/geo.mmdb > printed 2> told
+[ "$(cat printed)" = $'"\xef\xbf\xbd" - no address' ] || fail "bytes that are no text are asked as '$(cat printed told)'"
 cd ..
 
 # 300,000 lines, and what differs after some of them changed, and after one did.
