@@ -49,7 +49,8 @@ static string spelled(u64 number) { return string((const char *)&number, 8); }
 static u64 mark_of(const string &text) {
     u64 mark = text.size();
     size_t at = 0;
-    for (; at + 8 <= text.size(); at += 8) mark = folded(mark ^ word(bytes_of(text) + at), MULTIPLIER);
+    for (; at + 8 <= text.size(); at += 8)
+        mark = folded(mark ^ word(bytes_of(text) + at), MULTIPLIER);
     u64 last = 0;
     for (; at < text.size(); at++) last = last << 8 | bytes_of(text)[at];
     return folded(mark ^ last, MULTIPLIER);
@@ -63,7 +64,8 @@ struct Fold {
         if (len <= 8) {
             u64 read = 0;
             if (len >= 4) read = half_word(bytes) | half_word(bytes + len - 4) << 32;
-            else if (len > 0) read = bytes[0] | (u64)bytes[len / 2] << 8 | (u64)bytes[len - 1] << 16;
+            else if (len > 0)
+                read = bytes[0] | (u64)bytes[len / 2] << 8 | (u64)bytes[len - 1] << 16;
             state = folded(state ^ read, MULTIPLIER ^ (2 * len));
             return;
         }
@@ -122,7 +124,7 @@ static u64 spelling_hash(const string &city) {
 
 static string searched(u64 (*hash)(const string &), u64 window, u64 wanted) {
     for (;;) {
-        string text = letters(16);
+        string text = letters(8);
         if ((hash(text) & window) == wanted) return text;
     }
 }
@@ -148,7 +150,7 @@ int main(int count_of_words, char **words) {
     while (family == "cache" && !honest && turns.size() < 3)
         turns.push_back(searched(mark_of, (1 << 20) - 1, 0x12345));
     for (unsigned n = 0; n < count; n++) {
-        if (honest) put_city(n, letters(family == "places" ? 32 : 16));
+        if (honest) put_city(n, letters(family == "places" ? 32 : 8));
         else if (family == "places") put_city(n, front + letters(8));
         else if (family == "texts") put_city(n, searched(mark_of, 0xfff, 0x123));
         else if (family == "packed") put_city(n, searched(spelling_hash, 0xfff, 0x123));
