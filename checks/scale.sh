@@ -13,7 +13,8 @@ world=$PWD/bench/world.awk
 runs() {
     local seconds=$1 kilobytes=$2
     shift 2
-    (ulimit -v "$kilobytes" -t "$seconds" && exec timeout $((20 * seconds)) "$program" "$@") > printed
+    (ulimit -v "$kilobytes" -t "$seconds" \
+        && exec timeout $((20 * seconds)) "$program" "$@") > printed
     status=$?
 }
 
