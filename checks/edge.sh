@@ -12,7 +12,7 @@ ulimit -c 0
 # puts STATUS LINE [JOB]: the job ends so, and the last line on standard output begins so.
 puts() {
     local printed last
-    printed=$(timeout 10 "$program" build "${3:-job}" 2> told)
+    printed=$(timeout 60 "$program" build "${3:-job}" 2> told)
     status=$?
     last=${printed##*$'\n'}
     [ "$status" -eq "$1" ] && [[ "$last" == "$2"* ]] \
@@ -150,7 +150,7 @@ rmdir .geofeed\ new\ *
 mkfifo pipe
 puts 3 'stop read pipe' pipe && told 'not a regular file'
 job out.mmdb pipe > bad && puts 3 'stop read pipe' bad
-timeout 10 "$program" lookup pipe 192.0.2.1 > printed 2> told
+timeout 60 "$program" lookup pipe 192.0.2.1 > printed 2> told
 [ $? -eq 3 ] || fail "a lookup in a pipe ends otherwise: $(cat printed)"
 job pipe > bad && puts 0 'emit pipe' bad && is_whole pipe
 

@@ -9,11 +9,12 @@ world=$PWD/bench/world.awk
 . checks/with_program.bash
 
 # runs SECONDS KILOBYTES WORDS..: what the program prints, in the file `printed`, and its status in
-# `status`.
+# `status`. The seconds are those of the processor, so that a busy machine fails nothing.
 runs() {
     local seconds=$1 kilobytes=$2
     shift 2
-    (ulimit -v "$kilobytes" && exec timeout "$seconds" "$program" "$@") > printed
+    (ulimit -v "$kilobytes" -t "$seconds" \
+        && exec timeout $((20 * seconds)) "$program" "$@") > printed
     status=$?
 }
 
@@ -100,6 +101,7 @@ if needs perl perl; then
     [ "$status" -eq 0 ] && [ "$(head -n 1 printed)" = 'notes 0' ] \
         && grep -q '^emit wide.mmdb nodes .* bits 28 bytes ' printed \
         || fail "records of 28 bits end with status $status and '$(cat printed)'"
+    [ "$status" -eq 0 ] || verdict
     has_mmdblookup=
     ! needs mmdblookup mmdb-bin || has_mmdblookup=yes
     while read -r at city; do
