@@ -151,6 +151,8 @@ else
             location / { return 200 \"\$geo_country \$geo_region \$geo_city\n\"; } }"
     asks() { curl -fsS --unix-socket "$here/nginx.sock" "http://geo/?ip=$1" 2>&1; }
     [ "$(asks 192.0.2.1)" = 'DE none none' ] && [ "$(asks 192.0.3.1)" = 'none none none' ] || fail "nginx answers '$(asks 192.0.2.1)': $(cat error.log)"
+    # nginx tells files apart by their times, in whole seconds.
+    sleep 2
     echo '192.0.2.0/24,set,AT,AT-9,Wien' > own.csv
     sed -i 's/^emit/overrides own.csv\nemit/' job
     "$program" build job > printed || fail "the job for $page ends with status $?"
