@@ -7,7 +7,8 @@ top=$PWD
 . checks/with_program.bash
 
 "$top/install" "$work/usr" > printed 2>&1 || fail "it ends with status $?: $(cat printed)"
-for file in bin/geofeed bin/feeds-of-dump bin/geofeed-daily bin/geofeed-notes share/man/man1/geofeed.1 \
+for file in bin/geofeed bin/feeds-of-dump bin/geofeed-daily bin/geofeed-notes bin/geofeed-set \
+    bin/mmdb-list bin/mmdb-map share/man/man1/mmdb-map.1 share/doc/geofeed/docs/map.png share/man/man1/geofeed.1 \
     share/man/man1/geofeed-daily.1 share/bash-completion/completions/geofeed lib/systemd/system/geofeed-daily.timer \
     lib/sysusers.d/geofeed.conf share/doc/geofeed/examples/daily.conf share/doc/geofeed/README.md share/doc/geofeed/docs/stops.md share/doc/geofeed/examples/first/job \
     share/doc/geofeed/examples/realistic/expected/printed; do
