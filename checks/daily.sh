@@ -1,8 +1,9 @@
 #!/usr/bin/env bash
-# geofeed-daily on made days, by the tables of checks/daily/days.py: over thirty days in a row with one fault each, what a
-# person does about a refusal, two runs at once, runs that are killed at each command and at calls of the system, and a disk
-# that is full at each write. And the crontab line of its manual under cron's environment, and systemd's view of the units.
-# ALL=1 tries each call and each page of the disk, and not one in five.
+# geofeed-daily on made days, by the tables of checks/daily/days.py: over thirty days in a row with
+# one fault each, what a person does about a refusal, two runs at once, runs that are killed at each
+# command and at calls of the system, and a disk that is full at each write. And the crontab line of
+# its manual under cron's environment, and systemd's view of the units. ALL=1 tries each call and
+# each page of the disk, and not one in five.
 set -u
 cd "$(dirname "${BASH_SOURCE[0]}")/.." || exit 1
 top=$PWD
@@ -35,12 +36,15 @@ mkdir -p home/geo net
 } > net/statistics
 printf 'inetnum: 192.0.2.0/24\ngeofeed: https://x.example/none\n' > net/dump
 printf '#!/bin/sh\ncp "%s/net/${2##*/}" "$1"\n' "$work" > fetch && chmod +x fetch
-printf 'statistics = https://x.example/statistics\ndump d = https://x.example/dump\nleast-records = 2\ndisk = 1m\n' > home/geo/daily.conf
+printf '%s\n' 'statistics = https://x.example/statistics' 'dump d = https://x.example/dump' \
+    'least-records = 2' 'disk = 1m' > home/geo/daily.conf
 line=$(sed -n 's/^23 4 \* \* \* //p' "$top/contrib/geofeed-daily.1" | tr -d '\\')
 [ -n "$line" ] || fail "the manual has no line for crontab"
 env -i HOME="$work/home" LOGNAME=me SHELL=/bin/sh PATH=/usr/bin:/bin FETCH="$work/fetch" \
-    /bin/sh -c "${line//\/usr\/local\/bin/$work/usr/bin}" > printed 2>&1 || fail "under cron it says '$(cat printed)'"
-[ ! -s printed ] && [ "$("$program" lookup home/geo/city.mmdb 192.0.2.1)" = '{"country":{"iso_code":"CH"}}' ] \
+    /bin/sh -c "${line//\/usr\/local\/bin/$work/usr/bin}" > printed 2>&1 \
+    || fail "under cron it says '$(cat printed)'"
+[ ! -s printed ] \
+    && [ "$("$program" lookup home/geo/city.mmdb 192.0.2.1)" = '{"country":{"iso_code":"CH"}}' ] \
     || fail "under cron it makes another file, and says '$(cat printed)'"
 
 if command -v systemd-analyze > /dev/null; then
@@ -49,6 +53,7 @@ if command -v systemd-analyze > /dev/null; then
 else
     echo "$check: not tried: the units, for want of the package systemd"
 fi
-grep -q '^PrivateNetwork=yes' "$top/contrib/systemd/geofeed-daily.service" || fail "the unit that builds has a network"
+grep -q '^PrivateNetwork=yes' "$top/contrib/systemd/geofeed-daily.service" \
+    || fail "the unit that builds has a network"
 
 verdict

@@ -1,7 +1,8 @@
 #!/usr/bin/env bash
-# `feeds-of-dump --fetch` and one whole `geofeed-daily` with the real `curl`, against servers by TLS with a CA of their own,
-# in a network and with names of their own (checks/daily/server.py): what is taken, what is refused and why, and which
-# addresses are never asked. The table is at the end of this file.
+# `feeds-of-dump --fetch` and one whole `geofeed-daily` with the real `curl`, against servers by TLS
+# with a CA of their own, in a network and with names of their own (checks/daily/server.py): what is
+# taken, what is refused and why, and which addresses are never asked. The table is at the end of
+# this file.
 set -u
 cd "$(dirname "${BASH_SOURCE[0]}")/.." || exit 1
 script=$PWD/contrib/feeds-of-dump
@@ -9,21 +10,26 @@ daily=$PWD/contrib/geofeed-daily
 server=$PWD/checks/daily/server.py
 table=$PWD/checks/fetch.sh
 . checks/with_program.bash
-for need in curl:curl openssl:openssl ip:iproute2 unshare:util-linux mount:mount /usr/bin/python3:python3; do
+for need in curl:curl openssl:openssl ip:iproute2 unshare:util-linux mount:mount \
+    /usr/bin/python3:python3; do
     command -v "${need%%:*}" > /dev/null || skip "package ${need#*:}"
 done
 own=(unshare --net --mount)
 [ "$(id -u)" -eq 0 ] || own=(unshare --user --map-root-user --net --mount)
-"${own[@]}" ip link set lo up 2> told || skip "a network of its own cannot be made here: $(cat told)"
+"${own[@]}" ip link set lo up 2> told \
+    || skip "a network of its own cannot be made here: $(cat told)"
 
 # certificate NAME CA DAYS NAMES: a key and a certificate for these names.
 certificate() {
-    openssl req -newkey ec -pkeyopt ec_paramgen_curve:prime256v1 -nodes -keyout "$1.key" -out "$1.csr" -subj "/CN=$1" 2> told \
-        && openssl x509 -req -in "$1.csr" -CA "$2.pem" -CAkey "$2.key" -CAcreateserial -days "$3" -out "$1.pem" \
-            -extfile <(echo "subjectAltName=$4") 2> told || fail "openssl makes no certificate: $(cat told)"
+    openssl req -newkey ec -pkeyopt ec_paramgen_curve:prime256v1 -nodes \
+        -keyout "$1.key" -out "$1.csr" -subj "/CN=$1" 2> told \
+        && openssl x509 -req -in "$1.csr" -CA "$2.pem" -CAkey "$2.key" -CAcreateserial \
+            -days "$3" -out "$1.pem" -extfile <(echo "subjectAltName=$4") 2> told \
+        || fail "openssl makes no certificate: $(cat told)"
 }
 for ca in ca otherca; do
-    openssl req -x509 -newkey ec -pkeyopt ec_paramgen_curve:prime256v1 -nodes -days 30 -keyout $ca.key -out $ca.pem -subj "/CN=$ca" 2> told \
+    openssl req -x509 -newkey ec -pkeyopt ec_paramgen_curve:prime256v1 -nodes -days 30 \
+        -keyout $ca.key -out $ca.pem -subj "/CN=$ca" 2> told \
         || fail "openssl makes no CA: $(cat told)"
 done
 names=DNS:localhost,IP:127.0.0.1,IP:::1,IP:9.9.9.9
@@ -75,7 +81,8 @@ while read -r one; do kill "$one"; done < servers
 END
 
 cat > asks <<'END'
-"$script" --fetch list --limit 2000000 --seconds 3 --at-once 40 --contact noc@me.example 2> told.first
+"$script" --fetch list --limit 2000000 --seconds 3 --at-once 40 \
+    --contact noc@me.example 2> told.first
 echo $? > status.first
 cp list.index index.first
 cp -r feeds feeds.first
@@ -93,8 +100,11 @@ mv log log.day
 "$daily" --config daily.conf > told.next 2>&1; echo $? >> told.next
 END
 
-# The table: URL, `taken` or the reason's beginning.
-sed -n '/^# TABLE$/,$s/^# \(https:[^ ]*\) \(.*\)$/\1 \2/p' "$table" > cases
+# The table: URL, and `taken` or how the reason begins, with OWN for the words that follow below.
+sed -n '/^# TABLE$/,${
+    s/, OWN/, which is an address of the own network/
+    s/^# \(https:[^ ]*\) \(.*\)$/\1 \2/p
+}' "$table" > cases
 awk '{ print $1, "feeds/" ($1 ~ /tagged$/ ? "tagged" : NR) }' cases > list
 echo 'https://geo.example/ok feeds/denied' > denied
 echo 'https://loop.example/ok feeds/own' > own
@@ -106,16 +116,20 @@ printf '192.0.2.0/24,CH\n' > served/tagged && cp served/tagged served/altered
     echo 'nro|AT|ipv6|2001:db8::|32|20240301|allocated|b|e-stats'
     echo 'nro|DE|ipv4|198.51.100.0|256|20240301|allocated|c|e-stats'
 } > served/statistics
-printf 'inetnum: 192.0.2.0 - 192.0.2.255\ngeofeed: https://geo.example/tagged\n\ninetnum: 198.51.100.0/24\ngeofeed: https://loop.example/secret\n' \
+printf '%s\n' 'inetnum: 192.0.2.0 - 192.0.2.255' 'geofeed: https://geo.example/tagged' '' \
+    'inetnum: 198.51.100.0/24' 'geofeed: https://loop.example/secret' \
     | gzip > served/dump.gz
-printf 'folder = daily\nleast-records = 1\ndisk = 1m\nstatistics = https://geo.example/statistics\ndump r = https://six.example/dump.gz\n' > daily.conf
+printf '%s\n' 'folder = daily' 'least-records = 1' 'disk = 1m' \
+    'statistics = https://geo.example/statistics' 'dump r = https://six.example/dump.gz' \
+    > daily.conf
 mkdir -p bin && ln -s "$program" bin/geofeed
 export PATH=$work/bin:$PATH script daily server work
 "${own[@]}" bash inside > printed 2>&1 || fail "the servers do not run: $(cat printed)"
 
 # why URL: what the index says of it.
 why() {
-    /usr/bin/python3 -I -c 'import json, sys; print(json.load(open(sys.argv[1])).get(sys.argv[2], {}).get("why", "taken"))' index.first "$1"
+    /usr/bin/python3 -I -c 'import json, sys; print(json.load(open(sys.argv[1]))
+        .get(sys.argv[2], {}).get("why", "taken"))' index.first "$1"
 }
 while read -r url wanted; do
     found=$(why "$url")
@@ -127,20 +141,30 @@ while read -r url wanted; do
         fail "$url leaves a file"
     fi
 done < cases
-[ "$(wc -l < cases)" -ge 50 ] && [ "$(cat status.first)" = 1 ] || fail "the table has $(wc -l < cases) rows, the status is $(cat status.first)"
-grep -E '^(127|::1)' log.first log.again > asked && fail "an address of the own network is asked: $(cat asked)"
+[ "$(wc -l < cases)" -ge 50 ] && [ "$(cat status.first)" = 1 ] \
+    || fail "the table has $(wc -l < cases) rows, the status is $(cat status.first)"
+grep -E '^(127|::1)' log.first log.again > asked \
+    && fail "an address of the own network is asked: $(cat asked)"
 grep -q 'secret' log.again && fail "what is behind a redirect to this host is asked for"
 [ -z "$(find . -name '*.new')" ] || fail "it leaves $(find . -name '*.new')"
-grep -q "/tagged .*'If-None-Match: " log.again && grep -q "/modified .*'If-Modified-Since: " log.again || fail "it asks for all anew: $(cat log.again)"
+grep -q "/tagged .*'If-None-Match: " log.again \
+    && grep -q "/modified .*'If-Modified-Since: " log.again \
+    || fail "it asks for all anew: $(cat log.again)"
 grep -q "/altered .*'If-" log.again && fail "it asks on what was changed here: $(cat log.again)"
 [ ! -s told.again ] || fail "of files that are as they were it says '$(cat told.again)'"
-grep -q '9.9.9.9, which is an address of the own network (denied)' told.denied || fail "--deny is not kept: $(cat told.denied)"
-[ "$(cat feeds/own 2> /dev/null)" = '192.0.2.0/25,CH,CH-ZH,Zurich,' ] || fail "--own-network takes it not: $(cat told.own)"
-[ "$(cat told.day)" = 0 ] && [ "$(cat told.next)" = 0 ] || fail "the daily run says '$(cat told.day told.next)'"
-grep -q 'User-Agent: feeds-of-dump/.* (postmaster@' log.day || fail "there is no contact: $(cat log.day)"
+grep -q '9.9.9.9, which is an address of the own network (denied)' told.denied \
+    || fail "--deny is not kept: $(cat told.denied)"
+[ "$(cat feeds/own 2> /dev/null)" = '192.0.2.0/25,CH,CH-ZH,Zurich,' ] \
+    || fail "--own-network takes it not: $(cat told.own)"
+[ "$(cat told.day)" = 0 ] && [ "$(cat told.next)" = 0 ] \
+    || fail "the daily run says '$(cat told.day told.next)'"
+grep -q 'User-Agent: feeds-of-dump/.* (postmaster@' log.day \
+    || fail "there is no contact: $(cat log.day)"
 [ "$(grep -c "'If-None-Match: " log)" -eq 3 ] || fail "the next day asks for all anew: $(cat log)"
-[ "$("$program" lookup daily/city.mmdb 192.0.2.1)" = '{"country":{"iso_code":"CH"}}' ] || fail "the daily file is another"
-grep -q '^https://loop.example/secret: loop.example is 127.0.0.1' daily/runs/000002/feeds.missing || fail "it does not say what is missing"
+[ "$("$program" lookup daily/city.mmdb 192.0.2.1)" = '{"country":{"iso_code":"CH"}}' ] \
+    || fail "the daily file is another"
+grep -q '^https://loop.example/secret: loop.example is 127.0.0.1' daily/runs/000002/feeds.missing \
+    || fail "it does not say what is missing"
 
 verdict
 exit
@@ -155,29 +179,29 @@ exit
 # https://9.9.9.9/ok taken
 # https://geo.example/redirect/5 taken
 # https://geo.example/redirect/6 more than 5 redirects
-# https://geo.example/to/https://loop.example/secret loop.example is 127.0.0.1, which is an address of the own network (loopback)
-# https://geo.example/to/https://127.0.0.1/secret 127.0.0.1 is 127.0.0.1, which is an address of the own network (loopback)
-# https://geo.example/to/https://metadata.example/secret metadata.example is 169.254.169.254, which is an address of the own network
+# https://geo.example/to/https://loop.example/secret loop.example is 127.0.0.1, OWN (loopback)
+# https://geo.example/to/https://127.0.0.1/secret 127.0.0.1 is 127.0.0.1, OWN (loopback)
+# https://geo.example/to/https://metadata.example/secret metadata.example is 169.254.169.254, OWN
 # https://geo.example/to/http://geo.example/ok it is redirected to a URL that is not https
 # https://geo.example/to/file:///etc/passwd it is redirected to a URL that is not https
 # https://geo.example/to/https://[x/ it is redirected to a URL that is not https
-# https://rebind.example/rebind rebind.example is 127.0.0.1, which is an address of the own network (loopback)
-# https://loop.example/secret loop.example is 127.0.0.1, which is an address of the own network (loopback)
-# https://loop6.example/secret loop6.example is ::1, which is an address of the own network (loopback)
-# https://both.example/secret both.example is 127.0.0.1, which is an address of the own network (loopback)
+# https://rebind.example/rebind rebind.example is 127.0.0.1, OWN (loopback)
+# https://loop.example/secret loop.example is 127.0.0.1, OWN (loopback)
+# https://loop6.example/secret loop6.example is ::1, OWN (loopback)
+# https://both.example/secret both.example is 127.0.0.1, OWN (loopback)
 # https://localhost/secret localhost is
 # https://127.0.0.1/secret 127.0.0.1 is 127.0.0.1, which is
 # https://2130706433/secret 2130706433 is 127.0.0.1, which is
 # https://0x7f.1/secret 0x7f.1 is 127.0.0.1, which is
-# https://0/secret 0 is 0.0.0.0, which is an address of the own network (this host)
-# https://[::1]/secret [::1] is ::1, which is an address of the own network (loopback)
-# https://[::ffff:127.0.0.1]/secret [::ffff:127.0.0.1] is ::ffff:127.0.0.1, which is an address of the own network (loopback)
-# https://private.example/ok private.example is 10.1.2.3, which is an address of the own network (private)
-# https://local.example/ok local.example is fd00::1, which is an address of the own network (unique local)
+# https://0/secret 0 is 0.0.0.0, OWN (this host)
+# https://[::1]/secret [::1] is ::1, OWN (loopback)
+# https://[::ffff:127.0.0.1]/secret [::ffff:127.0.0.1] is ::ffff:127.0.0.1, OWN (loopback)
+# https://private.example/ok private.example is 10.1.2.3, OWN (private)
+# https://local.example/ok local.example is fd00::1, OWN (unique local)
 # https://mapped.example/ok mapped.example is
-# https://sixtofour.example/ok sixtofour.example is 2002:7f00:1::, which is an address of the own network (loopback)
-# https://translated.example/ok translated.example is 64:ff9b::7f00:1, which is an address of the own network (loopback)
-# https://224.0.0.1/ok 224.0.0.1 is 224.0.0.1, which is an address of the own network (multicast)
+# https://sixtofour.example/ok sixtofour.example is 2002:7f00:1::, OWN (loopback)
+# https://translated.example/ok translated.example is 64:ff9b::7f00:1, OWN (loopback)
+# https://224.0.0.1/ok 224.0.0.1 is 224.0.0.1, OWN (multicast)
 # https://nowhere.example/ok the name nowhere.example is not resolved
 # https://user@geo.example/ok the URL has no form that is fetched
 # https://geo.example:99999/ok the URL has no form that is fetched

@@ -1,27 +1,33 @@
 #!/usr/bin/env bash
-# contrib/mmdb-map: its table beside the census, its cells beside a curve that is made here in another way, what changed beside
-# what is known, how far its colours are apart for those who see fewer of them, its size at worst, files that are made to break
-# it, and how a real browser shows it (Debian's chromium, where it is there).
+# contrib/mmdb-map: its table beside the census, its cells beside a curve that is made here in
+# another way, what changed beside what is known, how far its colours are apart for those who see
+# fewer of them, its size at worst, files that are made to break it, and how a real browser shows it
+# (Debian's chromium, where it is there).
 set -u
 cd "$(dirname "${BASH_SOURCE[0]}")/.." || exit 1
 map=$PWD/contrib/mmdb-map
 made=$PWD/bench/statistics.awk
 . checks/with_program.bash
-/usr/bin/python3 -c 'import maxminddb.decoder' 2> /dev/null || skip "mmdb-map: package python3-maxminddb"
+/usr/bin/python3 -c 'import maxminddb.decoder' 2> /dev/null \
+    || skip "mmdb-map: package python3-maxminddb"
 
-# draws PAGE WORDS..: the page is made within limits, whole, small, and without a script or anything from elsewhere.
+# draws PAGE WORDS..: the page is made within limits, whole, small, and without a script or anything
+# from elsewhere.
 draws() {
     local page=$1
     shift
-    (ulimit -v 600000 && ulimit -t 100 && exec "$map" "$@") > "$page" 2> told || fail "'$*' ends with status $?: $(tail -n 1 told)"
+    (ulimit -v 600000 && ulimit -t 100 && exec "$map" "$@") > "$page" 2> told \
+        || fail "'$*' ends with status $?: $(tail -n 1 told)"
     [ ! -s told ] || fail "'$*' says '$(cat told)'"
     [ "$(wc -c < "$page")" -le 2000000 ] || fail "the page of '$*' has $(wc -c < "$page") bytes"
-    grep -qiE '<script|<link|<img|<iframe|<object|https?:|url\(|@import|src=|href=| on[a-z]+=' "$page" && fail "the page of '$*' has more in it than a page of this kind"
+    grep -qiE '<script|<link|<img|<iframe|<object|https?:|url\(|@import|src=|href=| on[a-z]+=' \
+        "$page" && fail "the page of '$*' has more in it than a page of this kind"
     python3 page.py "$page" || fail "the page of '$*' is not whole"
 }
 
 cat > page.py <<'X'
-"""A page whose every tag that needs one has its end; `cells` gives the colour of each cell of its first map or second one."""
+"""A page whose every tag that needs one has its end; `cells` gives the colour of each cell of its
+first map or second one."""
 import html.parser, re, sys
 
 class Whole(html.parser.HTMLParser):
@@ -32,7 +38,8 @@ class Whole(html.parser.HTMLParser):
         if tag == "svg": self.paths.append([])
         if tag == "tr": self.rows.append([])
         if tag == "path": self.paths[-1].append(dict(attributes))
-        if tag not in ("meta",) and not self.get_starttag_text().endswith("/>"): self.open.append(tag)
+        if tag not in ("meta",) and not self.get_starttag_text().endswith("/>"):
+            self.open.append(tag)
     def handle_endtag(self, tag):
         assert tag in ("path",) or self.open.pop() == tag, tag
     def handle_data(self, data):
@@ -66,16 +73,21 @@ cat > rows.py <<'X'
 """The rows of the table of countries."""
 import sys, page
 for row in page.parsed(sys.argv[1]).rows:
-    if len(row) >= 3 and row[0] != "country": print(row[0], row[1].replace(",", ""), *[cell.replace(",", "") for cell in row[3:] if cell])
+    if len(row) >= 3 and row[0] != "country":
+        numbers = [cell.replace(",", "") for cell in row[3:] if cell]
+        print(row[0], row[1].replace(",", ""), *numbers)
 X
 python3 rows.py page.html | sort | cmp -s - wanted || fail "the table is not the census"
 
-# A cell's colour, by the key: 4,000 /16 of nine countries at random, and /17 beside them that are less than half of a cell.
+# A cell's colour, by the key: 4,000 /16 of nine countries at random, and /17 beside them that are
+# less than half of a cell.
 cat > known.py <<'X'
-"""Statistics of cells at random, and where each cell is: a curve of four smaller ones, made from the top."""
+"""Statistics of cells at random, and where each cell is: a curve of four smaller ones, made from
+the top."""
 import random, sys
 random.seed(20240304)
-codes = {cell: random.choice("DE FR IT US CH AT JP BR NL".split()) for cell in random.sample(range(65536), 4000)}
+codes = {cell: random.choice("DE FR IT US CH AT JP BR NL".split())
+         for cell in random.sample(range(65536), 4000)}
 
 def curve(cells, x, y, right, down):
     """The cells go from one corner of a square along its first side to the other end of it."""
@@ -91,7 +103,8 @@ def curve(cells, x, y, right, down):
     yield from curve(cells[:quarter], x, y, dn, r)
     yield from curve(cells[quarter:2 * quarter], x + dn[0], y + dn[1], r, dn)
     yield from curve(cells[2 * quarter:3 * quarter], x + dn[0] + r[0], y + dn[1] + r[1], r, dn)
-    yield from curve(cells[3 * quarter:], x + 2 * r[0] - r1[0] + dn[0] - d1[0], y + 2 * r[1] - r1[1] + dn[1] - d1[1],
+    yield from curve(cells[3 * quarter:], x + 2 * r[0] - r1[0] + dn[0] - d1[0],
+                     y + 2 * r[1] - r1[1] + dn[1] - d1[1],
                      (-dn[0], -dn[1]), (-r[0], -r[1]))
 
 # From the top left to the top right, by way of the bottom.
@@ -107,10 +120,13 @@ else:
     key = {row[0].strip(): None for row in found.rows[:9]}
     text = open(sys.argv[1], encoding="utf-8").read()
     import re
-    key = dict((name, colour) for colour, name in re.findall(r'background:(#[0-9a-f]{6})"></i> ([^<]*)<', text))
+    key = dict((name, colour) for colour, name in
+               re.findall(r'background:(#[0-9a-f]{6})"></i> ([^<]*)<', text))
     drawn = page.cells(found, 0)
     assert sorted(places.values()) == [(x, y) for x in range(256) for y in range(256)]
-    assert all(abs(places[at][0] - places[at + 1][0]) + abs(places[at][1] - places[at + 1][1]) == 1 for at in range(65535))
+    for at in range(65535):
+        (x, y), (next_x, next_y) = places[at], places[at + 1]
+        assert abs(x - next_x) + abs(y - next_y) == 1
     for cell, (x, y) in places.items():
         wanted = key["none"] if cell not in codes else key.get(codes[cell], key["all others"])
         assert drawn[y][x] == wanted, (cell, x, y, drawn[y][x], wanted)
@@ -122,13 +138,17 @@ draws cells.html cells.mmdb
 python3 known.py cells.html 2> told || fail "the map's cells are others: $(tail -n 1 told)"
 
 # What changed: a country more, one less, one to another, and a city alone.
-printf '%s\n' 'x|DE|ipv4|10.0.0.0|65536||allocated' 'x|FR|ipv4|10.1.0.0|256||allocated' 'x|US|ipv4|10.2.0.0|4096||allocated' > old.txt
-printf '%s\n' 'x|DE|ipv4|10.0.0.0|65536||allocated' 'x|JP|ipv4|10.2.0.0|4096||allocated' 'x|JP|ipv4|10.3.0.0|65536||allocated' > new.txt
+printf '%s\n' 'x|DE|ipv4|10.0.0.0|65536||allocated' 'x|FR|ipv4|10.1.0.0|256||allocated' \
+    'x|US|ipv4|10.2.0.0|4096||allocated' > old.txt
+printf '%s\n' 'x|DE|ipv4|10.0.0.0|65536||allocated' 'x|JP|ipv4|10.2.0.0|4096||allocated' \
+    'x|JP|ipv4|10.3.0.0|65536||allocated' > new.txt
 echo '10.0.0.0/24,set,DE,DE-BE,Berlin' > own.csv
-printf 'epoch 1700000000\nstats x old.txt\nemit old.mmdb\nstats x new.txt\noverrides own.csv\nemit new.mmdb\n' > job
+printf '%s\n' 'epoch 1700000000' 'stats x old.txt' 'emit old.mmdb' 'stats x new.txt' \
+    'overrides own.csv' 'emit new.mmdb' > job
 "$program" build job > printed || fail "the job of changes ends with status $?"
 draws changes.html new.mmdb old.mmdb
-grep -qF '<p>69,888 addresses have another country, and 256 another record of the same one.</p>' changes.html \
+grep -qF '<p>69,888 addresses have another country, and 256 another record of the same one.</p>' \
+    changes.html \
     || fail "what changed is told as '$(grep 'another country' changes.html)'"
 [ "$(python3 rows.py changes.html)" = 'JP 69632 +69632
 DE 65536
@@ -144,10 +164,15 @@ assert sum(colour != "#ffffff" for row in drawn for colour in row) == 3
 X
 
 # Two files that have no two cells alike, and as many changes.
-awk 'BEGIN { split("DE FR IT US CH AT JP", code, " ")
-    for (cell = 0; cell < 65536; cell++) for (half = 0; half < 2; half++)
-        printf "x|%s|ipv4|%d.%d.%d.0|32768||allocated\n", code[1 + (cell * 5 + half + int(cell / 7)) % 7], cell / 256, cell % 256, 128 * half }' > s.txt
-sed 's/|DE|/|xx|/; s/|FR|/|DE|/; s/|xx|/|FR|/; 40000,90000s/|US|/|BR|/; s/|ipv4|[0-9]*[13579]\./&/' s.txt > t.txt
+awk 'BEGIN {
+    split("DE FR IT US CH AT JP", code, " ")
+    for (cell = 0; cell < 65536; cell++) for (half = 0; half < 2; half++) {
+        name = code[1 + (cell * 5 + half + int(cell / 7)) % 7]
+        printf "x|%s|ipv4|%d.%d.%d.0|32768||allocated\n", name, cell / 256, cell % 256, 128 * half
+    }
+}' > s.txt
+sed -e 's/|DE|/|xx|/; s/|FR|/|DE|/; s/|xx|/|FR|/' \
+    -e '40000,90000s/|US|/|BR|/; s/|ipv4|[0-9]*[13579]\./&/' s.txt > t.txt
 printf 'epoch 1700000000\nstats x s.txt\nemit a.mmdb\nstats x t.txt\nemit b.mmdb\n' > job
 "$program" build job > printed || fail "the job of many cells ends with status $?"
 draws many.html a.mmdb b.mmdb
@@ -156,20 +181,25 @@ draws many.html a.mmdb b.mmdb
 cat > names.py <<'X'
 """Files of 60,000 records, whose country is a made text."""
 import struct
-def text(word): raw = word.encode(); return (bytes([0x40 | len(raw)]) if len(raw) < 29 else bytes([0x5d, len(raw) - 29])) + raw
+def text(word):
+    raw = word.encode()
+    return (bytes([0x40 | len(raw)]) if len(raw) < 29 else bytes([0x5d, len(raw) - 29])) + raw
 def number(value): raw = value.to_bytes(8, "big").lstrip(b"\0"); return bytes([len(raw), 2]) + raw
 def write(name, words):
     data, starts = b"", []
     for word in words:
-        starts.append(len(data)); data += b"\xe1" + text("country") + b"\xe1" + text("iso_code") + text(word)
+        starts.append(len(data))
+        data += b"\xe1" + text("country") + b"\xe1" + text("iso_code") + text(word)
     order, level = [], starts
     while len(level) > 1: level = [(level[i], level[i + 1]) for i in range(0, len(level) - 1, 2)]
     order = [level[0]]
     for one in order: order += [half for half in one if isinstance(half, tuple)]
     at = {id(one): i for i, one in enumerate(order)}
-    tree = b"".join((at[id(half)] if isinstance(half, tuple) else half + len(order) + 16).to_bytes(4, "big") for one in order for half in one)
-    about = text("binary_format_major_version") + b"\xa1\x02" + text("ip_version") + b"\xa1\x04" + text("node_count") + number(len(order)) \
-        + text("record_size") + b"\xa1\x20" + text("build_epoch") + number(1700000000)
+    tree = b"".join((at[id(half)] if isinstance(half, tuple) else half + len(order) + 16)
+                    .to_bytes(4, "big") for one in order for half in one)
+    about = text("binary_format_major_version") + b"\xa1\x02" + text("ip_version") + b"\xa1\x04" \
+        + text("node_count") + number(len(order)) + text("record_size") + b"\xa1\x20" \
+        + text("build_epoch") + number(1700000000)
     open(name, "wb").write(tree + bytes(16) + data + b"\xab\xcd\xefMaxMind.com\xe5" + about)
 write("names", [f"{i} is a country" for i in range(32768)])
 write("tags", ["<script>alert(1)</script>", "</td></table>", "&amp;\"'>", "\u202eDE"] * 64)
@@ -191,37 +221,47 @@ for words in broken 'a.mmdb broken' missing; do
     [ $? -eq 1 ] && [ ! -s printed ] || fail "'$words' end otherwise"
 done
 
-# Colours: any two are at least 15 apart (CIE 1976), as all see them and as those do who lack one kind of cones (by the
-# matrices of Machado, Oliveira and Fernandes, 2009). A difference of 2.3 is just seen.
+# Colours: any two are at least 15 apart (CIE 1976), as all see them and as those do who lack one
+# kind of cones (by the matrices of Machado, Oliveira and Fernandes, 2009). A difference of 2.3 is
+# just seen.
 cat > colours.py <<'X'
 import ast, itertools, sys
 kinds = {
     "all": ((1, 0, 0), (0, 1, 0), (0, 0, 1)),
-    "no red": ((0.152286, 1.052583, -0.204868), (0.114503, 0.786281, 0.099216), (-0.003882, -0.048116, 1.051998)),
-    "no green": ((0.367322, 0.860646, -0.227968), (0.280085, 0.672501, 0.047413), (-0.011820, 0.042940, 0.968881)),
-    "no blue": ((1.255528, -0.076749, -0.178779), (-0.078411, 0.930809, 0.147602), (0.004733, 0.691367, 0.303900))}
+    "no red": ((0.152286, 1.052583, -0.204868), (0.114503, 0.786281, 0.099216),
+               (-0.003882, -0.048116, 1.051998)),
+    "no green": ((0.367322, 0.860646, -0.227968), (0.280085, 0.672501, 0.047413),
+                 (-0.011820, 0.042940, 0.968881)),
+    "no blue": ((1.255528, -0.076749, -0.178779), (-0.078411, 0.930809, 0.147602),
+                (0.004733, 0.691367, 0.303900))}
 
 def lab(colour, kind):
     light = [int(colour[at:at + 2], 16) / 255 for at in (1, 3, 5)]
     light = [one / 12.92 if one <= .04045 else ((one + .055) / 1.055) ** 2.4 for one in light]
-    red, green, blue = (min(1, max(0, sum(map(lambda pair: pair[0] * pair[1], zip(row, light))))) for row in kind)
+    red, green, blue = (min(1, max(0, sum(map(lambda pair: pair[0] * pair[1], zip(row, light)))))
+                        for row in kind)
     x = (.4124564 * red + .3575761 * green + .1804375 * blue) / .95047
     y = .2126729 * red + .7151522 * green + .0721750 * blue
     z = (.0193339 * red + .1191920 * green + .9503041 * blue) / 1.08883
-    bent = [one ** (1 / 3) if one > 216 / 24389 else (24389 / 27 * one + 16) / 116 for one in (x, y, z)]
+    bent = [one ** (1 / 3) if one > 216 / 24389 else (24389 / 27 * one + 16) / 116
+            for one in (x, y, z)]
     return 116 * bent[1] - 16, 500 * (bent[0] - bent[1]), 200 * (bent[1] - bent[2])
 
 names = {}
 for node in ast.parse(open(sys.argv[1]).read()).body:
     if isinstance(node, ast.Assign):
         left = node.targets[0]
-        for name, value in zip(left.elts, node.value.elts) if isinstance(left, ast.Tuple) else [(left, node.value)]:
-            if name.id in ("COLOURS", "OTHERS", "NONE", "CHANGES"): names[name.id] = ast.literal_eval(value)
-for shown in names["COLOURS"] + (names["OTHERS"], names["NONE"]), names["CHANGES"] + (names["NONE"],):
+        several = isinstance(left, ast.Tuple)
+        for name, value in zip(left.elts, node.value.elts) if several else [(left, node.value)]:
+            if name.id in ("COLOURS", "OTHERS", "NONE", "CHANGES"):
+                names[name.id] = ast.literal_eval(value)
+both = names["COLOURS"] + (names["OTHERS"], names["NONE"]), names["CHANGES"] + (names["NONE"],)
+for shown in both:
     for name, kind in kinds.items():
         for one, other in itertools.combinations(shown, 2):
             apart = sum((a - b) ** 2 for a, b in zip(lab(one, kind), lab(other, kind))) ** .5
-            assert apart >= 15, f"{one} and {other} are {apart:.1f} apart for eyes of the kind: {name}"
+            assert apart >= 15, \
+                f"{one} and {other} are {apart:.1f} apart for eyes of the kind: {name}"
 X
 python3 colours.py "$map" 2> told || fail "colours: $(tail -n 1 told)"
 
@@ -229,12 +269,16 @@ python3 colours.py "$map" 2> told || fail "colours: $(tail -n 1 told)"
 if ! command -v chromium > /dev/null; then
     echo "$check: not tried: a browser (package chromium)"
 else
-    printf 'x|DE|ipv4|0.0.0.0|1073741824||allocated\nx|FR|ipv4|64.0.0.0|1073741824||allocated\nx|JP|ipv4|192.0.0.0|536870912||allocated\n' > s.txt
+    printf '%s\n' 'x|DE|ipv4|0.0.0.0|1073741824||allocated' \
+        'x|FR|ipv4|64.0.0.0|1073741824||allocated' \
+        'x|JP|ipv4|192.0.0.0|536870912||allocated' > s.txt
     printf 'epoch 1700000000\nstats x s.txt\nemit big.mmdb\n' > job
     "$program" build job > printed && draws big.html big.mmdb
     # A browser that cannot be started here (no room, no sandbox) is no fault of the page.
-    if ! HOME=$work timeout 300 chromium --headless --no-sandbox --disable-gpu --disable-dev-shm-usage --hide-scrollbars \
-        --user-data-dir="$work/browser" --window-size=1200,1000 --screenshot="$work/page.png" "file://$work/big.html" > told 2>&1 || [ ! -s page.png ]; then
+    if ! HOME=$work timeout 300 chromium --headless --no-sandbox --disable-gpu \
+        --disable-dev-shm-usage --hide-scrollbars --user-data-dir="$work/browser" \
+        --window-size=1200,1000 --screenshot="$work/page.png" "file://$work/big.html" \
+        > told 2>&1 || [ ! -s page.png ]; then
         echo "$check: not tried: the browser, which does not start here: $(tail -n 1 told)"
     else
         cat > shown.py <<'X'
@@ -250,7 +294,8 @@ each = {2: 3, 6: 4}[colour]
 assert bits == 8
 raw, rows, last = zlib.decompress(packed), [], bytes(width * each)
 for y in range(height):
-    kind, line = raw[y * (width * each + 1)], bytearray(raw[y * (width * each + 1) + 1:(y + 1) * (width * each + 1)])
+    start = y * (width * each + 1)
+    kind, line = raw[start], bytearray(raw[start + 1:start + 1 + width * each])
     for i in range(len(line)):
         a, b, c = line[i - each] if i >= each else 0, last[i], last[i - each] if i >= each else 0
         p = a + b - c
@@ -258,15 +303,21 @@ for y in range(height):
         line[i] = line[i] + (0, a, b, (a + b) // 2, paeth)[kind] & 255
     rows.append(line); last = line
 def pixel(x, y): return "#" + rows[y][x * each:x * each + 3].hex()
-# The map is a square of many pixels of the first two colours, left and below the words: a quarter of it each, down its left.
+# The map is a square of many pixels of the first two colours, left and below the words: a quarter
+# of it each, down its left.
 colours = {}
 for y in range(0, height):
     for x in range(0, width): colours.setdefault(pixel(x, y), []).append((x, y))
-def box(colour): xs, ys = zip(*[(x, y) for x, y in colours[colour] if x < 790]); return min(xs), max(xs), min(ys), max(ys)
+def box(colour):
+    xs, ys = zip(*[(x, y) for x, y in colours[colour] if x < 790])
+    return min(xs), max(xs), min(ys), max(ys)
 first, second, third = box("#00539f"), box("#e69f00"), box("#008e66")
 side = first[1] - first[0] + 1
 assert 330 < side < 400, side
-for name, (x, y) in {"#00539f": (first[0] + 9, first[2] + side - 9), "#e69f00": (first[0] + 9, first[2] + 2 * side - 9), "#008e66": (first[0] + 2 * side - 9, first[2] + side - 9)}.items():
+places = {"#00539f": (first[0] + 9, first[2] + side - 9),
+          "#e69f00": (first[0] + 9, first[2] + 2 * side - 9),
+          "#008e66": (first[0] + 2 * side - 9, first[2] + side - 9)}
+for name, (x, y) in places.items():
     assert pixel(x, y) == name, (name, x, y, pixel(x, y))
 assert pixel(first[0] + 2 * side - 20, first[2] + 20) == "#ffffff"
 assert len(colours["#00539f"]) > 100000 and len(colours["#e69f00"]) > 100000
