@@ -2,7 +2,7 @@
 #     awk -v seed=SEED -v jobs=N [-v marks=1] -f checks/random_jobs.awk
 # Job n stands in the folder n, which has to be there: its sources, `job`, which sets, drops and
 # emits at random, and `fresh`, a job of the sources that are in force at its end. With marks=1 the
-# jobs mark, go back, compact and report as well.
+# jobs mark, go back, compact and report as well. All follows from the seed, with one awk.
 
 BEGIN {
     below(1000)
