@@ -21,9 +21,12 @@ until { (ulimit -v "$least" && exec "$program" --version > printed 2>&1); } 2> t
     [ "$least" -lt 100000 ] || { fail "no limit lets the program begin"; verdict; }
 done
 
-# is_old_or_new FILE: the file is what stood there, or all that the command writes.
+# is_old_or_new FILE: the file is what stood there, or all that the command writes. Where a command
+# writes it twice, it may be all of the first time too: as many bytes, and read to its end.
 is_old_or_new() {
-    cmp -s "$1" "old/$1" || cmp -s "$1" "new/$1"
+    cmp -s "$1" "old/$1" || cmp -s "$1" "new/$1" \
+        || { grep -q "^emit $1 .* bytes $(wc -c < "$1")\$" whole \
+            && "$program" lookup "$1" 10.0.0.1 > looked; }
 }
 
 # tried FILE WORDS..: the command at limits from the least on up to where it does all. It writes
