@@ -1,5 +1,6 @@
 // Refuses one allocation of a program that it is loaded into by LD_PRELOAD: the one whose number,
-// from 1 on, REFUSED says. How many there were stands in the file that COUNTED names, in eight bytes.
+// from 1 on, REFUSED says. How many there were stands in the file that COUNTED names, in eight
+// bytes.
 #include <atomic>
 #include <cerrno>
 #include <cstddef>
