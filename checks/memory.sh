@@ -1,11 +1,14 @@
 #!/usr/bin/env bash
 # Want of memory, by `ulimit -v` at many limits: each command ends with status 1 and one line of
 # words, what it has printed till then is the beginning of what it prints otherwise, the old file
-# stands or the whole new one, and nothing is left behind. With more memory it does all.
+# stands or the whole new one, and nothing is left behind. With more memory it does all. And each
+# allocation of the example of all kinds of sources is refused in turn, by checks/refused.cpp.
 set -u
 cd "$(dirname "${BASH_SOURCE[0]}")/.." || exit 1
 statistics=$PWD/bench/statistics.awk
 world=$PWD/bench/world.awk
+refused=$PWD/checks/refused.cpp
+example=$PWD/examples/realistic
 . checks/with_program.bash
 
 awk -v lines=4000 -f "$statistics" > stats.txt
@@ -81,4 +84,55 @@ tried made.mmdb gen 3000 made.mmdb
     printf '\x4Aip_version\xA1\x06\x4Anode_count\xC1\x01\x4Brecord_size\xA1\x18'
 } > large
 tried - lookup large 192.0.2.1
+
+# in_turn FILE LEAST WORDS..: the command with each of its allocations refused in turn; at least
+# LEAST of them it cannot do without, and one that a write wants is that write's fault. The command
+# writes FILE, or nothing where that is `-`; `first` is what it may have written on the way.
+in_turn() {
+    local file=$1 least=$2 total lacking=0 number status told whole
+    shift 2
+    rm -f "$file"
+    whole=$(COUNTED=count LD_PRELOAD=./refused.so "$program" "$@" 2> told) \
+        || fail "'$*' ends with status $?"
+    total=$(od -An -tu8 count | tr -d ' ')
+    [ "$file" = - ] || mv "$file" new && echo older > old
+    for ((number = 1; number <= total; number++)); do
+        [ "$file" = - ] || cp old "$file"
+        REFUSED=$number LD_PRELOAD=./refused.so "$program" "$@" > printed 2> told
+        status=$?
+        mapfile -t told < told
+        case "$status ${#told[@]} ${told[*]}" in
+            '0 0 ') [ "$(< printed)" = "$whole" ] || fail "'$*': $number prints '$(< printed)'" ;;
+            '1 1 geofeed: memory ran out'*) lacking=$((lacking + 1)) ;;
+            '5 1 '*' could not be written; '*': out of memory') sed -i '$d' printed ;;
+            *) fail "'$*': without allocation $number it ends with $status and says '${told[*]}'" ;;
+        esac
+        [[ "$whole" == "$(< printed)"* ]] || fail "'$*': $number prints '$(< printed)'"
+        [ "$file" = - ] || cmp -s "$file" old || cmp -s "$file" new || cmp -s "$file" first \
+            || fail "'$*': without allocation $number $file is neither the old file nor the new one"
+    done
+    [ -z "$(find . -name '.geofeed new *')" ] || fail "'$*' leaves a new file"
+    [ "$file" = - ] || mv new "$file"
+    counted "$least" "$lacking" "allocations without which '$*' lacks memory"
+}
+
+if needs g++ g++; then
+    rm -rf old new ./*.csv && cp "$example"/* . 2> told
+    g++ -O1 -shared -fPIC -o refused.so "$refused" || fail "checks/refused.cpp is not compiled"
+    in_turn geo.mmdb 700 build job
+    in_turn - 400 census job
+    in_turn - 400 explain job 192.0.2.12
+    in_turn - 350 check job https://geo.example.net/a.csv
+    in_turn own.csv 430 publish job 192.0.2.0/24 own.csv
+    in_turn - 60 lookup geo.mmdb 192.0.2.12
+    printf '%s\n' 'inetnum: 10.0.0.0 - 10.255.255.255' \
+        'geofeed: https://gen.example/feed.csv' > gen.db
+    echo 'gen|US|ipv4|10.0.0.0|16777216|20200101|allocated' > gen.txt
+    printf '10.0.0.%d/28,%s,,City %d,\n' 0 DE 0 16 FR 1 32 IT 2 > gen.csv
+    printf '%s\n' 'epoch 1700000000' 'rpsl gen gen.db' 'stats gen gen.txt' \
+        'feed https://gen.example/feed.csv gen.csv' 'emit first' > job
+    "$program" build job > printed || fail "the first file of the generated job is not made"
+    in_turn made.mmdb 550 gen 3 made.mmdb
+fi
+
 verdict

@@ -1,4 +1,3 @@
-pub mod AloneLemmas
 pub mod BareLemmas
 pub mod CleanLemmas
 pub mod CsvLemmas

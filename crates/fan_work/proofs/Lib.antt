@@ -1,3 +1,2 @@
-mod Entering
 mod Starts
 mod Zipped

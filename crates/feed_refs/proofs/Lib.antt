@@ -4,8 +4,7 @@ pub mod FeedLemmas
 pub mod GroupLines
 mod ItemLemmas
 pub mod KindLemmas
-pub mod LineOrder
-mod NoteOrder
+pub mod NoteOrder
 pub mod ObjectLines
 pub mod ReadingLemmas
 pub mod Rising

@@ -1,4 +1,3 @@
-//! Aligned blocks of addresses.
 ghost use Rattle.std.specs.Prelude.{◌≡◌, ◌-◌, ◌%◌, ◌^◌, ◌≤◌, ◌==◌};
 
 use std::marker::Model;

@@ -1,4 +1,3 @@
-//! Texts of decimal digits, read.
 ghost use Rattle.std.specs.Prelude.{◌≡◌, ◌<◌, ◌≤◌, IsTrue, false, true, length};
 ghost use Rattle.std.specs.Prelude.{IfSome, MatchOption};
 ghost use Rattle.std.specs.Char.{digit_value, is_ascii_digit};

@@ -1,4 +1,3 @@
-//! The fault of a call that finds no memory.
 use std::alloc::{AllocError, AllocFailed};
 use thiserror::Error;
 

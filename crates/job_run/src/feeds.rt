@@ -40,18 +40,16 @@ pub(crate) struct Held<'a> {
 }
 
 /// Work that reads the lines of a feed and makes it ready to be set.
-#[derive(Drop)]
-struct Parsing {
-    alloc: Global,
-}
+#[derive(Clone, Copy, Debug)]
+struct Parsing;
 
 impl<'a> Work<Held<'a>, Result<ReadyFeed, Stop>> for Parsing {
     ghost use Rattle.job_run.specs.Feeds.{Parses};
 
     ghost related = { λ work held parsed. Parses held parsed };
 
-    fn done(&self, item: &Held<'a>) -> Result<Result<ReadyFeed, Stop>, Memory> {
-        Ok(ready_feed(self.alloc, item.url, item.bytes.as_slice()))
+    fn done(&self, alloc: Global, item: &Held<'a>) -> Result<Result<ReadyFeed, Stop>, Memory> {
+        Ok(ready_feed(alloc, item.url, item.bytes.as_slice()))
     }
 }
 
@@ -228,8 +226,7 @@ fn parsed_all<R: Threads + Sync, G: Gate>(
             return parsed_long(forks, one);
         }
     }
-    let work = Parsing { alloc: forks.alloc };
-    map_pieces(forks.rt, forks.alloc, forks.gate, forks.pieces, held, &work)
+    map_pieces(forks, held, &Parsing)
 }
 
 /// What a long one is, by parts side by side.

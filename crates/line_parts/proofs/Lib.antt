@@ -1,3 +1,2 @@
 pub mod GatherLemmas
-mod CutLemmas
 mod PartLemmas

@@ -1,4 +1,3 @@
-//! The values of a data section.
 use geo_addr::{Bytes, Text};
 
 /// A value of the data section (MaxMind DB 2.0, "Output Data Section").

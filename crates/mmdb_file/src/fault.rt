@@ -1,4 +1,3 @@
-//! Why no file is written.
 use geo_addr::Memory;
 use thiserror::Error;
 

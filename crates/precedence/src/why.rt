@@ -1,4 +1,3 @@
-//! The reasons of a record.
 use geo_terms::{Delegation, Entry, Override, Place, Reference};
 
 /// Why an address has its record: each part by its own rule, also where an override decides.

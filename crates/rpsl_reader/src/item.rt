@@ -1,4 +1,3 @@
-//! What a dump says, as it is handed out.
 use geo_addr::{Bytes, List, Text};
 use geo_terms::Rule;
 

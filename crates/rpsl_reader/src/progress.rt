@@ -1,4 +1,3 @@
-//! What a piece changes, before the reader accepts it.
 ghost use Rattle.std.specs.Prelude.{◌≡◌, ◌++◌, [], OnOk, OnErr};
 
 use crate::item::Item;

@@ -2,7 +2,6 @@
 //! ranges cuts the address space.
 #![tactic(auto)]
 
-pub mod laws;
 mod points;
 mod split;
 mod walk;

@@ -1,4 +1,3 @@
-//! The faults of a store.
 use thiserror::Error;
 
 /// Why a store could not make a node.

@@ -23,7 +23,6 @@ use std::sync::ledger::Ledger;
 /// only records and roots of this store: those that it gave, before or after whatever refusals.
 #[derive(Drop)]
 pub struct Store {
-    pub(crate) alloc: Global,
     pub(crate) pairs: Pairs,
 }
 
@@ -45,7 +44,6 @@ impl Store {
         ensures { result ≡ [] }
     {
         Store {
-            alloc,
             pairs: Pairs::new(alloc),
         }
     }

@@ -1,4 +1,3 @@
-//! Why no file is emitted.
 use geo_addr::Memory;
 use mmdb_file::FileFault;
 use std::alloc::{AllocError, AllocFailed};
