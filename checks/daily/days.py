@@ -7,6 +7,7 @@ After each the file is whole, and the next run, without the fault, is well. With
 a run makes of the system is a row of the tables of killed runs and full disks, else one in five.
 """
 import concurrent.futures
+import fcntl
 import gzip
 import hashlib
 import json
@@ -318,6 +319,7 @@ def well(world, title):
     for run in world.kept():
         if (run / 'counts.json').is_file() and 'the clock' in title:
             known('counts.json', lambda text: json.dumps({**json.loads(text), 'epoch': 1}))(world)
+    wait_for_lock(world.geo / '.lock')
     ran = world.run()
     left = [path.name for path in world.geo.iterdir()
             if path.name not in ('.lock', 'city.mmdb', 'runs')]
@@ -468,6 +470,19 @@ def orphan(world):
     (world.net / 'go').touch()
     first.communicate(timeout=300)
     return [] if second[0] == 75 else [f'beside what a killed run has left: {second}']
+
+
+def wait_for_lock(path):
+    """What a killed run has left ends by itself, but a moment after its output does."""
+    if not path.exists():
+        return
+    with open(path, 'r+b') as lock:
+        for _ in range(600):
+            try:
+                fcntl.flock(lock, fcntl.LOCK_EX | fcntl.LOCK_NB)
+                return
+            except BlockingIOError:
+                time.sleep(0.05)
 
 
 def wait_for(path):
