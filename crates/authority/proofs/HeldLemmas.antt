@@ -20,7 +20,7 @@ use Rattle.geo_terms.specs.SlotOrder.{AreInOrder, placed, removed}
 use Rattle.geo_terms.proofs.SlotLemmas.{not_there, placed_in_order, put_between, put_over}
 use Rattle.geo_terms.proofs.SlotLemmas.{removed_in_order, taken_out}
 use Rattle.geo_terms.specs.SourceForm.{DumpParts, FeedParts}
-use Rattle.geo_terms.specs.declared.boundaries.Boundary.{Boundary}
+use Rattle.geo_terms.specs.declared.firsts.boundaries.Boundary.{Boundary}
 use Rattle.geo_terms.specs.declared.statement.Entry.{Entry}
 use Rattle.geo_terms.specs.declared.statement.Reference.{Reference}
 use Rattle.authority.proofs.EntryLemmas.{kept, longest_within}

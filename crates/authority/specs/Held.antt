@@ -11,7 +11,7 @@ use Rattle.geo_terms.specs.Precedence.{entry_cmp}
 use Rattle.geo_terms.specs.SlotOrder.{AreInOrder}
 use Rattle.geo_terms.specs.SourceForm.{DumpParts, FeedParts}
 use Rattle.geo_terms.specs.Sources.{InForce}
-use Rattle.geo_terms.specs.declared.boundaries.Boundary.{Boundary}
+use Rattle.geo_terms.specs.declared.firsts.boundaries.Boundary.{Boundary}
 use Rattle.geo_terms.specs.declared.statement.Entry.{Entry}
 use Rattle.geo_terms.specs.declared.statement.Reference.{Reference}
 use Rattle.inetnum_index.specs.Answers.{AnswerAlike}

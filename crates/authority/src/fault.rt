@@ -1,3 +1,4 @@
+//! Why a dump or a feed is not taken out of force.
 use geo_addr::Memory;
 use thiserror::Error;
 

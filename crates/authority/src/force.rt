@@ -1,3 +1,4 @@
+//! The dumps and feeds in force, set and dropped, and who speaks for an address by them.
 use crate::dumps::{
     best_at, best_near, insert_dump, remove_dump, replace_dump, search_dumps, shared,
 };

@@ -7,7 +7,7 @@ use Rattle.std.proofs.lemmas.Bool.{ltb-true, ltb-false}
 use Rattle.std.proofs.lemmas.List.{map-append}
 use Rattle.geo_terms.specs.SourceForm.{FeedParts, IsFeed, ShareNoLine, note_lines}
 use Rattle.geo_terms.specs.Sources.{InForce}
-use Rattle.geo_terms.specs.declared.note.Note.{Note}
+use Rattle.geo_terms.specs.declared.note.LineNote.{LineNote}
 use Rattle.geo_terms.specs.declared.statement.Entry.{Entry}
 use Rattle.check_census.specs.Verdicts.{before, behind, entry_verdict, merged, note_verdict}
 use Rattle.check_census.specs.Verdicts.{verdicts}
@@ -48,16 +48,16 @@ up_from_increasing low (x ∷ y ∷ ys) up head =
     )
 
 -- no note stands on this line
-Free : ℕ → List Note → Type 0
+Free : ℕ → List LineNote → Type 0
 Free line [] = Unit {0}
 Free line (n ∷ ns) = (line ≢ n.line) × Free line ns
 
 -- and on the line of no entry
-FreeOfAll : List Entry → List Note → Type 0
+FreeOfAll : List Entry → List LineNote → Type 0
 FreeOfAll [] ns = Unit {0}
 FreeOfAll (e ∷ es) ns = Free e.line ns × FreeOfAll es ns
 
-free_behind : (line : ℕ) (at : ℕ) (ns : List Note) → Free line ns → Free line (behind at ns)
+free_behind : (line : ℕ) (at : ℕ) (ns : List LineNote) → Free line ns → Free line (behind at ns)
 unfolding Free
 free_behind line at [] free = tt
 free_behind line at (n ∷ ns) free = by (ltb n.line at) (free_behind line at ns free.1)
@@ -66,14 +66,14 @@ free_behind line at (n ∷ ns) free = by (ltb n.line at) (free_behind line at ns
     by true rest = rest
     by false rest = free
 
-all_free_behind : (at : ℕ) (es : List Entry) (ns : List Note) → FreeOfAll es ns
+all_free_behind : (at : ℕ) (es : List Entry) (ns : List LineNote) → FreeOfAll es ns
     → FreeOfAll es (behind at ns)
 unfolding FreeOfAll
 all_free_behind at [] ns free = tt
 all_free_behind at (e ∷ es) ns free =
     (free_behind e.line at ns free.0, all_free_behind at es ns free.1)
 
-up_behind : (low line : ℕ) (ns : List Note) → Up low (note_lines ns) → Free line ns
+up_behind : (low line : ℕ) (ns : List LineNote) → Up low (note_lines ns) → Free line ns
     → Up (line + 1) (note_lines (behind line ns))
 unfolding Up Free
 up_behind low line [] up free = tt
@@ -85,12 +85,13 @@ up_behind low line (n ∷ ns) up free =
     by true e rest = rest
     by false e rest = let ge = ltb-false n.line line e in let ne = free.0 in (omega arith, up.1)
 
-lines_of_notes : (ns : List Note)
+lines_of_notes : (ns : List LineNote)
     → map (λ (v : Verdict). v.line) (map note_verdict ns) ≡ note_lines ns
 lines_of_notes [] = refl
 lines_of_notes (n ∷ ns) = ap (λ ls. n.line ∷ ls) (lines_of_notes ns)
 
-up_before : (low line : ℕ) (ns : List Note) (rest : List ℕ) → low ≤ line → Up low (note_lines ns)
+up_before : (low line : ℕ) (ns : List LineNote) (rest : List ℕ) → low ≤ line
+    → Up low (note_lines ns)
     → Up (line + 1) rest → Up low (note_lines (before line ns) ++ line ∷ rest)
 unfolding Up
 up_before low line [] rest le up later = (le, later)
@@ -103,7 +104,7 @@ up_before low line (n ∷ ns) rest le up later =
     by true e more = let lt = ltb-true n.line line e in (up.0, more (omega arith))
     by false e more = (le, later)
 
-up_merged : (s : InForce) (url : List ℕ) (low : ℕ) (es : List Entry) (ns : List Note)
+up_merged : (s : InForce) (url : List ℕ) (low : ℕ) (es : List Entry) (ns : List LineNote)
     → Up low (map (λ (e : Entry). e.line) es) → Up low (note_lines ns) → FreeOfAll es ns
     → Up low (map (λ (v : Verdict). v.line) (merged s url es ns))
 unfolding Up FreeOfAll
@@ -124,7 +125,7 @@ up_merged s url low (e ∷ es) ns up_es up_ns free =
     (lines_of_notes (before e.line ns)) in
     subst (λ ls. Up low ls) (sym split) all
 
-free_from : (line : ℕ) (ns : List Note)
+free_from : (line : ℕ) (ns : List LineNote)
     → ((i : ℕ) (d : ℕ) → i < length (note_lines ns) → line ≢ get_or (note_lines ns) i d)
     → Free line ns
 unfolding Free
@@ -134,7 +135,7 @@ free_from line (n ∷ ns) h = (
   free_from line ns (λ i d lt. h (suc i) d (omega arith)),
 )
 
-all_free_from : (es : List Entry) (ns : List Note)
+all_free_from : (es : List Entry) (ns : List LineNote)
     → ShareNoLine (map (λ (e : Entry). e.line) es) (note_lines ns) → FreeOfAll es ns
 unfolding FreeOfAll
 all_free_from [] ns h = tt
@@ -150,6 +151,6 @@ verdicts_rise s f is =
     increasing_from_up 0 (map (λ (v : Verdict). v.line) (verdicts s f))
     (up_merged s f.url 0 f.entries f.notes
     (up_from_increasing 0 (map (λ (e : Entry). e.line) f.entries) is.ordered
-    (λ some. omega arith)) (up_from_increasing 0 (note_lines f.notes) is.notes.ordered
+    (λ some. omega arith)) (up_from_increasing 0 (note_lines f.notes) is.notes
     (λ some. omega arith))
     (all_free_from f.entries f.notes is.apart))

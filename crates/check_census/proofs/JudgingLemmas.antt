@@ -3,12 +3,12 @@ use Rattle.std.proofs.Common.{◌≡◌, ℕ, zero, suc, ◌+◌, ◌<◌, ◌�
 use Rattle.std.proofs.Common.{[], ◌∷◌, ◌++◌, length, map, take, drop, get_or, Some, slice_get, refl}
 use Rattle.std.proofs.Common.{sym, ap, ◌∙◌, arith, append_assoc}
 use Rattle.geo_terms.specs.Sources.{InForce}
-use Rattle.geo_terms.specs.declared.note.Note.{Note}
+use Rattle.geo_terms.specs.declared.note.LineNote.{LineNote}
 use Rattle.geo_terms.specs.declared.statement.Entry.{Entry}
 use Rattle.check_census.specs.Verdicts.{before, behind, entry_verdict, merged, note_verdict}
 use Rattle.check_census.specs.declared.verdict.Verdict.{Verdict}
 
-pub before-short : (line : ℕ) (ns : List Note) → length (before line ns) ≤ length ns
+pub before-short : (line : ℕ) (ns : List LineNote) → length (before line ns) ≤ length ns
 before-short line [] = omega arith
 before-short line (n ∷ ns) = by (ltb n.line line) (before-short line ns)
   where
@@ -17,7 +17,7 @@ before-short line (n ∷ ns) = by (ltb n.line line) (before-short line ns)
     by true rest = omega arith
     by false rest = omega arith
 
-take-before : (line : ℕ) (ns : List Note) → take (length (before line ns)) ns ≡ before line ns
+take-before : (line : ℕ) (ns : List LineNote) → take (length (before line ns)) ns ≡ before line ns
 take-before line [] = refl
 take-before line (n ∷ ns) = by (ltb n.line line) (take-before line ns)
   where
@@ -26,7 +26,7 @@ take-before line (n ∷ ns) = by (ltb n.line line) (take-before line ns)
     by true rest = ap (λ ms. n ∷ ms) rest
     by false rest = refl
 
-drop-before : (line : ℕ) (ns : List Note) → drop (length (before line ns)) ns ≡ behind line ns
+drop-before : (line : ℕ) (ns : List LineNote) → drop (length (before line ns)) ns ≡ behind line ns
 drop-before line [] = refl
 drop-before line (n ∷ ns) = by (ltb n.line line) (drop-before line ns)
   where
@@ -51,8 +51,9 @@ read_at [] i x lt is = absurd (omega arith)
 read_at (y ∷ ys) zero x lt is = ap Some (sym is)
 read_at (y ∷ ys) (suc i) x lt is = read_at ys i x (omega arith) is
 
-pub merged_step : (s : InForce) (url : List ℕ) (es : List Entry) (left : List Note) (i count : ℕ)
-    (e : Entry) (vs more both whole : List Verdict) (earlier later : List Note) (v : Verdict)
+pub merged_step : (s : InForce) (url : List ℕ) (es : List Entry) (left : List LineNote)
+    (i count : ℕ)
+    (e : Entry) (vs more both whole : List Verdict) (earlier later : List LineNote) (v : Verdict)
     → slice_get es i ≡ Some e → count ≡ length (before e.line left) → earlier ≡ take count left
     → later ≡ drop count left → more ≡ vs ++ map note_verdict earlier → both ≡ more ++ v ∷ []
     → v ≡ entry_verdict s url e

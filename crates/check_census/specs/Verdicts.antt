@@ -7,7 +7,7 @@ use Rattle.geo_terms.specs.PlaceForm.{same_text}
 use Rattle.geo_terms.specs.Precedence.{reasons_at}
 use Rattle.geo_terms.specs.SourceForm.{FeedParts}
 use Rattle.geo_terms.specs.Sources.{InForce, references}
-use Rattle.geo_terms.specs.declared.note.Note.{Note}
+use Rattle.geo_terms.specs.declared.note.LineNote.{LineNote}
 use Rattle.geo_terms.specs.declared.statement.Entry.{Entry}
 use Rattle.geo_terms.specs.declared.statement.Reference.{Reference}
 use Rattle.check_census.specs.declared.verdict.Ruling.{Ruling}
@@ -67,22 +67,22 @@ entry_verdict s url e = record {
       (speaker_there s (first_heard s url e.line));
 }
 
-abbrev pub note_verdict : Note → Verdict
+abbrev pub note_verdict : LineNote → Verdict
 note_verdict n = record { line = n.line; ruling = Refused n.rule }
 
 -- of notes in line order, those on lines before this one
-abbrev pub before : ℕ → List Note → List Note
+abbrev pub before : ℕ → List LineNote → List LineNote
 before line [] = []
 before line (n ∷ ns) = if nat_lt n.line line then n ∷ before line ns else []
 
 -- and those that are left
-abbrev pub behind : ℕ → List Note → List Note
+abbrev pub behind : ℕ → List LineNote → List LineNote
 behind line [] = []
 behind line (n ∷ ns) = if nat_lt n.line line then behind line ns else n ∷ ns
 
 -- a verdict on each entry and on each noted line, in line order: before that on an entry stand
 -- those on the noted lines before it
-abbrev pub merged : InForce → List ℕ → List Entry → List Note → List Verdict
+abbrev pub merged : InForce → List ℕ → List Entry → List LineNote → List Verdict
 merged s url [] ns = map note_verdict ns
 merged s url (e ∷ es) ns = map note_verdict (before e.line ns)
     ++ (entry_verdict s url e ∷ merged s url es (behind e.line ns))

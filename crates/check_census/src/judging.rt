@@ -9,7 +9,7 @@ ghost use Rattle.check_census.specs.Verdicts.{note_verdict, ruling, speaker_ther
 use crate::sweep::first_addresses;
 use crate::verdict::{Ruling, Verdict};
 use geo_addr::{Addr, Memory};
-use geo_terms::{Entry, Feed, Note, Reference};
+use geo_terms::{Entry, Feed, LineNote, Reference};
 use precedence::Sources;
 use std::alloc::Global;
 
@@ -55,7 +55,7 @@ fn merged(
     sources: &Sources,
     url: &str,
     entries: &[Entry],
-    notes: &[Note],
+    notes: &[LineNote],
     firsts: &[Option<u128>],
 ) -> Result<Vec<Verdict>, Memory>
     requires { firsts.now ≡ map (λ e. first_heard sources.now url.now e.line) entries.now }
@@ -75,7 +75,7 @@ fn merged(
 }
 
 // How many of notes in line order are on lines before this one.
-fn count_before(notes: &[Note], line: u64) -> usize
+fn count_before(notes: &[LineNote], line: u64) -> usize
     ensures { result ≡ length (before line notes.now) }
 {
     let mut count = 0;
@@ -88,7 +88,7 @@ fn count_before(notes: &[Note], line: u64) -> usize
     count
 }
 
-fn push_notes(verdicts: &mut Vec<Verdict>, notes: &[Note]) -> Result<(), Memory>
+fn push_notes(verdicts: &mut Vec<Verdict>, notes: &[LineNote]) -> Result<(), Memory>
     ensures { OnOk result (verdicts.new.items ≡ verdicts.old.items ++ map note_verdict notes.now) }
 {
     for note in notes {

@@ -21,6 +21,7 @@ use Rattle.csv_lines.specs.Fields.{Field, Plain, Quoted, fields, goes_on, is_bar
 use Rattle.csv_lines.specs.Fields.{is_unquoted, scan, value, values_of, with_byte, with_plain}
 use Rattle.csv_lines.specs.Rests.{IsBareLine, all_handed, content_of, first_piece, handed}
 use Rattle.csv_lines.specs.Rests.{handed_by, rest_of, row_of}
+use Rattle.csv_lines.specs.declared.bare.TheConstants.{MOST_FIELDS}
 use Rattle.csv_lines.specs.declared.rest.Content.{Content}
 use Rattle.csv_lines.specs.declared.rest.Content.TheVariants.{Blank, NotText, NoFields, Fields}
 use Rattle.csv_lines.specs.declared.scan.Spot.TheVariants.{Start, Inside}
@@ -376,7 +377,8 @@ untrimmed_start q blank (x ∷ xs) e = by (is_blank x) refl e (untrimmed_start q
         let adds : 1 + prefix_len is_blank xs ≡ suc (prefix_len is_blank xs) = omega arith in
         rw (blank x is, later (rw adds at h)) refl
 
-pub reversed_all : (q : ℕ → Bool) (xs : List ℕ) → list_all q xs ≡ true → list_all q (reverse xs) ≡ true
+pub reversed_all : (q : ℕ → Bool) (xs : List ℕ) → list_all q xs ≡ true
+    → list_all q (reverse xs) ≡ true
 reversed_all q [] e = refl
 reversed_all q (x ∷ xs) e =
     let (one, more) = and_parts (q x) (list_all q xs) e in
@@ -474,5 +476,6 @@ taken_bare line rest is taken =
     subst (λ (t : List ℕ). list_all is_bare t ≡ true) (sym is) taken.bare
 
 pub taken_few : (line : List ℕ) (fields : List (List ℕ)) → fields ≡ row_of (rest_of line)
-    → IsBareLine line → length fields ≤ 8
-taken_few line fields is taken = subst (λ (f : List (List ℕ)). length f ≤ 8) (sym is) taken.few
+    → IsBareLine line → length fields ≤ MOST_FIELDS
+taken_few line fields is taken =
+    subst (λ (f : List (List ℕ)). length f ≤ MOST_FIELDS) (sym is) taken.few

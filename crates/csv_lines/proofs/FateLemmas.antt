@@ -14,7 +14,7 @@ use Rattle.std.proofs.lemmas.List.Quantifiers.{all_pairs_push}
 use Rattle.std.proofs.lemmas.List.Filters.{FiltersInPlace, FiltersInPlace-more_no}
 use Rattle.std.proofs.lemmas.List.Filters.{FiltersInPlace-more_swap}
 use Rattle.std.specs.List.{SwappedAt}
-use Rattle.csv_lines.specs.declared.fault.Fault.{Fault}
+use Rattle.geo_terms.specs.declared.note.LineNote.{LineNote}
 use Rattle.std.proofs.lemmas.List.Elements.{All-head, All-tail, All-weaker, filter_map-append}
 use Rattle.std.proofs.lemmas.List.Folds.{list_any_none}
 use Rattle.std.proofs.lemmas.List.Sums.{fold_push}
@@ -25,7 +25,9 @@ use Rattle.geo_terms.specs.declared.place.Said.{Said}
 use Rattle.geo_terms.specs.declared.place.Said.TheVariants.{Nothing, At}
 use Rattle.csv_lines.specs.Repeats.{Rises, fate, fault_by, is_kept_by, kept, is_contradicted}
 use Rattle.csv_lines.specs.Repeats.{is_repetition, repeat_faults, same_range, same_said}
-use Rattle.csv_lines.specs.Seen.{IsBelow, Shown, fate_by, more, shown, with_row}
+use Rattle.std.specs.Ordering.{is_eq}
+use Rattle.std.proofs.lemmas.Bool.Decides.{nat_tests}
+use Rattle.csv_lines.specs.Seen.{IsBelow, Shown, ends_cmp, fate_by, more, shown, with_row}
 use Rattle.csv_lines.specs.declared.fate.Fate.{Fate}
 use Rattle.csv_lines.specs.declared.fate.RepeatRules.{RepeatRules}
 use Rattle.csv_lines.specs.declared.fate.Fate.TheVariants.{Kept, Repeats, Differs}
@@ -37,7 +39,7 @@ Member (y ∷ ys) x = (y ≡ x) ⊎ Member ys x
 
 -- ---- the tests
 
-ends_same : (x y : Ends) → same_ends x y ≡ true → x ≡ y
+pub ends_same : (x y : Ends) → same_ends x y ≡ true → x ≡ y
 ends_same x y h =
     let (one, two) = and_parts (x.first == y.first) (x.last == y.last) h in
     let first = eqb-true x.first y.first one in
@@ -47,13 +49,17 @@ ends_same x y h =
 pub ends_itself : (x : Ends) → same_ends x x ≡ true
 ends_itself x = rw (eq-eqb x.first x.first refl, eq-eqb x.last x.last refl) refl
 
+-- two ranges are equal by their order where they are equal by their ends
+pub ends_tie : (x y : Ends) → is_eq (ends_cmp x y) ≡ same_ends x y
+ends_tie x y = grind (arith, nat_tests)
+
 said_same : (x y : Said) → same_said x y ≡ true → x ≡ y
 said_same Nothing Nothing h = refl
 said_same Nothing (At q) h = absurd cc
 said_same (At p) Nothing h = absurd cc
 said_same (At p) (At q) h = ap At ((places_are_told_apart p q).0 h)
 
-said_itself : (x : Said) → same_said x x ≡ true
+pub said_itself : (x : Said) → same_said x x ≡ true
 said_itself Nothing = refl
 said_itself (At p) = (places_are_told_apart p p).1 refl
 
@@ -106,7 +112,7 @@ apart_back x y e = elim (cases_Bool (same_said x y)) [
   | inr other ↦ rw other refl
 ]
 
-get_or_same : {X : Type 0} (xs : List X) (i : ℕ) (d e : X) → i < length xs
+pub get_or_same : {X : Type 0} (xs : List X) (i : ℕ) (d e : X) → i < length xs
     → get_or xs i d ≡ get_or xs i e
 get_or_same [] i d e l = absurd (omega arith)
 get_or_same (x ∷ xs) zero d e l = refl
@@ -336,6 +342,30 @@ module _ {X : Type 0} (line : X → ℕ) (range : X → Ends) (said : X → Said
           rw at (ap Some is)
       by false e = refl
 
+  -- one more line of a range that is in the map
+  pub found_row : (old new : Ends → Option Shown) (x : X) (s t : Shown) → old (range x) ≡ Some s
+      → t ≡ more line range said (Some s) x
+      → ((q : Ends) → new q ≡ cond (same_ends (range x) q) (Some t) (old q))
+      → (k : Ends) → new k ≡ with_row line range said (old k) x k
+  found_row old new x s t found is updates k = updates k ∙ by (same_ends (range x) k) refl
+    where
+      by : (b : Bool) → same_ends (range x) k ≡ b
+          → cond b (Some t) (old k) ≡ cond b (Some (more line range said (old k) x)) (old k)
+      by true e =
+          let at : old k ≡ Some s =
+          subst (λ (q : Ends). old q ≡ Some s) (ends_same (range x) k e) found in
+          rw at (ap Some is)
+      by false e = refl
+
+  -- what a line that differs leaves of its range
+  pub differs_now : (s : Shown) (x : X) → same_said (said x) s.said ≡ false
+      → record { line = s.line; said = s.said; differs = true } ≡ more line range said (Some s) x
+  differs_now s x other = λ i. record {
+    line = s.line;
+    said = s.said;
+    differs = sym (or_right s.differs (not (same_said (said x) s.said)) (rw other refl)) i;
+  }
+
   pub shown_more : (xs : List X) (i : ℕ) (d : X) (k : Ends)
       → i < length xs → shown line range said (take (i + 1) xs) k
       ≡ with_row line range said (shown line range said (take i xs) k) (get_or xs i d) k
@@ -455,26 +485,24 @@ module _ {X : Type 0} (line : X → ℕ) (range : X → Ends) (said : X → Said
       rw e (ap range (get_or_same rows i d x l ∙ sym is))
 
   pub fates_more : (rows : List X) (i : ℕ) (x : X) (r : Fate)
-      → Rises 0 (map line rows) → i < length rows → x ≡ get_or rows i x
-      → r ≡ fate_by (shown line range said rows (range x)) (line x)
+      → i < length rows → x ≡ get_or rows i x → r ≡ fate line range said rows x
       → map (fate line range said rows) (take i rows) ++ (r ∷ [])
       ≡ map (fate line range said rows) (take (i + 1) rows)
-  fates_more rows i x r up l is told =
-      let one = told ∙ fate_told 0 rows up x (member_at rows i x l is) in
+  fates_more rows i x r l is told =
       rw (
         take_more rows i x l,
         map-append (fate line range said rows) (take i rows) (get_or rows i x ∷ []),
       ) (ap (λ t. map (fate line range said rows) (take i rows) ++ (t ∷ []))
-      (one ∙ ap (fate line range said rows) is))
+      (told ∙ ap (fate line range said rows) is))
 
-pub faults_more : {X : Type 0} (h : X → Option Fault) (rows : List X) (i : ℕ) (x : X)
-    (found : Option Fault) → i < length rows → x ≡ get_or rows i x → found ≡ h x
+pub faults_more : {X : Type 0} (h : X → Option LineNote) (rows : List X) (i : ℕ) (x : X)
+    (found : Option LineNote) → i < length rows → x ≡ get_or rows i x → found ≡ h x
     → filter_map h (take i rows) ++ option_to_list found ≡ filter_map h (take (i + 1) rows)
 faults_more h rows i x found l is told =
     rw (take_more rows i x l, filter_map-append h (take i rows) (get_or rows i x ∷ [])) (ap
     (λ t. filter_map h (take i rows) ++ t) (one_kept (h (get_or rows i x)) found (told ∙ ap h is)))
   where
-    one_kept : (o p : Option Fault) → p ≡ o → option_to_list p ≡ cons_option o []
+    one_kept : (o p : Option LineNote) → p ≡ o → option_to_list p ≡ cons_option o []
     one_kept None p e = ap option_to_list e
     one_kept (Some f) p e = ap option_to_list e
 

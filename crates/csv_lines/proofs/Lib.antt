@@ -1,3 +1,4 @@
+pub mod AloneLemmas
 pub mod BareLemmas
 pub mod CleanLemmas
 pub mod CsvLemmas

@@ -17,7 +17,7 @@ use Rattle.csv_lines.specs.Repeats.{is_contradicted, is_repetition, merged, same
 use Rattle.csv_lines.specs.declared.fate.Fate.{Fate}
 use Rattle.csv_lines.specs.declared.fate.Fate.TheVariants.{Kept, Repeats, Differs}
 use Rattle.csv_lines.specs.declared.fate.RepeatRules.{RepeatRules}
-use Rattle.csv_lines.specs.declared.fault.Fault.{Fault}
+use Rattle.geo_terms.specs.declared.note.LineNote.{LineNote}
 use Rattle.csv_lines.proofs.FateLemmas.{Member, any_from, both, ends_itself, member_at}
 
 pub rises_lower : (low high : ℕ) (xs : List ℕ) → low ≤ high → Rises high xs → Rises low xs
@@ -114,9 +114,9 @@ module _ {X : Type 0} (line : X → ℕ) (range : X → Ends) (said : X → Said
       get_or_at (y ∷ ys) (suc i) d l = get_or_at ys i d (omega arith)
 
 -- each numbered line gives a statement (`acc`), or else may give a fault (`bad`)
-module _ {A X : Type 0} (acc : ℕ × A → Option X) (bad : ℕ × A → Option Fault)
+module _ {A X : Type 0} (acc : ℕ × A → Option X) (bad : ℕ × A → Option LineNote)
     (line : X → ℕ) (acc_line : (p : ℕ × A) (x : X) → acc p ≡ Some x → line x ≡ p.0)
-    (bad_line : (p : ℕ × A) (f : Fault) → bad p ≡ Some f → f.line ≡ p.0) where
+    (bad_line : (p : ℕ × A) (f : LineNote) → bad p ≡ Some f → f.line ≡ p.0) where
   acc_one : (n : ℕ) (a : A) (more : List X) (o : Option X) → acc (n, a) ≡ o
       → Rises (n + 1) (map line more) → Rises n (map line (cons_option o more))
   acc_one n a more None e r = rises_lower n (n + 1) (map line more) (omega arith) r
@@ -131,7 +131,7 @@ module _ {A X : Type 0} (acc : ℕ × A → Option X) (bad : ℕ × A → Option
       acc_one n a (filter_map acc (enumerate_from (n + 1) xs)) (acc (n, a)) refl
       (acc_rises (n + 1) xs)
 
-  bad_one : (n : ℕ) (a : A) (more : List Fault) (o : Option Fault) → bad (n, a) ≡ o
+  bad_one : (n : ℕ) (a : A) (more : List LineNote) (o : Option LineNote) → bad (n, a) ≡ o
       → Rises (n + 1) (map (λ f. f.line) more) → Rises n (map (λ f. f.line) (cons_option o more))
   bad_one n a more None e r = rises_lower n (n + 1) (map (λ f. f.line) more) (omega arith) r
   bad_one n a more (Some f) e r =
@@ -145,17 +145,17 @@ module _ {A X : Type 0} (acc : ℕ × A → Option X) (bad : ℕ × A → Option
       bad_one n a (filter_map bad (enumerate_from (n + 1) xs)) (bad (n, a)) refl
       (bad_rises (n + 1) xs)
 
-  module _ (late : X → Option Fault)
-      (late_line : (x : X) (f : Fault) → late x ≡ Some f → f.line ≡ line x) where
+  module _ (late : X → Option LineNote)
+      (late_line : (x : X) (f : LineNote) → late x ≡ Some f → f.line ≡ line x) where
     -- the fault of a line: that of its statement, or its own
-    abbrev pub either : Option X → Option Fault → Option Fault
+    abbrev pub either : Option X → Option LineNote → Option LineNote
     either None own = own
     either (Some x) own = late x
 
-    abbrev lates : List X → List Fault
+    abbrev lates : List X → List LineNote
     lates xs = filter_map late xs
 
-    late_one : (low : ℕ) (x : X) (more : List Fault) (o : Option Fault)
+    late_one : (low : ℕ) (x : X) (more : List LineNote) (o : Option LineNote)
         → low ≤ line x → late x ≡ o → Rises (line x + 1) (map (λ f. f.line) more)
         → Rises low (map (λ f. f.line) (cons_option o more))
     late_one low x more None le e r =
@@ -171,7 +171,7 @@ module _ {A X : Type 0} (acc : ℕ × A → Option X) (bad : ℕ × A → Option
         late_one low x (lates xs) (late x) r.0 refl (late_rises (line x + 1) xs r.1)
 
     -- an early fault goes first where the late ones come after it
-    early_first : (n : ℕ) (f : Fault) (later early : List Fault)
+    early_first : (n : ℕ) (f : LineNote) (later early : List LineNote)
         → f.line ≡ n → Rises (n + 1) (map (λ f. f.line) later)
         → merged later (f ∷ early) ≡ f ∷ merged later early
     early_first n f [] early is r = refl
@@ -181,14 +181,15 @@ module _ {A X : Type 0} (acc : ℕ × A → Option X) (bad : ℕ × A → Option
         rw (lt-ltb f.line g.line (omega (arith, r.0))) (rw next refl)
 
     -- a late fault goes first where the early ones come after it
-    late_first : (n : ℕ) (g : Fault) (later early : List Fault)
+    late_first : (n : ℕ) (g : LineNote) (later early : List LineNote)
         → g.line ≡ n → Rises (n + 1) (map (λ f. f.line) early)
         → merged (g ∷ later) early ≡ g ∷ merged later early
     late_first n g later [] is r = refl
     late_first n g later (f ∷ early) is r = rw (le-ltb f.line g.line (omega (arith, r.0))) refl
 
-    merged_one : (n : ℕ) (a : A) (accs : List X) (bads whole : List Fault) → (o : Option X)
-        → acc (n, a) ≡ o → (b : Option Fault) → bad (n, a) ≡ b → ((x : X) → o ≡ Some x → b ≡ None)
+    merged_one : (n : ℕ) (a : A) (accs : List X) (bads whole : List LineNote) → (o : Option X)
+        → acc (n, a) ≡ o → (b : Option LineNote) → bad (n, a) ≡ b
+        → ((x : X) → o ≡ Some x → b ≡ None)
         → Rises (n + 1) (map line accs)
         → Rises (n + 1) (map (λ f. f.line) bads) → merged (lates accs) bads ≡ whole
         → merged (lates (cons_option o accs)) (cons_option b bads) ≡ cons_option (either o b) whole
@@ -200,7 +201,7 @@ module _ {A X : Type 0} (acc : ℕ × A → Option X) (bad : ℕ × A → Option
         absurd (let g = apart x refl in cc)
     merged_one n a accs bads whole (Some x) e None k apart ra rb is = by (late x) refl
       where
-        by : (l : Option Fault) → late x ≡ l
+        by : (l : Option LineNote) → late x ≡ l
             → merged (cons_option l (lates accs)) bads ≡ cons_option l whole
         by None t = is
         by (Some g) t =
@@ -251,7 +252,7 @@ same_number n (a ∷ xs) p q (inr m) (inl it) e =
     omega arith)
 same_number n (a ∷ xs) p q (inr m) (inr k) e = same_number (n + 1) xs p q m k e
 
-pub fault_line : (rules : RepeatRules) (at : ℕ) (t : Fate) (f : Fault)
+pub fault_line : (rules : RepeatRules) (at : ℕ) (t : Fate) (f : LineNote)
     → fault_by rules at t ≡ Some f → f.line ≡ at
 fault_line rules at Kept f e = absurd cc
 fault_line rules at Repeats f e = cc

@@ -11,7 +11,7 @@ use Rattle.geo_terms.specs.declared.place.Said.TheVariants.{Nothing, At}
 use Rattle.csv_lines.specs.declared.fate.Fate.{Fate}
 use Rattle.csv_lines.specs.declared.fate.Fate.TheVariants.{Kept, Repeats, Differs}
 use Rattle.csv_lines.specs.declared.fate.RepeatRules.{RepeatRules}
-use Rattle.csv_lines.specs.declared.fault.Fault.{Fault}
+use Rattle.geo_terms.specs.declared.note.LineNote.{LineNote}
 
 -- whether two lines say the same
 abbrev pub same_said : Said → Said → Bool
@@ -25,7 +25,7 @@ is_kept_by Kept = true
 is_kept_by Repeats = false
 is_kept_by Differs = false
 
-abbrev pub fault_by : RepeatRules → ℕ → Fate → Option Fault
+abbrev pub fault_by : RepeatRules → ℕ → Fate → Option LineNote
 fault_by rules at Kept = None
 fault_by rules at Repeats = Some (record { line = at; rule = rules.repeats })
 fault_by rules at Differs = Some (record { line = at; rule = rules.differs })
@@ -53,7 +53,7 @@ module _ {X : Type 0} (line : X → ℕ) (range : X → Ends) (said : X → Said
   kept all = filter (λ x. is_kept_by (fate all x)) all
 
   -- the faults of the lines that do not speak
-  abbrev pub repeat_faults : RepeatRules → List X → List Fault
+  abbrev pub repeat_faults : RepeatRules → List X → List LineNote
   repeat_faults rules all = filter_map (λ x. fault_by rules (line x) (fate all x)) all
 
 -- the lines rise from a number on
@@ -61,11 +61,11 @@ abbrev pub Rises : ℕ → List ℕ → Type 0
 Rises low [] = Unit {0}
 Rises low (x ∷ xs) = (low ≤ x) × Rises (x + 1) xs
 
-abbrev pub is_before : ℕ → Fault → Bool
+abbrev pub is_before : ℕ → LineNote → Bool
 is_before at f = nat_lt f.line at
 
 -- two lists of faults in line order as one
-abbrev pub merged : (late early : List Fault) → List Fault
+abbrev pub merged : (late early : List LineNote) → List LineNote
 merged [] early = early
 merged (f ∷ late) early =
     take_while (is_before f.line) early

@@ -1,7 +1,8 @@
 -- What is left of a line without its comment, and how `csv` reads it (RFC 8805 section 2,
 -- RFC 4180 section 2).
 use Rattle.std.specs.Prelude.{◌≡◌, ℕ, ◌+◌, ◌≤◌, Result, true, not, is_some, List, [], ◌∷◌, ◌++◌}
-use Rattle.std.specs.Prelude.{length, flat_map, Option, Some, unwrap_or, get_or, if◌then◌else◌}
+use Rattle.std.specs.Prelude.{length, flat_map, Option, None, Some, unwrap_or, get_or}
+use Rattle.std.specs.Prelude.{if◌then◌else◌}
 use Rattle.std.specs.Str.{is_utf8}
 use Rattle.std.specs.List.{list_all}
 use Rattle.geo_addr.specs.Lines.{pieces, trimmed}
@@ -16,6 +17,7 @@ use Rattle.geo_terms.specs.SaidOf.{said_of}
 use Rattle.geo_terms.specs.declared.place.PlaceFault.{PlaceFault}
 use Rattle.geo_terms.specs.declared.place.Said.{Said}
 use Rattle.csv_lines.specs.Fields.{is_bare, is_unquoted, values_of}
+use Rattle.csv_lines.specs.declared.bare.TheConstants.{MOST_FIELDS}
 use Rattle.csv_lines.specs.declared.rest.Content.{Content}
 use Rattle.csv_lines.specs.declared.rest.Content.TheVariants.{Blank, NotText, NoFields, Fields}
 
@@ -43,7 +45,7 @@ row_of rest = unwrap_or (values_of rest) []
 pub record IsBareLine (line : List ℕ) : Type 0 where
   pub content : content_of (rest_of line) ≡ Fields
   pub bare : list_all is_bare (trimmed line) ≡ true
-  pub few : length (row_of (rest_of line)) ≤ 8
+  pub few : length (row_of (rest_of line)) ≤ MOST_FIELDS
 
 -- a field without the blanks around it; missing fields are empty
 abbrev pub column : ℕ → List (List ℕ) → List ℕ
@@ -80,9 +82,14 @@ pub record Stands {R : Type 0} (source : R → Option (List ℕ)) (reader : Read
   pub reads : next_record default_config st.StartRecord [] [] bytes
       ≡ next_record default_config st.StartRecord [] [] left
 
+-- a reader that is there stands before these bytes, and without one none are left
+abbrev pub StandsIf : {R : Type 0} → (R → Option (List ℕ)) → Option (Reader R) → List ℕ → Type 0
+StandsIf source None left = left ≡ []
+StandsIf source (Some reader) left = Stands source reader left
+
 -- a reader stands where the rest of a line, and of those after it, was handed over
-abbrev pub CanRead : {R : Type 0} → (R → Option (List ℕ)) → Reader R → List ℕ → Type 0
-CanRead source reader line = (left : List ℕ) × Stands source reader (handed line ++ left)
+abbrev pub CanRead : {R : Type 0} → (R → Option (List ℕ)) → Option (Reader R) → List ℕ → Type 0
+CanRead source reader line = (left : List ℕ) × StandsIf source reader (handed line ++ left)
 
 -- what four fields from an index on say of a location: country, region, city and postal code
 abbrev pub said_in : ℕ → List (List ℕ) → Result Said PlaceFault

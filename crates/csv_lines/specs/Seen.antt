@@ -1,6 +1,9 @@
 -- How lines of the same range are found: by the first line of each range.
 use Rattle.std.specs.Prelude.{◌≡◌, ℕ, ◌<◌, ◌⊎◌, Bool, false, not, ◌||◌, nat_lt, List, fold, Option}
-use Rattle.std.specs.Prelude.{Some, None, if◌then◌else◌}
+use Rattle.std.specs.Prelude.{Some, None, map, ◌&&◌, if◌then◌else◌}
+use Rattle.std.specs.List.{IsDistinct}
+use Rattle.std.specs.Ordering.{nat_cmp, ordering_then}
+use Rattle.std.specs.declared.cmp.Ordering.{Ordering}
 use Rattle.geo_addr.specs.Ranges.{Ends}
 use Rattle.geo_terms.specs.Report.{same_ends}
 use Rattle.geo_terms.specs.declared.place.Said.{Said}
@@ -12,11 +15,23 @@ use Rattle.csv_lines.specs.declared.fate.Fate.TheVariants.{Kept, Repeats, Differ
 abbrev pub IsBelow : Ends → Ends → Type 0
 IsBelow a b = (a.first < b.first) ⊎ ((a.first ≡ b.first) × (a.last < b.last))
 
+-- ranges by their first ends, and those that begin together by their last ones
+abbrev pub ends_cmp : Ends → Ends → Ordering
+ends_cmp a b = ordering_then (nat_cmp a.first b.first) (nat_cmp a.last b.last)
+
+-- a range stands in a list at most once
+abbrev pub IsAlone : Ends → List Ends → Type 0
+IsAlone k ranges = IsDistinct (λ x y. same_ends k x && same_ends k y) ranges
+
 -- the first line of a range, what it says, and whether a later one says something else
 pub record Shown : Type 0 where
   pub line : ℕ
   pub said : Said
   pub differs : Bool
+
+-- what is held of a range: what it shows, or nothing
+abbrev pub held : Bool → Option Shown → Option Shown
+held b s = if b then s else None
 
 -- what becomes of a line whose range shows this
 abbrev pub fate_by : Option Shown → ℕ → Fate
@@ -41,3 +56,7 @@ module _ {X : Type 0} (line : X → ℕ) (range : X → Ends) (said : X → Said
   -- what lines show of a range
   abbrev pub shown : List X → Ends → Option Shown
   shown rows k = fold (λ s x. with_row s x k) None rows
+
+  -- what is held of a range: what the lines show of it, or nothing where at most one line has it
+  abbrev pub IsSeen : List X → Ends → Option Shown → Type 0
+  IsSeen rows k s = (s ≡ shown rows k) ⊎ ((s ≡ None) × IsAlone k (map range rows))

@@ -44,26 +44,27 @@ pub(crate) fn cut_row(text: &[u8], row: &mut ByteRecord) -> Result<(), Memory>
     }
 }
 
+/// The most fields of a row that is kept as slices of its line; few lines have more.
+pub(crate) const MOST_FIELDS: usize = 8;
+
 /// The fields of a line without quotes, as slices of the line.
 ///
 /// Contracts see the list of the fields.
 #[derive(Drop)]
 pub struct BareRow<'a> {
-    fields: [&'a [u8]; MOST],
+    fields: [&'a [u8]; MOST_FIELDS],
     count: usize,
 }
 
-/// The most fields of such a row; few lines have more.
-const MOST: usize = 8;
-
 impl<'a> Model for BareRow<'a> {
     ghost use Rattle.std.specs.Prelude.{ℕ, ◌≤◌, List, map, take};
+    ghost use Rattle.csv_lines.specs.declared.bare.TheConstants.{MOST_FIELDS};
 
     ghost Value = { List (List ℕ) };
 
     ghost view = { λ r. map (λ s. s.now) (take r.count r.fields) };
 
-    ghost invariant = { λ r. r.count ≤ 8 };
+    ghost invariant = { λ r. r.count ≤ MOST_FIELDS };
 }
 
 impl<'a> BareRow<'a> {
@@ -71,7 +72,7 @@ impl<'a> BareRow<'a> {
         ensures { result ≡ [] }
     {
         BareRow {
-            fields: [&[]; MOST],
+            fields: [&[]; MOST_FIELDS],
             count: 0,
         }
     }
@@ -79,9 +80,9 @@ impl<'a> BareRow<'a> {
     // Adds one more field, if there is room.
     fn push(&mut self, field: &'a [u8]) -> Option<()>
         ensures pushed { OnSome result (self.new ≡ self.old ++ field.now ∷ []) }
-        ensures full { IfNone result (length self.old ≡ 8) }
+        ensures full { IfNone result (length self.old ≡ MOST_FIELDS) }
     {
-        if self.count == MOST {
+        if self.count == MOST_FIELDS {
             return None;
         }
         self.fields[self.count] = field;
@@ -102,7 +103,8 @@ impl<'a> Row for BareRow<'a> {
     }
 }
 
-/// The fields of a line that has at most eight, and neither quotes nor a comment; else `None`.
+/// The fields of a line that has at most `MOST_FIELDS`, and neither quotes nor a comment; else
+/// `None`.
 pub fn bare_row(line: &[u8]) -> Option<BareRow<'_>>
     ensures content { IsSome result → content_of (rest_of line.now) ≡ Content.Fields }
     ensures row { IfSome result (λ row. row ≡ row_of (rest_of line.now)) }
@@ -122,7 +124,7 @@ pub fn bare_row(line: &[u8]) -> Option<BareRow<'_>>
 fn cut_bare(text: &[u8]) -> Option<BareRow<'_>>
     ensures bare { IsSome result → list_all is_bare text.now ≡ true }
     ensures row { IfSome result (λ row. row ≡ pieces 44 text.now) }
-    ensures taken { list_all is_bare text.now ≡ true → length (pieces 44 text.now) ≤ 8
+    ensures taken { list_all is_bare text.now ≡ true → length (pieces 44 text.now) ≤ MOST_FIELDS
         → IsSome result }
 {
     let mut row = BareRow::new();

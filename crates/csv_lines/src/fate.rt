@@ -1,21 +1,25 @@
 //! Lines about the same range.
 ghost use Rattle.std.specs.Prelude.{◌≡◌, ℕ, IfOk, IsTrue, AllPairs, filter, filter_map, length};
-ghost use Rattle.std.specs.Prelude.{map, OnOk, MatchOption, ◌++◌, option_to_list};
+ghost use Rattle.std.specs.Prelude.{map, OnOk, MatchOption, Option, ◌++◌, ◌||◌, false};
+ghost use Rattle.std.specs.Prelude.{option_to_list};
+ghost use Rattle.std.specs.List.Sorted.{IsSorted};
 ghost use Rattle.std.specs.Option.{option_copied};
 ghost use Rattle.geo_addr.specs.Ranges.{Ends};
 ghost use Rattle.geo_terms.specs.Report.{same_ends};
 ghost use Rattle.geo_terms.specs.declared.place.Said.{Said};
-ghost use Rattle.indexmap.specs.IndexMap.{get};
+ghost use Rattle.std.specs.BTreeMap.{get};
+ghost use Rattle.std.specs.BTreeSet.{contains};
 ghost use Rattle.csv_lines.specs.Repeats.{Rises, fate, fault_by, is_kept_by, kept, merged};
 ghost use Rattle.csv_lines.specs.Repeats.{repeat_faults, same_said};
-ghost use Rattle.csv_lines.specs.Seen.{IsBelow, fate_by, shown, with_row};
+ghost use Rattle.csv_lines.specs.Seen.{IsAlone, IsBelow, IsSeen, Shown, ends_cmp, fate_by, held};
+ghost use Rattle.csv_lines.specs.Seen.{with_row};
 ghost use Rattle.csv_lines.specs.declared.fate.Fate.{Fate};
 
-use crate::fault::{Fault, merged};
+use crate::fault::merged;
 use geo_addr::{Memory, Range, range_of};
-use geo_terms::{Entry, Override, Rule, Said};
-use indexmap::IndexMap;
+use geo_terms::{Entry, LineNote, Override, Rule, Said};
 use std::alloc::Global;
+use std::collections::{BTreeMap, BTreeSet};
 use std::marker::Model;
 
 /// A line that was accepted: what it is about and what it says.
@@ -103,7 +107,7 @@ pub struct RepeatRules {
 #[derive(Debug, Drop)]
 pub struct Judged<T> {
     pub rows: Vec<T>,
-    pub faults: Vec<Fault>,
+    pub faults: Vec<LineNote>,
 }
 
 /// Leaves of the accepted lines those that speak, and puts the faults of the others to those of the
@@ -113,7 +117,7 @@ pub struct Judged<T> {
 pub fn judge<T: Accepted + Drop>(
     alloc: Global,
     rows: Vec<T>,
-    faults: Vec<Fault>,
+    faults: Vec<LineNote>,
     rules: RepeatRules,
 ) -> Result<Judged<T>, Memory>
     requires { Rises 0 (map T.line rows.items) }
@@ -198,22 +202,95 @@ impl<'a> Model for Seen<'a> {
     ghost view = { λ s. record { line = s.line; said = s.said.now; differs = s.differs } };
 }
 
-// What the lines show, by their ranges.
-fn seen_in<T: Accepted>(alloc: Global, rows: &[T]) -> Result<IndexMap<Range, Seen<'_>>, Memory>
-    ensures { IfOk result
-        (λ seen. (k : Ends) → get same_ends seen k ≡ shown T.line T.range T.said rows.now k) }
+// What the lines show, by their ranges, of the ranges that more than one line has.
+//
+// Few files have any, and a sort finds them in less time than a map of all ranges takes.
+fn seen_in<T: Accepted>(alloc: Global, rows: &[T]) -> Result<BTreeMap<Range, Seen<'_>>, Memory>
+    ensures { IfOk result (λ seen. (k : Ends)
+        → IsSeen T.line T.range T.said rows.now k (get ends_cmp seen k)) }
 {
-    let mut seen: IndexMap<Range, Seen<'_>> = IndexMap::with_capacity(alloc, rows.len())?;
+    let doubled = doubled_in(alloc, rows)?;
+    let mut seen: BTreeMap<Range, Seen<'_>> = BTreeMap::new(alloc);
     for row in rows {
-        see(&mut seen, row)?;
+        see_doubled(&doubled, &mut seen, row)?;
     }
     Ok(seen)
 }
 
+// Takes one more line, if its range is one of these.
+fn see_doubled<'a, T: Accepted>(
+    doubled: &BTreeSet<Range>,
+    seen: &mut BTreeMap<Range, Seen<'a>>,
+    row: &'a T,
+) -> Result<(), Memory>
+    ensures { (k : Ends) (s : Option Shown)
+        → get ends_cmp seen.old k ≡ held (contains ends_cmp doubled.now k) s → OnOk result
+        (get ends_cmp seen.new k ≡ held (contains ends_cmp doubled.now k)
+        (with_row T.line T.range T.said s row.now k)) }
+{
+    if !doubled.contains(&row.range()) {
+        return Ok(());
+    }
+    see(seen, row)?;
+    Ok(())
+}
+
+// The ranges that more than one line has.
+fn doubled_in<T: Accepted>(alloc: Global, rows: &[T]) -> Result<BTreeSet<Range>, Memory>
+    ensures { IfOk result (λ doubled. (k : Ends) → contains ends_cmp doubled k ≡ false
+        → IsAlone k (map T.range rows.now)) }
+{
+    let mut ranges = ranges_of(alloc, rows)?;
+    ranges.sort_unstable();
+    let doubled = doubled_among(alloc, ranges.as_slice())?;
+    Ok(doubled)
+}
+
+fn ranges_of<T: Accepted>(alloc: Global, rows: &[T]) -> Result<Vec<Range>, Memory>
+    ensures { IfOk result (λ ranges. ranges.items ≡ map T.range rows.now) }
+{
+    let mut ranges = Vec::with_capacity(alloc, rows.len())?;
+    for row in rows {
+        ranges.push(row.range()).map_err(Memory::from)?;
+    }
+    Ok(ranges)
+}
+
+// The ranges that stand more than once in a list in order, where equal ones are neighbours.
+fn doubled_among(alloc: Global, ranges: &[Range]) -> Result<BTreeSet<Range>, Memory>
+    requires { IsSorted ends_cmp ranges.now }
+    ensures { IfOk result (λ doubled. (k : Ends) → contains ends_cmp doubled k ≡ false
+        → IsAlone k ranges.now) }
+{
+    let mut doubled = BTreeSet::new(alloc);
+    for at in 1..ranges.len() {
+        if is_same(ranges[at - 1], ranges[at]) {
+            add(&mut doubled, ranges[at])?;
+        }
+    }
+    Ok(doubled)
+}
+
+fn is_same(one: Range, other: Range) -> bool
+    ensures { result ≡ same_ends one other }
+{
+    one.first == other.first && one.last == other.last
+}
+
+fn add(doubled: &mut BTreeSet<Range>, range: Range) -> Result<(), Memory>
+    ensures { (k : Ends) → OnOk result (contains ends_cmp doubled.new k
+        ≡ (same_ends range k || contains ends_cmp doubled.old k)) }
+{
+    let Ok(_) = doubled.insert(range) else {
+        return Err(Memory);
+    };
+    Ok(())
+}
+
 // Takes one more line.
-fn see<'a, T: Accepted>(seen: &mut IndexMap<Range, Seen<'a>>, row: &'a T) -> Result<(), Memory>
-    ensures { (k : Ends) → OnOk result (get same_ends seen.new k
-        ≡ with_row T.line T.range T.said (get same_ends seen.old k) row.now k) }
+fn see<'a, T: Accepted>(seen: &mut BTreeMap<Range, Seen<'a>>, row: &'a T) -> Result<(), Memory>
+    ensures { (k : Ends) → OnOk result (get ends_cmp seen.new k
+        ≡ with_row T.line T.range T.said (get ends_cmp seen.old k) row.now k) }
 {
     let range = row.range();
     if let Some(found) = seen.get_mut(&range) {
@@ -248,8 +325,8 @@ fn says_same(one: &Said, other: &Said) -> bool
     }
 }
 
-fn fate_in<T: Accepted>(seen: &IndexMap<Range, Seen<'_>>, row: &T) -> Fate
-    ensures { result ≡ fate_by (get same_ends seen.now (T.range row.now)) (T.line row.now) }
+fn fate_in<T: Accepted>(seen: &BTreeMap<Range, Seen<'_>>, row: &T) -> Fate
+    ensures { result ≡ fate_by (get ends_cmp seen.now (T.range row.now)) (T.line row.now) }
 {
     fate_of(seen.get(&row.range()), row.line())
 }
@@ -275,7 +352,7 @@ fn repeat_faults<T: Accepted>(
     rows: &[T],
     fates: &[Fate],
     rules: RepeatRules,
-) -> Result<Vec<Fault>, Memory>
+) -> Result<Vec<LineNote>, Memory>
     requires { length fates.now ≡ length rows.now }
     ensures { (f : T → Fate) → fates.now ≡ map f rows.now → IfOk result
         (λ faults. faults.items ≡ filter_map (λ x. fault_by rules (T.line x) (f x)) rows.now) }
@@ -287,7 +364,7 @@ fn repeat_faults<T: Accepted>(
     Ok(faults)
 }
 
-fn push_some(faults: &mut Vec<Fault>, fault: Option<Fault>) -> Result<(), Memory>
+fn push_some(faults: &mut Vec<LineNote>, fault: Option<LineNote>) -> Result<(), Memory>
     ensures { OnOk result (faults.new.items ≡ faults.old.items ++ option_to_list fault) }
 {
     if let Some(fault) = fault {
@@ -296,16 +373,16 @@ fn push_some(faults: &mut Vec<Fault>, fault: Option<Fault>) -> Result<(), Memory
     Ok(())
 }
 
-fn fault_of(rules: RepeatRules, line: u64, fate: Fate) -> Option<Fault>
+fn fault_of(rules: RepeatRules, line: u64, fate: Fate) -> Option<LineNote>
     ensures { result ≡ fault_by rules line fate }
 {
     match fate {
         Fate::Kept => None,
-        Fate::Repeats => Some(Fault {
+        Fate::Repeats => Some(LineNote {
             line,
             rule: rules.repeats,
         }),
-        Fate::Differs => Some(Fault {
+        Fate::Differs => Some(LineNote {
             line,
             rule: rules.differs,
         }),

@@ -1,22 +1,19 @@
-//! The faults of lines.
+//! The faults of lines, each a note on its line.
 ghost use Rattle.std.specs.Prelude.{◌≡◌, ◌++◌, IfOk, OnOk, take_while, drop};
 ghost use Rattle.std.specs.List.{prefix_len};
 ghost use Rattle.csv_lines.specs.Repeats.{is_before, merged};
 
 use geo_addr::Memory;
-use geo_terms::Rule;
+use geo_terms::LineNote;
 use std::alloc::Global;
-
-/// A line that breaks a rule.
-#[derive(Clone, Copy, Debug, PartialEq, Eq)]
-pub struct Fault {
-    pub line: u64,
-    pub rule: Rule,
-}
 
 // Two lists of faults in line order as one: before each of the later list stand those of the
 // earlier list that have a lower line.
-pub(crate) fn merged(alloc: Global, late: &[Fault], early: &[Fault]) -> Result<Vec<Fault>, Memory>
+pub(crate) fn merged(
+    alloc: Global,
+    late: &[LineNote],
+    early: &[LineNote],
+) -> Result<Vec<LineNote>, Memory>
     ensures { IfOk result (λ all. all.items ≡ merged late.now early.now) }
 {
     let mut all = Vec::with_capacity(alloc, late.len().saturating_add(early.len()))?;
@@ -31,10 +28,10 @@ pub(crate) fn merged(alloc: Global, late: &[Fault], early: &[Fault]) -> Result<V
 
 // Takes the faults of lower lines, and gives those that are left.
 fn take_before<'a>(
-    faults: &'a [Fault],
+    faults: &'a [LineNote],
     line: u64,
-    all: &mut Vec<Fault>,
-) -> Result<&'a [Fault], Memory>
+    all: &mut Vec<LineNote>,
+) -> Result<&'a [LineNote], Memory>
     ensures taken { OnOk result
         (all.new.items ≡ all.old.items ++ take_while (is_before line) faults.now) }
     ensures left { IfOk result

@@ -12,7 +12,6 @@ mod tails;
 
 pub use bare::{BareRow, bare_row};
 pub use fate::{Accepted, Fate, Judged, RepeatRules, judge};
-pub use fault::Fault;
 pub use rest::{Content, content_of, rest_of};
 pub use rows::{Row, all_handed, column, next_row, reader_of, said_in};
 pub use scan::has_fields;

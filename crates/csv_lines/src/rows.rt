@@ -1,11 +1,13 @@
-//! The fields of all lines that have any; one `csv` reader reads those with quotes.
+//! The fields of all lines that have any; where a file has quotes, one `csv` reader reads the lines
+//! with them.
 ghost use Rattle.std.specs.Prelude.{◌≡◌, ◌≢◌, [], ◌∷◌, ◌++◌, ◌<◌, ℕ, List, Some, IfOk, OnOk};
 ghost use Rattle.std.specs.Prelude.{option_map};
 ghost use Rattle.geo_addr.specs.Lines.{numbered_lines};
 ghost use Rattle.csv.specs.Records.{field_at, fields_of};
 ghost use Rattle.csv_lines.specs.Clean.{AreTexts};
 ghost use Rattle.csv_lines.specs.Fields.{values_of};
-ghost use Rattle.csv_lines.specs.Rests.{CanRead, Stands, all_handed, column, content_of, handed};
+ghost use Rattle.csv_lines.specs.Rests.{CanRead, Stands, StandsIf, all_handed, column, content_of};
+ghost use Rattle.csv_lines.specs.Rests.{handed};
 ghost use Rattle.csv_lines.specs.Rests.{handed_text, rest_of, row_of, said_in};
 ghost use Rattle.csv_lines.specs.declared.rest.Content.{Content};
 
@@ -56,8 +58,19 @@ fn hand(line: &[u8], all: &mut Vec<u8>) -> Result<(), Memory>
     Ok(())
 }
 
-/// The reader of what was handed over.
-pub fn reader_of(alloc: Global, handed: &[u8]) -> Reader<&[u8]>
+/// The reader of what was handed over, where that is more than the line feed in front: most files
+/// have no quote, and a reader makes its tables first.
+pub fn reader_of(alloc: Global, handed: &[u8]) -> Option<Reader<&[u8]>>
+    ensures { (left : List ℕ) → handed.now ≡ 10 ∷ left → StandsIf (λ s. Some s.now) result left }
+{
+    if handed.len() > 1 {
+        Some(new_reader(alloc, handed))
+    } else {
+        None
+    }
+}
+
+fn new_reader(alloc: Global, handed: &[u8]) -> Reader<&[u8]>
     ensures { (left : List ℕ) → handed.now ≡ 10 ∷ left → Stands (λ s. Some s.now) result left }
 {
     ReaderBuilder::new()
@@ -70,7 +83,7 @@ pub fn reader_of(alloc: Global, handed: &[u8]) -> Reader<&[u8]>
 ///
 /// The reader is that of the file of the line, and its lines are taken one after another.
 pub fn next_row(
-    reader: &mut Reader<&[u8]>,
+    reader: &mut Option<Reader<&[u8]>>,
     line: &[u8],
     row: &mut ByteRecord,
 ) -> Result<Content, Memory>
@@ -80,8 +93,9 @@ pub fn next_row(
         (λ content. content ≡ Content.Fields → fields_of row.new ≡ row_of (rest_of line.now)) }
     ensures texts { IfOk result
         (λ content. content ≡ Content.Fields → AreTexts (fields_of row.new)) }
-    ensures stands { (left : List ℕ) → Stands (λ s. Some s.now) reader.old (handed line.now ++ left)
-        → OnOk result (Stands (λ s. Some s.now) reader.new left) }
+    ensures stands { (left : List ℕ)
+        → StandsIf (λ s. Some s.now) reader.old (handed line.now ++ left)
+        → OnOk result (StandsIf (λ s. Some s.now) reader.new left) }
 {
     let rest = rest_of(line);
     let content = content_of(rest);
@@ -95,16 +109,23 @@ pub fn next_row(
 }
 
 // Takes the fields of a text that has them: without quotes they are its pieces, else the next row.
-fn take_row(reader: &mut Reader<&[u8]>, text: &[u8], row: &mut ByteRecord) -> Result<(), Memory>
+fn take_row(
+    reader: &mut Option<Reader<&[u8]>>,
+    text: &[u8],
+    row: &mut ByteRecord,
+) -> Result<(), Memory>
     ensures { (left : List ℕ)
         → (values : List (List ℕ)) → text.now ≢ [] → values_of text.now ≡ Some values
-        → Stands (λ s. Some s.now) reader.old (handed_text text.now ++ left)
-        → OnOk result ((fields_of row.new ≡ values) × Stands (λ s. Some s.now) reader.new left) }
+        → StandsIf (λ s. Some s.now) reader.old (handed_text text.now ++ left)
+        → OnOk result ((fields_of row.new ≡ values) × StandsIf (λ s. Some s.now) reader.new left) }
 {
     if is_unquoted(text) {
-        cut_row(text, row)
-    } else {
-        read_row(reader, row)
+        return cut_row(text, row);
+    }
+    match reader {
+        Some(reader) => read_row(reader, row),
+        // Nothing was handed over, so no text with a quote comes.
+        None => Ok(()),
     }
 }
 

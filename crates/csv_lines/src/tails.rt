@@ -107,6 +107,12 @@ impl<'a> Tail<'a> {
     }
 }
 
+/// The most slots for the tails of a file.
+pub(crate) const MOST_TAILS: usize = 16_384;
+
+/// For each so many bytes of a file one slot is made; most files have longer lines on the average.
+const TAIL_BYTES: usize = 32;
+
 /// Tails of one file, and the places that they say.
 ///
 /// Which tails it holds changes no answer: a line whose tail is not held is read by its fields.
@@ -118,9 +124,9 @@ pub struct Tails<'a> {
 }
 
 impl<'a> Tails<'a> {
-    /// No tail yet, with slots for those of a text of so many bytes, at most 16,384.
+    /// No tail yet, with slots for those of a text of so many bytes, at most `MOST_TAILS`.
     pub fn with_room(alloc: Global, size: usize) -> Result<Tails<'a>, Memory> {
-        let last = ones((size / 32).min(16_383) as u16);
+        let last = ones((size / TAIL_BYTES).min(MOST_TAILS - 1) as u16);
         let count = usize::from(last) + 1;
         let mut slots = Vec::with_capacity(alloc, count)?;
         for _ in 0..count {
@@ -155,7 +161,8 @@ impl<'a> Tails<'a> {
 
     /// Holds the tail of a line that says this place; an older one may have to go for it.
     pub fn keep(&mut self, cut: &LineCut<'a>, place: &Place) -> Result<(), Memory>
-        requires { (line : List ℕ) × IsCut line cut.now.first cut.now.tail × SaysBare line place.now }
+        requires { (line : List ℕ)
+            × IsCut line cut.now.first cut.now.tail × SaysBare line place.now }
     {
         let place = place.copied()?;
         let tail = Tail {

@@ -1,3 +1,4 @@
+//! Touched grounds cut into segments.
 ghost use Rattle.std.specs.Prelude.{◌≡◌, ◌∷◌, ◌+◌, ◌<◌, ◌≤◌, [], All, IfOk, IfSome, IsSome, IsTrue};
 ghost use Rattle.std.specs.Prelude.{MatchOption, length, max};
 ghost use Rattle.std.specs.List.{AllAdjacentBelow};

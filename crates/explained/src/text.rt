@@ -1,3 +1,4 @@
+//! The whole text of an explanation.
 ghost use Rattle.std.specs.Prelude.{◌≡◌, IfOk};
 ghost use Rattle.explained.specs.Explanation.{explanation};
 ghost use Rattle.precedence.specs.Why.{reasons_of};

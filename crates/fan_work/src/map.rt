@@ -1,11 +1,10 @@
 //! The map over a list by pieces.
-ghost use Rattle.std.specs.Prelude.{◌≡◌, ◌≤◌, ◌<◌, map, length, IfOk};
+ghost use Rattle.std.specs.Prelude.{◌≡◌, ◌≤◌, ◌<◌, map, length, ℕ, IfOk, OnOk};
 ghost use Rattle.std.specs.List.{AllZip};
 ghost use Rattle.std.specs.Thread.{IsSync, IsSend};
-ghost use Rattle.fan_work.specs.Parts.{IsPart};
-ghost use Rattle.fan_work.specs.Pieces.{AllowsOnly};
+ghost use Rattle.fan_work.specs.Parts.{HaveEntered, IsPart};
+ghost use Rattle.fan_work.specs.Pieces.{AllowsOnly, HasItems};
 
-use crate::forks::Forks;
 use crate::part::{Part, halves};
 use crate::work::Work;
 use geo_addr::Memory;
@@ -19,22 +18,29 @@ use std::thread::{Threads, join};
 /// but not including `(j + 1) * n / pieces`, of n. Each piece that has items enters the gate before
 /// its first one, and runs on a thread of its own where one can be had.
 pub fn map_pieces<R: Threads + Sync, A: Sync, B: Send + Drop, W: Work<A, B>, G: Gate>(
-    forks: &Forks<R, G>,
+    rt: &R,
+    alloc: Global,
+    gate: &G,
+    pieces: u32,
     items: &[A],
     work: &W,
 ) -> Result<Vec<B>, Memory>
+    requires some { 0 < pieces }
+    requires few { pieces ≤ 64 }
     ensures related { IfOk result (λ v. AllZip (W.related work.now) items.now v.items) }
     // Where the relation leaves no choice, nothing tells the answer from that of one thread.
     ensures one_thread { (f : A → B) → AllowsOnly (W.related work.now) f
         → IfOk result (λ v. v.items ≡ map f items.now) }
+    ensures entered { OnOk result ((j : ℕ) → HasItems pieces (length items.now) j
+        → G.entered gate.now j) }
 {
     let whole = Part {
-        pieces: forks.pieces,
+        pieces,
         count: items.len(),
         from: 0,
-        to: forks.pieces,
+        to: pieces,
     };
-    map_part(forks.rt, forks.alloc, forks.gate, whole, items, work)
+    map_part(rt, alloc, gate, whole, items, work)
 }
 
 // The results of the items of a part: by its halves side by side, down to single pieces.
@@ -47,7 +53,8 @@ fn map_part<R: Threads + Sync, A: Sync, B: Send + Drop, W: Work<A, B>, G: Gate>(
     work: &W,
 ) -> Result<Vec<B>, Memory>
     requires { IsPart part (length items.now) }
-    ensures { IfOk result (λ v. AllZip (W.related work.now) items.now v.items) }
+    ensures related { IfOk result (λ v. AllZip (W.related work.now) items.now v.items) }
+    ensures entered { OnOk result (HaveEntered (G.entered gate.now) part) }
 {
     if items.is_empty() || part.to - part.from == 1 {
         return map_piece(alloc, gate, part.from, items, work);
@@ -58,14 +65,16 @@ fn map_part<R: Threads + Sync, A: Sync, B: Send + Drop, W: Work<A, B>, G: Gate>(
         || -> Result<Vec<B>, Memory>
             requires { IsSync R.row × IsSync A.row × IsSync W.row × IsSync G.row × IsSend B.row
                 × IsPart left_part (length left_items.now) }
-            ensures { IfOk result
+            ensures related { IfOk result
                 (λ v. AllZip (W.related work.entry.now) left_items.entry.now v.items) }
+            ensures entered { OnOk result (HaveEntered (G.entered gate.entry.now) left_part) }
         { map_part(rt, alloc, gate, left_part, left_items, work) },
         || -> Result<Vec<B>, Memory>
             requires { IsSync R.row × IsSync A.row × IsSync W.row × IsSync G.row × IsSend B.row
                 × IsPart right_part (length right_items.now) }
-            ensures { IfOk result
+            ensures related { IfOk result
                 (λ v. AllZip (W.related work.entry.now) right_items.entry.now v.items) }
+            ensures entered { OnOk result (HaveEntered (G.entered gate.entry.now) right_part) }
         { map_part(rt, alloc, gate, right_part, right_items, work) },
     );
     let mut results = left?;
@@ -82,14 +91,15 @@ fn map_piece<A, B: Drop, W: Work<A, B>, G: Gate>(
     items: &[A],
     work: &W,
 ) -> Result<Vec<B>, Memory>
-    ensures { IfOk result (λ v. AllZip (W.related work.now) items.now v.items) }
+    ensures related { IfOk result (λ v. AllZip (W.related work.now) items.now v.items) }
+    ensures entered { OnOk result (0 < length items.now → G.entered gate.now piece) }
 {
     let mut results = Vec::with_capacity(alloc, items.len())?;
     if !items.is_empty() {
         gate.enter(piece);
     }
     for item in items {
-        results.push(work.done(alloc, item)?)?;
+        results.push(work.done(item)?)?;
     }
     Ok(results)
 }

@@ -1,6 +1,6 @@
 //! The pieces of a list of items.
 ghost use Rattle.std.specs.Prelude.{◌≡◌, ◌+◌, ◌-◌, ◌≤◌, ◌<◌, ◌++◌, length};
-ghost use Rattle.fan_work.specs.Parts.{IsPart};
+ghost use Rattle.fan_work.specs.Parts.{AreHalves, IsPart};
 ghost use Rattle.fan_work.specs.Pieces.{piece_start};
 
 /// Neighbouring pieces: those from `from` up to but not including `to`, where so many items are cut
@@ -29,6 +29,7 @@ impl Part {
 pub(crate) fn halves<A>(part: Part, items: &[A]) -> ((Part, &[A]), (Part, &[A]))
     requires part { IsPart part (length items.now) }
     requires many { part.from + 1 < part.to }
+    ensures halves { AreHalves part result.0.0 result.1.0 }
     ensures left { IsPart result.0.0 (length result.0.1.now) }
     ensures right { IsPart result.1.0 (length result.1.1.now) }
     ensures left_smaller { result.0.0.to - result.0.0.from < part.to - part.from }

@@ -1,18 +1,16 @@
 -- The lists of a file keep what a `Feed` promises.
-use Rattle.std.proofs.Common.{◌≡◌, ◌≢◌, ℕ, All, List, [], ◌∷◌, map, Option, Some, None, refl, sym}
+use Rattle.std.proofs.Common.{◌≡◌, ◌≢◌, ℕ, All, List, map, Option, Some, None, refl, sym}
 use Rattle.std.proofs.Common.{ap, ◌∙◌, subst, arith}
 use Rattle.std.specs.List.{enumerate_from}
 use Rattle.std.proofs.lemmas.List.Elements.{All-map}
 use Rattle.geo_addr.specs.Lines.{lines_of, without_mark}
 use Rattle.geo_addr.specs.Ranges.{range_of_block}
 use Rattle.geo_terms.specs.SourceForm.{IsFeed}
-use Rattle.geo_terms.specs.declared.note.Note.{Note}
-use Rattle.geo_terms.specs.declared.note.Origin.TheVariants.{Feed}
+use Rattle.geo_terms.specs.declared.note.LineNote.{LineNote}
 use Rattle.geo_terms.specs.declared.statement.Entry.{Entry}
 use Rattle.csv_lines.specs.Repeats.{Rises, fate, fault_by, is_kept_by, merged, repeat_faults}
 use Rattle.csv_lines.specs.declared.fate.Fate.{Fate}
 use Rattle.csv_lines.specs.declared.fate.Fate.TheVariants.{Kept}
-use Rattle.csv_lines.specs.declared.fault.Fault.{Fault}
 use Rattle.csv_lines.proofs.FateLemmas.{Member}
 use Rattle.csv_lines.proofs.OrderLemmas.{acc_rises, all_members, either, fault_line}
 use Rattle.csv_lines.proofs.OrderLemmas.{filter_map_agree, increasing, kept_apart, kept_from}
@@ -20,7 +18,7 @@ use Rattle.csv_lines.proofs.OrderLemmas.{kept_is, member_filter, merged_is, rise
 use Rattle.csv_lines.proofs.OrderLemmas.{rises_lower, same_number}
 use Rattle.feed_csv.specs.File.{accepted, entries, entry_by, entry_line, entry_of, entry_range}
 use Rattle.feed_csv.specs.File.{entry_said, fault_alone, fault_among, fault_of, faults, feed}
-use Rattle.feed_csv.specs.File.{note_of, notes, refused, repeat_rules}
+use Rattle.feed_csv.specs.File.{refused, repeat_rules}
 use Rattle.feed_csv.specs.Verdicts.{verdict}
 use Rattle.feed_csv.specs.declared.verdict.Verdict.{Verdict}
 use Rattle.feed_csv.specs.declared.verdict.Verdict.TheVariants.{Silent, Broken, Accepted}
@@ -30,7 +28,7 @@ entry_number line Silent e h = absurd cc
 entry_number line (Broken rule) e h = absurd cc
 entry_number line (Accepted block said) e h = cc
 
-fault_number : (line : ℕ) (v : Verdict) (f : Fault) → fault_alone line v ≡ Some f → f.line ≡ line
+fault_number : (line : ℕ) (v : Verdict) (f : LineNote) → fault_alone line v ≡ Some f → f.line ≡ line
 fault_number line Silent f h = absurd cc
 fault_number line (Broken rule) f h = cc
 fault_number line (Accepted block said) f h = absurd cc
@@ -52,16 +50,16 @@ module _ (file : List ℕ) where
   abbrev fate_of : Entry → Fate
   fate_of e = fate entry_line entry_range entry_said all e
 
-  abbrev late : Entry → Option Fault
+  abbrev late : Entry → Option LineNote
   late e = fault_by repeat_rules (entry_line e) (fate_of e)
 
   acc_line : (p : ℕ × List ℕ) (e : Entry) → entry_of p ≡ Some e → entry_line e ≡ p.0
   acc_line p e h = entry_number p.0 (verdict p.1) e h
 
-  bad_line : (p : ℕ × List ℕ) (f : Fault) → fault_of p ≡ Some f → f.line ≡ p.0
+  bad_line : (p : ℕ × List ℕ) (f : LineNote) → fault_of p ≡ Some f → f.line ≡ p.0
   bad_line p f h = fault_number p.0 (verdict p.1) f h
 
-  late_line : (e : Entry) (f : Fault) → late e ≡ Some f → f.line ≡ entry_line e
+  late_line : (e : Entry) (f : LineNote) → late e ≡ Some f → f.line ≡ entry_line e
   late_line e f h = fault_line repeat_rules (entry_line e) (fate_of e) f h
 
   among_is : (line : ℕ) (v : Verdict) → either entry_of fault_of entry_line acc_line bad_line late
@@ -84,7 +82,7 @@ module _ (file : List ℕ) where
       rises_lower 0 1 (map entry_line all) (omega arith)
       (acc_rises entry_of fault_of entry_line acc_line bad_line 1 lines)
 
-  among_number : (line : ℕ) (v : Verdict) (f : Fault) → fault_among all line v ≡ Some f
+  among_number : (line : ℕ) (v : Verdict) (f : LineNote) → fault_among all line v ≡ Some f
       → f.line ≡ line
   among_number line Silent f h = absurd cc
   among_number line (Broken rule) f h = cc
@@ -92,7 +90,7 @@ module _ (file : List ℕ) where
       fault_line repeat_rules line
       (fate_of (record { line = line; block = block; said = said })) f h
 
-  among_line : (p : ℕ × List ℕ) (f : Fault) → fault_among all p.0 (verdict p.1) ≡ Some f
+  among_line : (p : ℕ × List ℕ) (f : LineNote) → fault_among all p.0 (verdict p.1) ≡ Some f
       → f.line ≡ p.0
   among_line p f h = among_number p.0 (verdict p.1) f h
 
@@ -100,11 +98,6 @@ module _ (file : List ℕ) where
   faults_rise =
       acc_rises (λ p. fault_among all p.0 (verdict p.1)) fault_of
       (λ f. f.line) among_line bad_line 1 lines
-
-  lines_of_notes : (url : List ℕ) (fs : List Fault)
-      → map (λ n. n.line) (map (note_of url) fs) ≡ map (λ f. f.line) fs
-  lines_of_notes url [] = refl
-  lines_of_notes url (f ∷ fs) = ap (λ t. f.line ∷ t) (lines_of_notes url fs)
 
   -- an entry that is kept has no fault
   kept_silent : (line : ℕ) (v : Verdict) (e : Entry) → entry_by line v ≡ Some e → fate_of e ≡ Kept
@@ -115,7 +108,7 @@ module _ (file : List ℕ) where
       let is : record { line = line; block = block; said = said } ≡ e = cc in
       ap (fault_by repeat_rules line) (ap fate_of is ∙ k)
 
-  apart_lines : (e : Entry) (f : Fault) → Member (entries file) e → Member (faults file) f
+  apart_lines : (e : Entry) (f : LineNote) → Member (entries file) e → Member (faults file) f
       → entry_line e ≢ f.line
   apart_lines e f m n same =
       let (in_all, speaks) = member_filter (λ x. is_kept_by (fate_of x)) all e m in
@@ -137,27 +130,18 @@ module _ (file : List ℕ) where
     ordered =
         increasing 0 (map entry_line (entries file))
         (rises_filter entry_line (λ x. is_kept_by (fate_of x)) 0 all all_rise);
-    notes = record {
-      origins =
-          All-map (λ n. n.origin ≡ Feed url) (note_of url) (faults file)
-          (all_members (λ f. Feed url ≡ Feed url) (faults file) (λ f m. refl));
-      ordered =
-          rw (lines_of_notes url (faults file))
-          (increasing 1 (map (λ f. f.line) (faults file)) faults_rise);
-    };
+    notes = increasing 1 (map (λ f. f.line) (faults file)) faults_rise;
     apart =
-        All-map (λ x. All (λ y. x ≢ y) (map (λ n. n.line) (notes url file))) entry_line
-        (entries file)
-        (all_members (λ e. All (λ y. entry_line e ≢ y) (map (λ n. n.line) (notes url file)))
-        (entries file) (λ e m.
-        rw (lines_of_notes url (faults file))
-        (All-map (λ y. entry_line e ≢ y) (λ (f : Fault). f.line) (faults file)
-        (all_members (λ f. entry_line e ≢ f.line) (faults file) (λ f n. apart_lines e f m n)))));
+        All-map (λ x. All (λ y. x ≢ y) (map (λ n. n.line) (faults file))) entry_line (entries file)
+        (all_members (λ e. All (λ y. entry_line e ≢ y) (map (λ n. n.line) (faults file)))
+        (entries file) (λ e m. All-map (λ y. entry_line e ≢ y) (λ (f : LineNote). f.line)
+        (faults file)
+        (all_members (λ f. entry_line e ≢ f.line) (faults file) (λ f n. apart_lines e f m n))));
   }
 
   -- the lists that were read are those of the file
-  pub feed_in_form : (url u : List ℕ) (es : List Entry) (ns : List Note) → u ≡ url
-      → es ≡ entries file → ns ≡ notes url file
+  pub feed_in_form : (url u : List ℕ) (es : List Entry) (ns : List LineNote) → u ≡ url
+      → es ≡ entries file → ns ≡ faults file
       → IsFeed (record { url = u; entries = es; notes = ns })
   feed_in_form url u es ns e f g =
       let same : record { url = u; entries = es; notes = ns } ≡ feed url file =

@@ -1,17 +1,16 @@
 -- What a feed says (RFC 8805).
-use Rattle.std.specs.Prelude.{ℕ, List, All, map, filter_map, Option, None, Some}
+use Rattle.std.specs.Prelude.{ℕ, List, All, filter_map, Option, None, Some}
 use Rattle.geo_addr.specs.Lines.{numbered_lines}
 use Rattle.geo_addr.specs.Ranges.{Ends, range_of_block}
 use Rattle.geo_terms.specs.SourceForm.{FeedParts}
-use Rattle.geo_terms.specs.declared.note.Note.{Note}
-use Rattle.geo_terms.specs.declared.note.Origin.TheVariants.{Feed}
+use Rattle.geo_terms.specs.declared.note.LineNote.{LineNote}
 use Rattle.geo_terms.specs.declared.note.Rule.TheVariants.{F07, F08}
 use Rattle.geo_terms.specs.declared.place.Said.{Said}
 use Rattle.geo_terms.specs.declared.statement.Entry.{Entry}
 use Rattle.csv_lines.specs.Clean.{IsCleanSaid}
 use Rattle.csv_lines.specs.Repeats.{fate, fault_by, kept}
 use Rattle.csv_lines.specs.declared.fate.RepeatRules.{RepeatRules}
-use Rattle.csv_lines.specs.declared.fault.Fault.{Fault}
+use Rattle.feed_csv.specs.declared.read.TheConstants.{LONGEST_FEED, MOST}
 use Rattle.feed_csv.specs.declared.verdict.Verdict.{Verdict}
 use Rattle.feed_csv.specs.declared.verdict.Verdict.TheVariants.{Silent, Broken, Accepted}
 use Rattle.feed_csv.specs.Verdicts.{verdict}
@@ -32,7 +31,7 @@ entry_by line (Broken rule) = None
 entry_by line (Accepted block said) = Some (record { line = line; block = block; said = said })
 
 -- the fault of a line that breaks one of them
-abbrev pub fault_alone : ℕ → Verdict → Option Fault
+abbrev pub fault_alone : ℕ → Verdict → Option LineNote
 fault_alone line Silent = None
 fault_alone line (Broken rule) = Some (record { line = line; rule = rule })
 fault_alone line (Accepted block said) = None
@@ -40,7 +39,7 @@ fault_alone line (Accepted block said) = None
 abbrev pub entry_of : (ℕ × List ℕ) → Option Entry
 entry_of line = entry_by line.0 (verdict line.1)
 
-abbrev pub fault_of : (ℕ × List ℕ) → Option Fault
+abbrev pub fault_of : (ℕ × List ℕ) → Option LineNote
 fault_of line = fault_alone line.0 (verdict line.1)
 
 -- the lines of a file that pass the line rules
@@ -48,7 +47,7 @@ abbrev pub accepted : List ℕ → List Entry
 accepted file = filter_map entry_of (numbered_lines file)
 
 -- the faults of the lines by themselves
-abbrev pub refused : List ℕ → List Fault
+abbrev pub refused : List ℕ → List LineNote
 refused file = filter_map fault_of (numbered_lines file)
 
 -- the rules of lines about one prefix
@@ -56,19 +55,16 @@ abbrev pub repeat_rules : RepeatRules
 repeat_rules = record { repeats = F07; differs = F08 }
 
 -- the fault of a line among the accepted ones
-abbrev pub fault_among : List Entry → ℕ → Verdict → Option Fault
+abbrev pub fault_among : List Entry → ℕ → Verdict → Option LineNote
 fault_among all line Silent = None
 fault_among all line (Broken rule) = Some (record { line = line; rule = rule })
 fault_among all line (Accepted block said) =
     fault_by repeat_rules line (fate entry_line entry_range entry_said all
     (record { line = line; block = block; said = said }))
 
-abbrev pub faults : List ℕ → List Fault
+abbrev pub faults : List ℕ → List LineNote
 faults file =
     filter_map (λ line. fault_among (accepted file) line.0 (verdict line.1)) (numbered_lines file)
-
-abbrev pub note_of : List ℕ → Fault → Note
-note_of url fault = record { origin = Feed url; line = fault.line; rule = fault.rule }
 
 -- the entries of a file, in line order
 abbrev pub entries : List ℕ → List Entry
@@ -78,17 +74,13 @@ entries file = kept entry_line entry_range entry_said (accepted file)
 abbrev pub AreClean : List Entry → Type 0
 AreClean es = All (λ e. IsCleanSaid e.said) es
 
--- the notes on a file, in line order
-abbrev pub notes : (url file : List ℕ) → List Note
-notes url file = map (note_of url) (faults file)
-
--- a file under a URL
+-- a file under a URL; its notes are the faults of its lines, in line order
 abbrev pub feed : (url file : List ℕ) → FeedParts
-feed url file = record { url = url; entries = entries file; notes = notes url file }
+feed url file = record { url = url; entries = entries file; notes = faults file }
 
 -- the most bytes of a file, and the most lines that pass the line rules
 abbrev pub longest : ℕ
-longest = 67108864
+longest = LONGEST_FEED
 
 abbrev pub most : ℕ
-most = 2097152
+most = MOST

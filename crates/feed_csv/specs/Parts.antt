@@ -1,7 +1,7 @@
 -- What is read of a part of a feed.
 use Rattle.std.specs.Prelude.{◌≡◌, ℕ, List, filter_map}
 use Rattle.geo_terms.specs.declared.statement.Entry.{Entry}
-use Rattle.csv_lines.specs.declared.fault.Fault.{Fault}
+use Rattle.geo_terms.specs.declared.note.LineNote.{LineNote}
 use Rattle.line_parts.specs.Parts.{lines_in}
 use Rattle.line_parts.specs.declared.part.LinePart.{LinePart}
 use Rattle.feed_csv.specs.File.{accepted, entry_of, fault_of, refused}
@@ -11,7 +11,7 @@ use Rattle.feed_csv.specs.declared.read.Found.{Found}
 abbrev pub accepted_in : LinePart → List Entry
 accepted_in part = filter_map entry_of (lines_in part)
 
-abbrev pub refused_in : LinePart → List Fault
+abbrev pub refused_in : LinePart → List LineNote
 refused_in part = filter_map fault_of (lines_in part)
 
 -- what was found is what the lines of a part say by themselves
@@ -28,5 +28,5 @@ IsFileRead file found =
 abbrev pub found_entries : Found → List Entry
 found_entries found = found.entries.items
 
-abbrev pub found_faults : Found → List Fault
+abbrev pub found_faults : Found → List LineNote
 found_faults found = found.faults.items

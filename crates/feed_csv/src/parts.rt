@@ -18,8 +18,9 @@ use std::thread::Threads;
 pub const FEED_PART: usize = 262_144;
 
 /// Work that reads the lines of a part of a feed, which has `size` bytes.
-#[derive(Clone, Copy, Debug)]
+#[derive(Drop)]
 struct PartReading {
+    alloc: Global,
     size: usize,
 }
 
@@ -28,14 +29,14 @@ impl<'a> Work<LinePart<'a>, Found> for PartReading {
 
     ghost related = { λ work part found. IsPartRead part found };
 
-    fn done(&self, alloc: Global, item: &LinePart<'a>) -> Result<Found, Memory> {
+    fn done(&self, item: &LinePart<'a>) -> Result<Found, Memory> {
         // The entries of the other parts come to stand behind those of the first.
         let room = if item.before == 0 {
             self.size
         } else {
             item.text.len()
         };
-        match read_lines(alloc, *item, room, usize::MAX) {
+        match read_lines(self.alloc, *item, room, usize::MAX) {
             Ok(found) => Ok(found),
             Err(_) => Err(Memory),
         }
@@ -62,8 +63,18 @@ pub fn read_feed_by_parts<R: Threads + Sync, G: Gate>(
     }
     let size = (bytes.len() / forks.pieces as usize).max(FEED_PART);
     let parts = parts_of(forks.alloc, bytes, size)?;
-    let work = PartReading { size: bytes.len() };
-    let found = map_pieces(forks, parts.as_slice(), &work)?;
+    let work = PartReading {
+        alloc: forks.alloc,
+        size: bytes.len(),
+    };
+    let found = map_pieces(
+        forks.rt,
+        forks.alloc,
+        forks.gate,
+        forks.pieces,
+        parts.as_slice(),
+        &work,
+    )?;
     let all = joined(forks.alloc, found)?;
     if all.entries.len() > MOST {
         return Err(SourceFault::TooMany);

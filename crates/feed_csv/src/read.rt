@@ -1,16 +1,16 @@
 //! A feed.
-ghost use Rattle.std.specs.Prelude.{◌≡◌, ◌≢◌, ◌<◌, ◌≤◌, ◌↔◌, ◌++◌, ℕ, [], List, Some, length, map};
+ghost use Rattle.std.specs.Prelude.{◌≡◌, ◌≢◌, ◌<◌, ◌≤◌, ◌↔◌, ◌++◌, ℕ, [], List, Some, length};
 ghost use Rattle.std.specs.Prelude.{IfOk, IsSome, OnOk, option_to_list};
-ghost use Rattle.csv_lines.specs.Rests.{CanRead, Stands, handed};
+ghost use Rattle.csv_lines.specs.Rests.{CanRead, StandsIf, handed};
 ghost use Rattle.feed_csv.specs.File.{AreClean, accepted, entry_of, fault_of, feed, longest};
-ghost use Rattle.feed_csv.specs.File.{most, note_of};
+ghost use Rattle.feed_csv.specs.File.{most};
 ghost use Rattle.feed_csv.specs.Parts.{IsFileRead, accepted_in, refused_in};
 
 use crate::verdict::{Verdict, read_line};
 use csv::{ByteRecord, Reader};
-use csv_lines::{Fault, RepeatRules, Tails, all_handed, judge, reader_of};
+use csv_lines::{RepeatRules, Tails, all_handed, judge, reader_of};
 use geo_addr::{Line, List, Memory, Text};
-use geo_terms::{Entry, Feed, Note, Origin, Rule, SourceFault, Texts};
+use geo_terms::{Entry, Feed, LineNote, Rule, SourceFault, Texts};
 use line_parts::LinePart;
 use std::alloc::Global;
 
@@ -20,9 +20,9 @@ pub const LONGEST_FEED: usize = 67_108_864;
 /// The most lines that pass the line rules.
 pub(crate) const MOST: usize = 2_097_152;
 
-/// For each so many bytes of a file room for one entry is taken ahead; few files have shorter lines
-/// on the average.
-const SHORT_LINE: usize = 16;
+/// For each so many bytes of a file room for one entry is taken ahead; most files have longer lines
+/// on the average, and for shorter ones the list grows once.
+const SHORT_LINE: usize = 32;
 
 /// Reads a geofeed (RFC 8805): the entries and the notes of its lines.
 ///
@@ -56,11 +56,10 @@ pub(crate) fn feed_of(alloc: Global, url: &str, found: Found) -> Result<Feed, Me
     };
     let judged = judge(alloc, found.entries, found.faults, rules)?;
     let url = Text::of(alloc, url)?;
-    let notes = notes_of(alloc, &url, judged.faults.as_slice())?;
     Ok(Feed {
         url,
         entries: List::of(judged.rows),
-        notes: List::of(notes),
+        notes: List::of(judged.faults),
     })
 }
 
@@ -68,14 +67,14 @@ pub(crate) fn feed_of(alloc: Global, url: &str, found: Found) -> Result<Feed, Me
 #[derive(Drop)]
 pub(crate) struct Found {
     pub entries: Vec<Entry>,
-    pub faults: Vec<Fault>,
+    pub faults: Vec<LineNote>,
 }
 
 // What is found in the lines so far.
 #[derive(Drop)]
 struct Reading<'a> {
     entries: Vec<Entry>,
-    faults: Vec<Fault>,
+    faults: Vec<LineNote>,
     texts: Texts,
     tails: Tails<'a>,
     row: ByteRecord,
@@ -128,7 +127,7 @@ fn with_room(alloc: Global, size: usize) -> Result<Vec<Entry>, Memory>
 fn take_line<'a>(
     line: Line<'a>,
     limit: usize,
-    reader: &mut Reader<&[u8]>,
+    reader: &mut Option<Reader<&[u8]>>,
     found: &mut Reading<'a>,
 ) -> Result<(), SourceFault>
     requires few { length found.old.entries.items ≤ limit }
@@ -139,8 +138,8 @@ fn take_line<'a>(
         ++ option_to_list (fault_of (line.entry.number, line.entry.text.now))) }
     ensures within { OnOk result (length found.new.entries.items ≤ limit) }
     ensures stands { (left : List ℕ)
-        → Stands (λ s. Some s.now) reader.old (handed line.entry.text.now ++ left)
-        → OnOk result (Stands (λ s. Some s.now) reader.new left) }
+        → StandsIf (λ s. Some s.now) reader.old (handed line.entry.text.now ++ left)
+        → OnOk result (StandsIf (λ s. Some s.now) reader.new left) }
     ensures too_many { result ≡ Err SourceFault.TooMany
         → IsSome (entry_of (line.entry.number, line.entry.text.now))
         × (length found.old.entries.items ≡ limit) }
@@ -155,7 +154,7 @@ fn take_line<'a>(
     )? {
         Verdict::Silent => {}
         Verdict::Broken(rule) => {
-            let fault = Fault {
+            let fault = LineNote {
                 line: line.number,
                 rule,
             };
@@ -174,20 +173,4 @@ fn take_line<'a>(
         }
     }
     Ok(())
-}
-
-// The notes on the lines that have faults.
-fn notes_of(alloc: Global, url: &Text, faults: &[Fault]) -> Result<Vec<Note>, Memory>
-    ensures { IfOk result (λ notes. notes.items ≡ map (note_of url.now) faults.now) }
-{
-    let mut notes = Vec::with_capacity(alloc, faults.len())?;
-    for fault in faults {
-        let note = Note {
-            origin: Origin::Feed(url.copied()?),
-            line: fault.line,
-            rule: fault.rule,
-        };
-        notes.push(note).map_err(Memory::from)?;
-    }
-    Ok(notes)
 }

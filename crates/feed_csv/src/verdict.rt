@@ -4,7 +4,7 @@ ghost use Rattle.geo_addr.specs.Ranges.{Prefix};
 ghost use Rattle.geo_terms.specs.PlaceForm.{PlaceParts};
 ghost use Rattle.geo_terms.specs.declared.place.Said.{Said};
 ghost use Rattle.csv_lines.specs.Clean.{AreTexts};
-ghost use Rattle.csv_lines.specs.Rests.{CanRead, Stands, handed, said_in};
+ghost use Rattle.csv_lines.specs.Rests.{CanRead, StandsIf, handed, said_in};
 ghost use Rattle.csv_lines.specs.Tails.{IsCut, SaysBare};
 ghost use Rattle.feed_csv.specs.Verdicts.{accepted_at, block_rule, place_rule, row_verdict};
 ghost use Rattle.feed_csv.specs.Verdicts.{verdict};
@@ -26,7 +26,7 @@ pub(crate) enum Verdict {
 /// What the next line of the reader's file says.
 #[tactic(auto, unfolding(crate::specs::Verdicts::verdict))]
 pub(crate) fn read_line<'a>(
-    reader: &mut Reader<&[u8]>,
+    reader: &mut Option<Reader<&[u8]>>,
     line: &'a [u8],
     row: &mut ByteRecord,
     texts: &mut Texts,
@@ -34,8 +34,9 @@ pub(crate) fn read_line<'a>(
 ) -> Result<Verdict, Memory>
     requires { CanRead (λ s. Some s.now) reader.old line.now }
     ensures verdict { IfOk result (λ found. found ≡ verdict line.now) }
-    ensures stands { (left : List ℕ) → Stands (λ s. Some s.now) reader.old (handed line.now ++ left)
-        → OnOk result (Stands (λ s. Some s.now) reader.new left) }
+    ensures stands { (left : List ℕ)
+        → StandsIf (λ s. Some s.now) reader.old (handed line.now ++ left)
+        → OnOk result (StandsIf (λ s. Some s.now) reader.new left) }
 {
     let cut = cut_line(line);
     if let Some(known) = known_verdict(&cut, tails)? {

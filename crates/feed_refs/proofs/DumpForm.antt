@@ -2,13 +2,11 @@
 use Rattle.std.proofs.Common.{◌≡◌, ℕ, List}
 use Rattle.std.proofs.lemmas.List.Elements.{All-from_recursion}
 use Rattle.geo_terms.specs.SourceForm.{IsDump}
-use Rattle.geo_terms.specs.declared.note.Note.{Note}
-use Rattle.geo_terms.specs.declared.note.Origin.TheVariants.{Rpsl}
 use Rattle.geo_terms.specs.declared.statement.Reference.{Reference}
 use Rattle.rpsl_reader.specs.Objects.{objects}
-use Rattle.feed_refs.specs.Dumps.{AreApart, dump_parts, in_line_order, noted, references}
+use Rattle.feed_refs.specs.Dumps.{AreApart, dump_parts, noted, references}
 use Rattle.feed_refs.proofs.GroupLines.{text_fits}
-use Rattle.feed_refs.proofs.NoteOrder.{all_from_each, each, has_ordered, ordered_rises}
+use Rattle.feed_refs.proofs.NoteOrder.{ordered_rises}
 use Rattle.feed_refs.proofs.Rising.{increasing_from_rises}
 
 pub notes_apart : (slot text : List ℕ) → AreApart (noted slot (objects text))
@@ -22,13 +20,5 @@ in_form slot text =
           All-from_recursion (λ (r : Reference). r.slot ≡ slot)
           (references slot (objects text)) f.slots;
       ordered = increasing_from_rises 1 _ f.refs;
-      notes = record {
-        origins =
-            All-from_recursion (λ (n : Note). n.origin ≡ Rpsl slot)
-            (in_line_order (noted slot (objects text)))
-            (all_from_each (λ n. n.origin ≡ Rpsl slot) (in_line_order (noted slot (objects text)))
-            (λ m h. each (λ n. n.origin ≡ Rpsl slot) (noted slot (objects text)) f.own m
-            ((has_ordered (noted slot (objects text)) m).0 h)));
-        ordered = increasing_from_rises 0 _ (ordered_rises (noted slot (objects text)) f.distinct);
-      };
+      notes = increasing_from_rises 0 _ (ordered_rises (noted slot (objects text)) f.distinct);
     }

@@ -2,8 +2,9 @@
 use Rattle.std.proofs.Common.{◌≡◌, ℕ, ◌+◌, ◌-◌, ◌<◌, ◌≤◌, List, ◌++◌, length, take, Option, Some}
 use Rattle.std.proofs.Common.{None, Result, Ok, Err, sym, ap, subst, arith, ◌∙◌}
 use Rattle.std.proofs.lemmas.List.{length-take, take_all}
+use Rattle.std.specs.Prelude.{IfErr}
 use Rattle.geo_terms.specs.SourceForm.{DumpParts, IsDump}
-use Rattle.geo_terms.specs.declared.note.Note.{Note}
+use Rattle.geo_terms.specs.declared.note.LineNote.{LineNote}
 use Rattle.geo_terms.specs.declared.source.SourceFault.{SourceFault}
 use Rattle.geo_terms.specs.declared.source.SourceFault.TheVariants.{TooLong, TooMany}
 use Rattle.geo_terms.specs.declared.statement.Reference.{Reference}
@@ -40,6 +41,19 @@ fault_read slot f v is =
     fault_opened slot text f (ap (λ (w : Reading). w.kept) h) in
     let then : so_far slot (text ++ piece) ≡ Err f = fault_stays slot text piece f now in
     ((λ i. record { slot = slot; kept = fault_reading slot (text ++ piece) f then i }), sym then))
+
+-- and what such a reader holds of its fault
+pub behind_fault : (slot : List ℕ) (f : SourceFault) (v : Reading) → faulty slot f ≡ v
+    → (P : SourceFault → Type 0) → P f → IfErr v.kept P
+behind_fault slot f v is P p = subst (λ (w : Reading). IfErr w.kept P) is p
+
+-- a reader that was not refused has no fault
+pub no_fault : (slot : List ℕ) (k : Kept) (fault : Option SourceFault) → fault ≡ None
+    → (v : Reading) → record { slot = slot; kept = kept_by fault k } ≡ v
+    → (P : SourceFault → Type 0) → IfErr v.kept P
+no_fault slot k fault none v is P =
+    subst (λ (w : Reading). IfErr w.kept P)
+    (subst (λ (g : Option SourceFault). record { slot = slot; kept = kept_by g k } ≡ v) none is) tt
 
 -- a reader that holds something, whatever text it was fed
 pub holds_opened : (slot : List ℕ) (k : Kept) (text : List ℕ) → holding slot k ≡ reading slot text
@@ -120,7 +134,7 @@ module _ (slot : List ℕ) (items found all : List Item) (selection : Wanted) (s
   pub refs_are : (rs : List Reference) → rs ≡ references slot items → rs ≡ references slot all
   refs_are rs e = e ∙ ap (references slot) items_are ∙ references_wanted slot all
 
-  pub notes_are : (ns : List Note) → ns ≡ noted slot items → ns ≡ noted slot all
+  pub notes_are : (ns : List LineNote) → ns ≡ noted slot items → ns ≡ noted slot all
   notes_are ns e = e ∙ ap (noted slot) items_are ∙ noted_wanted slot all
 
 -- a piece that is not whole within the bytes that count goes past them
@@ -177,7 +191,7 @@ module _ (slot : List ℕ) (k : Kept) (piece cut : List ℕ) (rs : List Referenc
       next_long slot text piece k o (omega (arith, said_count))
       (goes_past k.reader.fed piece cut is_cut lt)
 
-  pub leads_on : length k.refs + length rs ≤ most → length piece ≤ length cut → (ns : List Note)
+  pub leads_on : length k.refs + length rs ≤ most → length piece ≤ length cut → (ns : List LineNote)
       → ns ≡ noted slot (given k.reader.state cut)
       → (k' : Kept) → k'.reader.fed ≡ k.reader.fed + length cut
       → k'.reader.state ≡ after k.reader.state cut → k'.refs ≡ k.refs ++ rs
@@ -209,7 +223,7 @@ module _ (slot : List ℕ) (k : Kept) (rs : List Reference)
   ends_many h text o = end_many slot text k o (omega (arith, end_said))
 
   -- what is put together is the dump of the text
-  module _ (raw sorted : List Note) (told : raw ≡ k.notes ++ noted slot (last k.reader.state))
+  module _ (raw sorted : List LineNote) (told : raw ≡ k.notes ++ noted slot (last k.reader.state))
       (order : AreApart raw → sorted ≡ in_line_order raw) where
     pub ends_parts : (d : DumpParts) → d.slot ≡ slot → d.refs ≡ k.refs ++ rs → d.notes ≡ sorted
         → (text : List ℕ) → Opened slot text k → d ≡ dump_parts slot text

@@ -10,8 +10,7 @@ use Rattle.std.proofs.lemmas.Grind.{flat_map-append}
 use Rattle.std.proofs.lemmas.List.{append-nil, map-append}
 use Rattle.geo_addr.specs.Lines.{lines_of, numbered_lines, without_mark}
 use Rattle.geo_terms.specs.SourceForm.{note_lines}
-use Rattle.geo_terms.specs.declared.note.Note.{Note}
-use Rattle.geo_terms.specs.declared.note.Origin.TheVariants.{Rpsl}
+use Rattle.geo_terms.specs.declared.note.LineNote.{LineNote}
 use Rattle.geo_terms.specs.declared.note.Rule.{Rule}
 use Rattle.geo_terms.specs.declared.note.Rule.TheVariants.{P01, P02}
 use Rattle.geo_terms.specs.declared.statement.Reference.{Reference}
@@ -32,7 +31,7 @@ use Rattle.feed_refs.proofs.Rising.{rises_from_less}
 abbrev numbers : List Numbered → List ℕ
 numbers = map (λ l. l.0)
 
-abbrev stray_notes : List ℕ → List Numbered → List Note
+abbrev stray_notes : List ℕ → List Numbered → List LineNote
 stray_notes slot ls = noted slot (strays ls)
 
 -- attributes rise, and so do the lines that are none
@@ -104,7 +103,6 @@ apart slot low (l ∷ ls) r x y i j e =
 pub record Fits (slot : List ℕ) (low high : ℕ) (these : List Item) : Type 0 where
   pub distinct : IsDistinct nat_eq (note_lines (noted slot these))
   pub between : (x : ℕ) → In x (note_lines (noted slot these)) → (low ≤ x) × (x < high)
-  pub own : AllByRecursion (λ n. n.origin ≡ Rpsl slot) (noted slot these)
   pub refs : Rises low (reference_lines (references slot these))
   pub refs_below : (x : ℕ) → In x (reference_lines (references slot these)) → x < high
   pub slots : AllByRecursion (λ r. r.slot ≡ slot) (references slot these)
@@ -114,7 +112,6 @@ unfolding noted references IsDistinct
 fits_nothing slot low high = record {
   distinct = tt;
   between = λ x i. absurd i;
-  own = tt;
   refs = tt;
   refs_below = λ x i. absurd i;
   slots = tt;
@@ -141,7 +138,7 @@ fits-append slot low mid high xs ys le le' f g =
     let lines : note_lines (noted slot (xs ++ ys))
     ≡ note_lines (noted slot xs) ++ note_lines (noted slot ys) =
     ap note_lines (noted-append slot xs ys)
-    ∙ map-append (λ (n : Note). n.line) (noted slot xs) (noted slot ys) in
+    ∙ map-append (λ (n : LineNote). n.line) (noted slot xs) (noted slot ys) in
     let ref_lines : reference_lines (references slot (xs ++ ys))
     ≡ reference_lines (references slot xs) ++ reference_lines (references slot ys) =
     ap reference_lines (references-append slot xs ys)
@@ -158,9 +155,6 @@ fits-append slot low mid high xs ys le le' f g =
             | inl j ↦ let h = f.between x j in (omega (arith, h.0), omega (arith, h.1))
             | inr j ↦ let h = g.between x j in (omega (arith, h.0), omega (arith, h.1))
           ];
-      own =
-          subst (λ l. AllByRecursion (λ n. n.origin ≡ Rpsl slot) l) (sym (noted-append slot xs ys))
-          (all-append (λ n. n.origin ≡ Rpsl slot) (noted slot xs) (noted slot ys) f.own g.own);
       refs =
           subst (λ l. Rises low l)
           (sym ref_lines) (rises-append low mid (reference_lines (references slot xs))
@@ -184,17 +178,10 @@ unfolding noted references IsDistinct
 fits_passed slot low high line rule le lt = record {
   distinct = (tt, tt);
   between = λ x i. elim i [ inl e ↦ (omega (arith, e), omega (arith, e)) | inr j ↦ absurd j ];
-  own = (refl, tt);
   refs = tt;
   refs_below = λ x i. absurd i;
   slots = tt;
 }
-
-strays_own : (slot : List ℕ) (ms : List Numbered)
-    → AllByRecursion (λ n. n.origin ≡ Rpsl slot) (noted slot (map stray ms))
-unfolding noted
-strays_own slot [] = tt
-strays_own slot (m ∷ ms) = (refl, strays_own slot ms)
 
 strays_none : (slot : List ℕ) (ms : List Numbered) → references slot (map stray ms) ≡ []
 unfolding references
@@ -219,7 +206,8 @@ whole_lines : (slot : List ℕ) (o : Object) (ls : List Numbered)
     → note_lines (noted slot (Whole o ∷ strays ls))
     ≡ note_lines (found slot o).notes ++ note_lines (stray_notes slot ls)
 unfolding noted
-whole_lines slot o ls = map-append (λ (n : Note). n.line) (found slot o).notes (stray_notes slot ls)
+whole_lines slot o ls =
+    map-append (λ (n : LineNote). n.line) (found slot o).notes (stray_notes slot ls)
 
 whole_references : (slot : List ℕ) (o : Object) (ls : List Numbered)
     → references slot (Whole o ∷ strays ls) ≡ reference_in (found slot o).what
@@ -227,14 +215,6 @@ unfolding references
 whole_references slot o ls =
     ap (λ t. reference_in (found slot o).what ++ t) (strays_none slot
     (filter (λ m. is_stray m.1) ls)) ∙ append-nil (reference_in (found slot o).what)
-
-whole_own : (slot : List ℕ) (o : Object) (ls : List Numbered)
-    → AllByRecursion (λ n. n.origin ≡ Rpsl slot) (found slot o).notes
-    → AllByRecursion (λ n. n.origin ≡ Rpsl slot) (noted slot (Whole o ∷ strays ls))
-unfolding noted
-whole_own slot o ls own =
-    all-append (λ n. n.origin ≡ Rpsl slot) (found slot o).notes (stray_notes slot ls) own
-    (strays_own slot (filter (λ m. is_stray m.1) ls))
 
 part_in_below : (low : ℕ) (ls : List Numbered) (x : ℕ) → Rises low (numbers ls)
     → In x (part_lines (attributes ls)) → x < past low (numbers ls)
@@ -288,7 +268,6 @@ object_fits slot low l ls o made r =
                 low-le-in (l.0 + 1) (note_lines (stray_notes slot ls)) x stray_rise j in
                 (omega (arith, r.0), stray_in_below slot (l.0 + 1) ls x r.1 j)
           ];
-      own = whole_own slot o ls s.own;
       refs = subst (λ t. Rises low (reference_lines t)) (sym refs) s.refs_rise;
       refs_below =
           λ x i. part_below x (s.refs_inside x (subst (λ t. In x (reference_lines t)) refs i));

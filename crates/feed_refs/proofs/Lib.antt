@@ -4,7 +4,8 @@ pub mod FeedLemmas
 pub mod GroupLines
 mod ItemLemmas
 pub mod KindLemmas
-pub mod NoteOrder
+pub mod LineOrder
+mod NoteOrder
 pub mod ObjectLines
 pub mod ReadingLemmas
 pub mod Rising

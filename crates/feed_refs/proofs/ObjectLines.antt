@@ -6,8 +6,7 @@ use Rattle.std.specs.List.{AllByRecursion}
 use Rattle.std.proofs.lemmas.Bool.{cond_both}
 use Rattle.geo_addr.specs.Ranges.{Ends}
 use Rattle.geo_terms.specs.SourceForm.{note_lines}
-use Rattle.geo_terms.specs.declared.note.Note.{Note}
-use Rattle.geo_terms.specs.declared.note.Origin.TheVariants.{Rpsl}
+use Rattle.geo_terms.specs.declared.note.LineNote.{LineNote}
 use Rattle.geo_terms.specs.declared.note.Rule.{Rule}
 use Rattle.geo_terms.specs.declared.note.Rule.TheVariants.{P04, P05, P06}
 use Rattle.geo_terms.specs.declared.statement.Reference.{Reference}
@@ -15,7 +14,7 @@ use Rattle.rpsl_reader.specs.declared.item.Attribute.{Attribute}
 use Rattle.rpsl_reader.specs.declared.item.Object.{Object}
 use Rattle.feed_refs.specs.declared.feed_url.UrlRead.{UrlRead}
 use Rattle.feed_refs.specs.declared.feed_url.UrlRead.TheVariants.{Refused, OtherScheme, Https}
-use Rattle.feed_refs.specs.declared.kinds.Kind.{Kind}
+use Rattle.feed_refs.specs.declared.kinds.RefKind.{RefKind}
 use Rattle.feed_refs.specs.declared.reference.Class.{Class}
 use Rattle.feed_refs.specs.declared.reference.Class.TheVariants.{Other, Unread, Inet}
 use Rattle.feed_refs.specs.declared.reference.FoundRef.{FoundRef}
@@ -34,56 +33,42 @@ abbrev pub reference_lines : List Reference → List ℕ
 reference_lines = map (λ r. r.line)
 
 -- a note on a line before other notes
-one_rises : (slot : List ℕ) (low line : ℕ) (r : Option Rule) (ns : List Note) → low ≤ line
+one_rises : (low line : ℕ) (r : Option Rule) (ns : List LineNote) → low ≤ line
     → Rises (line + 1) (note_lines ns)
-    → Rises low (note_lines (option_to_list (note_by slot line r) ++ ns))
-one_rises slot low line None ns le h =
+    → Rises low (note_lines (option_to_list (note_by line r) ++ ns))
+one_rises low line None ns le h =
     rises_from_less low (line + 1) (note_lines ns) (omega arith) h
-one_rises slot low line (Some rule) ns le h = (le, h)
+one_rises low line (Some rule) ns le h = (le, h)
 
-one_in : (slot : List ℕ) (line : ℕ) (r : Option Rule) (ns : List Note) (x : ℕ)
-    → In x (note_lines (option_to_list (note_by slot line r) ++ ns))
+one_in : (line : ℕ) (r : Option Rule) (ns : List LineNote) (x : ℕ)
+    → In x (note_lines (option_to_list (note_by line r) ++ ns))
     → (x ≡ line) ⊎ In x (note_lines ns)
-one_in slot line None ns x i = inr i
-one_in slot line (Some rule) ns x i = i
+one_in line None ns x i = inr i
+one_in line (Some rule) ns x i = i
 
-one_of : (slot : List ℕ) (line : ℕ) (r : Option Rule) (ns : List Note)
-    → AllByRecursion (λ n. n.origin ≡ Rpsl slot) ns
-    → AllByRecursion (λ n. n.origin ≡ Rpsl slot) (option_to_list (note_by slot line r) ++ ns)
-one_of slot line None ns a = a
-one_of slot line (Some rule) ns a = (refl, a)
-
-module _ (slot : List ℕ) (kind : Kind) (used : Option Rule) where
+module _ (kind : RefKind) (used : Option Rule) where
   notes_rise : (seen : Bool) (parts : List Attribute) (low : ℕ) → Rises low (part_lines parts)
-      → Rises low (note_lines (notes_from slot kind used seen parts))
+      → Rises low (note_lines (notes_from kind used seen parts))
   notes_rise seen [] low r = tt
   notes_rise seen (a ∷ more) low r =
-      one_rises slot low a.line (rule_on kind used seen a)
-      (notes_from slot kind used (seen || is_last_modified a) more) r.0
+      one_rises low a.line (rule_on kind used seen a)
+      (notes_from kind used (seen || is_last_modified a) more) r.0
       (notes_rise (seen || is_last_modified a) more (a.line + 1) r.1)
 
   notes_in : (seen : Bool) (parts : List Attribute) (x : ℕ)
-      → In x (note_lines (notes_from slot kind used seen parts)) → In x (part_lines parts)
+      → In x (note_lines (notes_from kind used seen parts)) → In x (part_lines parts)
   notes_in seen [] x i = i
   notes_in seen (a ∷ more) x i =
-      elim (one_in slot a.line (rule_on kind used seen a)
-      (notes_from slot kind used (seen || is_last_modified a) more) x i) [
+      elim (one_in a.line (rule_on kind used seen a)
+      (notes_from kind used (seen || is_last_modified a) more) x i) [
         | inl e ↦ inl e
         | inr j ↦ inr (notes_in (seen || is_last_modified a) more x j)
       ]
-
-  notes_own : (seen : Bool) (parts : List Attribute)
-      → AllByRecursion (λ n. n.origin ≡ Rpsl slot) (notes_from slot kind used seen parts)
-  notes_own seen [] = tt
-  notes_own seen (a ∷ more) =
-      one_of slot a.line (rule_on kind used seen a) (notes_from slot kind used
-      (seen || is_last_modified a) more) (notes_own (seen || is_last_modified a) more)
 
 -- what is found of an object stands on lines of its attributes, in order
 pub record Stands (slot : List ℕ) (low : ℕ) (parts : List Attribute) (f : FoundRef) : Type 0 where
   pub rises : Rises low (note_lines f.notes)
   pub inside : (x : ℕ) → In x (note_lines f.notes) → In x (part_lines parts)
-  pub own : AllByRecursion (λ n. n.origin ≡ Rpsl slot) f.notes
   pub refs_rise : Rises low (reference_lines (reference_in f.what))
   pub refs_inside : (x : ℕ) → In x (reference_lines (reference_in f.what)) → In x (part_lines parts)
   pub slots : AllByRecursion (λ r. r.slot ≡ slot) (reference_in f.what)
@@ -105,25 +90,22 @@ module _ (slot : List ℕ) (low : ℕ) (range : Ends) (parts : List Attribute)
   stands_by : (a : Attribute) (u : UrlRead) → In a.line (part_lines parts)
       → Stands slot low parts (found_by slot range parts a u)
   stands_by a Refused here = record {
-    rises = notes_rise slot (used_kind parts) (Some P05) false parts low r;
-    inside = notes_in slot (used_kind parts) (Some P05) false parts;
-    own = notes_own slot (used_kind parts) (Some P05) false parts;
+    rises = notes_rise (used_kind parts) (Some P05) false parts low r;
+    inside = notes_in (used_kind parts) (Some P05) false parts;
     refs_rise = tt;
     refs_inside = λ x i. absurd i;
     slots = tt;
   }
   stands_by a OtherScheme here = record {
-    rises = notes_rise slot (used_kind parts) (Some P06) false parts low r;
-    inside = notes_in slot (used_kind parts) (Some P06) false parts;
-    own = notes_own slot (used_kind parts) (Some P06) false parts;
+    rises = notes_rise (used_kind parts) (Some P06) false parts low r;
+    inside = notes_in (used_kind parts) (Some P06) false parts;
     refs_rise = tt;
     refs_inside = λ x i. absurd i;
     slots = tt;
   }
   stands_by a (Https url) here = record {
-    rises = notes_rise slot (used_kind parts) None false parts low r;
-    inside = notes_in slot (used_kind parts) None false parts;
-    own = notes_own slot (used_kind parts) None false parts;
+    rises = notes_rise (used_kind parts) None false parts low r;
+    inside = notes_in (used_kind parts) None false parts;
     refs_rise = (low-le-in low (part_lines parts) a.line r here, tt);
     refs_inside = λ x i. elim i [
       | inl e ↦ subst (λ y. In y (part_lines parts)) (sym e) here
@@ -137,7 +119,6 @@ module _ (slot : List ℕ) (low : ℕ) (range : Ends) (parts : List Attribute)
   stands_among [] inside = record {
     rises = tt;
     inside = λ x i. absurd i;
-    own = tt;
     refs_rise = tt;
     refs_inside = λ x i. absurd i;
     slots = tt;
@@ -145,9 +126,8 @@ module _ (slot : List ℕ) (low : ℕ) (range : Ends) (parts : List Attribute)
   stands_among (a ∷ []) inside =
       stands_by a (url_read (url_text (used_kind parts) a)) (inside a.line (inl refl))
   stands_among (a ∷ b ∷ more) inside = record {
-    rises = notes_rise slot (used_kind parts) (Some P04) false parts low r;
-    inside = notes_in slot (used_kind parts) (Some P04) false parts;
-    own = notes_own slot (used_kind parts) (Some P04) false parts;
+    rises = notes_rise (used_kind parts) (Some P04) false parts low r;
+    inside = notes_in (used_kind parts) (Some P04) false parts;
     refs_rise = tt;
     refs_inside = λ x i. absurd i;
     slots = tt;
@@ -159,7 +139,6 @@ stands_as : (slot : List ℕ) (low : ℕ) (a : Attribute) (more : List Attribute
 stands_as slot low a more Other r = record {
   rises = tt;
   inside = λ x i. absurd i;
-  own = tt;
   refs_rise = tt;
   refs_inside = λ x i. absurd i;
   slots = tt;
@@ -167,7 +146,6 @@ stands_as slot low a more Other r = record {
 stands_as slot low a more Unread r = record {
   rises = (r.0, tt);
   inside = λ x i. elim i [ inl e ↦ inl e | inr j ↦ absurd j ];
-  own = (refl, tt);
   refs_rise = tt;
   refs_inside = λ x i. absurd i;
   slots = tt;
@@ -187,7 +165,6 @@ stands slot low o r =
       | [] ↦ λ h. record {
         rises = tt;
         inside = λ x i. absurd i;
-        own = tt;
         refs_rise = tt;
         refs_inside = λ x i. absurd i;
         slots = tt;

@@ -15,10 +15,12 @@ use Rattle.rpsl_reader.specs.Objects.{objects}
 use Rattle.rpsl_reader.specs.Reading.{after, given, last, start}
 use Rattle.rpsl_reader.specs.declared.item.Item.{Item}
 use Rattle.rpsl_reader.proofs.Pieces.{after-append, given-append}
+use Rattle.rpsl_reader.proofs.SoFar.{given_text}
 use Rattle.rpsl_reader.proofs.WholeText.{given_is_whole}
 use Rattle.feed_refs.specs.Dumps.{dump, dump_parts, in_line_order, judged, last_references, longest}
 use Rattle.feed_refs.specs.Dumps.{most, noted, notes_of, references, references_of, so_far}
 use Rattle.feed_refs.specs.Dumps.{whole_references, within}
+use Rattle.feed_refs.specs.Laws.{EndFault, FaultStays, WholeByLines}
 use Rattle.feed_refs.specs.Readings.{Kept, kept_if, kept_of}
 
 pub noted-append : (slot : List ℕ) (xs ys : List Item)
@@ -244,8 +246,7 @@ module _ (slot text piece : List ℕ) (k : Kept) (o : Opened slot text k) where
       ∙ sym (ap (λ r. kept_if r (kept_of slot (text ++ piece))) good)
 
 -- a fault stays whatever follows
-pub fault_stays : (slot text piece : List ℕ) (f : SourceFault) → so_far slot text ≡ Err f
-    → so_far slot (text ++ piece) ≡ Err f
+pub fault_stays : FaultStays
 fault_stays slot text piece f e =
     let both : (longest < length text) ⊎ (length text ≤ longest) = cases_lt longest (length text) in
     elim (so_far_fault slot text f e) [
@@ -271,6 +272,10 @@ fault_stays slot text piece f e =
         h.1,
       )) (omega (arith, length-append text piece, h.0)) ∙ ap (λ g. Err g) (sym h.2)
     ]
+
+-- the whole objects of a text are those of its groups of lines that have ended
+pub whole_by_lines : WholeByLines
+whole_by_lines slot text = ap (references slot) (given_text (within text))
 
 pub fault_opened : (slot text : List ℕ) (f : SourceFault)
     → Err f ≡ kept_if (so_far slot text) (kept_of slot text) → so_far slot text ≡ Err f
@@ -351,8 +356,7 @@ module _ (slot text : List ℕ) (k : Kept) (o : Opened slot text k) where
       fine (last_references slot text) text (dump_parts slot text)
       (omega (arith, end_count)) o.short
 
-pub end_fault : (slot text : List ℕ) (f : SourceFault) → so_far slot text ≡ Err f
-    → dump slot text ≡ Err f
+pub end_fault : EndFault
 unfolding dump
 end_fault slot text f e =
     let both : (longest < length text) ⊎ (length text ≤ longest) = cases_lt longest (length text) in

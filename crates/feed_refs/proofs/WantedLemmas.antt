@@ -6,7 +6,7 @@ use Rattle.std.specs.List.{cons_option, filter_map, flat_map, list_any}
 use Rattle.std.proofs.lemmas.Bool.{cond-false, or_parts}
 use Rattle.geo_addr.specs.Ranges.{Ends}
 use Rattle.geo_terms.specs.PlaceForm.{same_text}
-use Rattle.geo_terms.specs.declared.note.Note.{Note}
+use Rattle.geo_terms.specs.declared.note.LineNote.{LineNote}
 use Rattle.geo_terms.specs.declared.note.Rule.{Rule}
 use Rattle.geo_terms.specs.declared.note.Rule.TheVariants.{P04, P05, P06}
 use Rattle.rpsl_reader.specs.Selections.{class_of, wanted, wanted_of, wanted_parts, wants_class}
@@ -17,8 +17,8 @@ use Rattle.rpsl_reader.specs.declared.item.Item.TheVariants.{Whole, Passed}
 use Rattle.rpsl_reader.specs.declared.item.Object.{Object}
 use Rattle.feed_refs.specs.declared.feed_url.UrlRead.{UrlRead}
 use Rattle.feed_refs.specs.declared.feed_url.UrlRead.TheVariants.{Refused, OtherScheme, Https}
-use Rattle.feed_refs.specs.declared.kinds.Kind.{Kind}
-use Rattle.feed_refs.specs.declared.kinds.Kind.TheVariants.{Geofeed, Remark}
+use Rattle.feed_refs.specs.declared.kinds.RefKind.{RefKind}
+use Rattle.feed_refs.specs.declared.kinds.RefKind.TheVariants.{Geofeed, Remark}
 use Rattle.feed_refs.specs.declared.reference.Class.{Class}
 use Rattle.feed_refs.specs.declared.reference.Class.TheVariants.{Other, Unread, Inet}
 use Rattle.feed_refs.specs.declared.reference.What.TheVariants.{Nothing, NotInet, One, Void}
@@ -59,7 +59,7 @@ passes a e =
         → is_reference_remark a ≡ false
     remark_not a e = rw e refl
 
-kind_not : (kind : Kind) (a : Attribute) → Passes a → is_of_kind kind a ≡ false
+kind_not : (kind : RefKind) (a : Attribute) → Passes a → is_of_kind kind a ≡ false
 kind_not Geofeed a p = p.geofeed
 kind_not Remark a p = p.remark
 
@@ -107,28 +107,28 @@ find_same p not_asked (a ∷ ps) =
     one (asked a) refl
 
 -- an attribute that does not matter has no rule
-no_rule : (kind : Kind) (used : Option Rule) (seen : Bool) (a : Attribute) → Passes a
+no_rule : (kind : RefKind) (used : Option Rule) (seen : Bool) (a : Attribute) → Passes a
     → rule_on kind used seen a ≡ None
 no_rule kind used seen a p = rw (kind_not kind a p, p.remark, p.modified) refl
 
-notes_same : (slot : List ℕ) (kind : Kind) (used : Option Rule) (seen : Bool) (ps : List Attribute)
-    → notes_from slot kind used seen (kept_parts ps) ≡ notes_from slot kind used seen ps
-notes_same slot kind used seen [] = refl
-notes_same slot kind used seen (a ∷ ps) =
-    let whole : List Note =
-    option_to_list (note_by slot a.line (rule_on kind used seen a)) ++ notes_from slot kind used
+notes_same : (kind : RefKind) (used : Option Rule) (seen : Bool) (ps : List Attribute)
+    → notes_from kind used seen (kept_parts ps) ≡ notes_from kind used seen ps
+notes_same kind used seen [] = refl
+notes_same kind used seen (a ∷ ps) =
+    let whole : List LineNote =
+    option_to_list (note_by a.line (rule_on kind used seen a)) ++ notes_from kind used
     (seen || is_last_modified a) ps in
     let one : (b : Bool) → asked a ≡ b
-    → notes_from slot kind used seen (cond b (a ∷ kept_parts ps) (kept_parts ps)) ≡ whole =
+    → notes_from kind used seen (cond b (a ∷ kept_parts ps) (kept_parts ps)) ≡ whole =
     λ b. elim b as (λ t. asked a ≡ t
-    → notes_from slot kind used seen (cond t (a ∷ kept_parts ps) (kept_parts ps)) ≡ whole) [
-      | true ↦ λ e. ap (λ t. option_to_list (note_by slot a.line (rule_on kind used seen a)) ++ t)
-          (notes_same slot kind used (seen || is_last_modified a) ps)
+    → notes_from kind used seen (cond t (a ∷ kept_parts ps) (kept_parts ps)) ≡ whole) [
+      | true ↦ λ e. ap (λ t. option_to_list (note_by a.line (rule_on kind used seen a)) ++ t)
+          (notes_same kind used (seen || is_last_modified a) ps)
       | false ↦ λ e.
-          notes_same slot kind used seen ps
-          ∙ ap (λ t. notes_from slot kind used t ps)
+          notes_same kind used seen ps
+          ∙ ap (λ t. notes_from kind used t ps)
           (sym (seen_stays seen (is_last_modified a) (passes a e).modified))
-          ∙ sym (ap (λ t. option_to_list (note_by slot a.line t) ++ notes_from slot kind used
+          ∙ sym (ap (λ t. option_to_list (note_by a.line t) ++ notes_from kind used
           (seen || is_last_modified a) ps) (no_rule kind used seen a (passes a e)))
     ] in
     one (asked a) refl
@@ -140,11 +140,11 @@ notes_same slot kind used seen (a ∷ ps) =
 -- two lists of attributes that agree in what matters come to the same
 module _ (slot : List ℕ) (range : Ends) (ps qs : List Attribute)
     (kinds : used_kind ps ≡ used_kind qs)
-    (notes_agree : (kind : Kind) (used : Option Rule) → notes_on slot kind used ps
-    ≡ notes_on slot kind used qs) (times : modified_of ps ≡ modified_of qs) where
+    (notes_agree : (kind : RefKind) (used : Option Rule) → notes_on kind used ps
+    ≡ notes_on kind used qs) (times : modified_of ps ≡ modified_of qs) where
   noted_same : (used : Option Rule)
-      → notes_on slot (used_kind ps) used ps ≡ notes_on slot (used_kind qs) used qs
-  noted_same used = ap (λ kind. notes_on slot kind used ps) kinds ∙ notes_agree (used_kind qs) used
+      → notes_on (used_kind ps) used ps ≡ notes_on (used_kind qs) used qs
+  noted_same used = ap (λ kind. notes_on kind used ps) kinds ∙ notes_agree (used_kind qs) used
 
   same_by : (a : Attribute) (u : UrlRead) → found_by slot range ps a u ≡ found_by slot range qs a u
   same_by a Refused = λ i. record { what = Nothing; notes = noted_same (Some P05) i }
@@ -168,10 +168,10 @@ found_in_same slot range p ps =
     let kinds : used_kind (p ∷ kept_parts ps) ≡ used_kind (p ∷ ps) =
     ap (λ t. cond (is_geofeed p || t) Geofeed Remark)
     (any_same is_geofeed (λ a e. (passes a e).geofeed) ps) in
-    let notes_agree : (kind : Kind) (used : Option Rule)
-    → notes_on slot kind used (p ∷ kept_parts ps) ≡ notes_on slot kind used (p ∷ ps) =
-    λ kind used. ap (λ t. option_to_list (note_by slot p.line (rule_on kind used false p)) ++ t)
-    (notes_same slot kind used (false || is_last_modified p) ps) in
+    let notes_agree : (kind : RefKind) (used : Option Rule)
+    → notes_on kind used (p ∷ kept_parts ps) ≡ notes_on kind used (p ∷ ps) =
+    λ kind used. ap (λ t. option_to_list (note_by p.line (rule_on kind used false p)) ++ t)
+    (notes_same kind used (false || is_last_modified p) ps) in
     let times : modified_of (p ∷ kept_parts ps) ≡ modified_of (p ∷ ps) =
     ap (λ t. modified_in (cond (is_last_modified p) (Some p) t))
     (find_same is_last_modified (λ a e. (passes a e).modified) ps) in

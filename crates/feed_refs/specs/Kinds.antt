@@ -5,8 +5,8 @@ use Rattle.std.specs.Prelude.{Option, None, Some, is_some, unwrap_or, if◌then�
 use Rattle.std.specs.List.{starts_with, before_first, list_any}
 use Rattle.geo_addr.specs.Lines.{is_blank, trimmed}
 use Rattle.geo_terms.specs.PlaceForm.{same_text}
-use Rattle.feed_refs.specs.declared.kinds.Kind.{Kind}
-use Rattle.feed_refs.specs.declared.kinds.Kind.TheVariants.{Geofeed, Remark}
+use Rattle.feed_refs.specs.declared.kinds.RefKind.{RefKind}
+use Rattle.feed_refs.specs.declared.kinds.RefKind.TheVariants.{Geofeed, Remark}
 use Rattle.rpsl_reader.specs.declared.item.Attribute.{Attribute}
 
 -- a `geofeed` attribute is a reference whose URL is its whole value
@@ -37,16 +37,16 @@ remark_url value =
 abbrev pub is_reference_remark : Attribute → Bool
 is_reference_remark a = same_text a.name (codes "remarks") && is_some (remark_url a.value)
 
-abbrev pub is_of_kind : Kind → Attribute → Bool
+abbrev pub is_of_kind : RefKind → Attribute → Bool
 is_of_kind Geofeed a = is_geofeed a
 is_of_kind Remark a = is_reference_remark a
 
 -- remarks count where there is no `geofeed` attribute
-abbrev pub used_kind : List Attribute → Kind
+abbrev pub used_kind : List Attribute → RefKind
 used_kind parts = if list_any is_geofeed parts then Geofeed else Remark
 
 -- the URL text of a reference of a kind
-abbrev pub url_text : Kind → Attribute → List ℕ
+abbrev pub url_text : RefKind → Attribute → List ℕ
 url_text Geofeed a = a.value
 url_text Remark a = unwrap_or (remark_url a.value) []
 

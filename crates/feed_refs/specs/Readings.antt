@@ -1,7 +1,7 @@
 -- What a reader of a dump holds once it was fed a text.
 use Rattle.std.specs.Prelude.{◌≡◌, ℕ, List, [], ◌∷◌, length, codes, Option, None, Some, Result, Ok}
 use Rattle.std.specs.Prelude.{Err, false}
-use Rattle.geo_terms.specs.declared.note.Note.{Note}
+use Rattle.geo_terms.specs.declared.note.LineNote.{LineNote}
 use Rattle.geo_terms.specs.declared.source.SourceFault.{SourceFault}
 use Rattle.geo_terms.specs.declared.statement.Reference.{Reference}
 use Rattle.rpsl_reader.specs.Reading.{Fed, after, given, start}
@@ -12,7 +12,7 @@ use Rattle.feed_refs.specs.Dumps.{noted, references, so_far}
 pub record Kept : Type 0 where
   pub reader : Fed
   pub refs : List Reference
-  pub notes : List Note
+  pub notes : List LineNote
 
 -- nothing is kept behind a fault but the fault
 pub record Reading : Type 0 where

@@ -8,18 +8,13 @@ ghost use Rattle.feed_refs.specs.Readings.{ours, reading};
 ghost use Rattle.rpsl_reader.specs.Reading.{last};
 ghost use Rattle.rpsl_reader.specs.Selections.{wanted};
 
-use crate::found::{Found, in_line_order};
+use crate::found::{RefsAndNotes, in_line_order};
+use crate::limits::{LONGEST_DUMP, MOST};
 use geo_addr::{List, Memory, Text};
 use geo_terms::{Dump, SourceFault, Texts};
 use rpsl_reader::{Reader, Selection};
 use std::alloc::Global;
 use std::marker::Model;
-
-/// The most bytes of a dump.
-pub const LONGEST_DUMP: usize = 1 << 40;
-
-// The most references in a dump.
-const MOST: usize = 2_097_152;
 
 /// Reads a registry dump in pieces, however it is cut.
 ///
@@ -33,7 +28,7 @@ pub struct DumpReader {
     reader: Reader,
     // The bytes that the reader was fed.
     fed: usize,
-    found: Found,
+    found: RefsAndNotes,
     // The URLs so far, which references share.
     urls: Texts,
     fault: Option<SourceFault>,
@@ -68,7 +63,7 @@ impl DumpReader {
             selection,
             reader: Reader::new(alloc),
             fed: 0,
-            found: Found::new(alloc),
+            found: RefsAndNotes::new(alloc),
             urls: Texts::new(alloc),
             fault: None,
         })
@@ -76,7 +71,8 @@ impl DumpReader {
 
     /// Reads one more piece of the dump.
     ///
-    /// A dump that is too long or has too many references stays so, whatever follows.
+    /// A dump that is too long or has too many references stays so, whatever follows: then nothing
+    /// more is read, and no memory is wanted.
     pub fn feed(&mut self, piece: &[u8]) -> Result<(), SourceFault>
         ensures read { result ≢ Err SourceFault.Memory
             → (text : List ℕ) → self.old ≡ reading self.old.slot text
@@ -85,6 +81,8 @@ impl DumpReader {
             → (text : List ℕ) → self.old ≡ reading self.old.slot text
             → result ≡ so_far self.old.slot (text ++ piece.now) }
         ensures memory { result ≡ Err SourceFault.Memory → self.new ≡ self.old }
+        ensures refused { IfErr self.old.kept
+            (λ fault. (result ≡ Err fault) × (self.new ≡ self.old)) }
     {
         if let Some(fault) = self.fault {
             return Err(fault);
@@ -92,15 +90,15 @@ impl DumpReader {
         let within = first_bytes(piece, LONGEST_DUMP.saturating_sub(self.fed));
         let mut line = Vec::new(self.alloc);
         let (progress, seen) = self.reader.see(within, &self.selection, &mut line)?;
-        let more = Found::of(self.alloc, &self.slot, &seen, &mut self.urls)?;
+        let more = RefsAndNotes::of(self.alloc, &self.slot, &seen, &mut self.urls)?;
         drop(seen);
         if self.found.refs.len() + more.refs.len() > MOST {
-            self.found = Found::new(self.alloc);
+            self.found = RefsAndNotes::new(self.alloc);
             self.fault = Some(SourceFault::TooMany);
             return Err(SourceFault::TooMany);
         }
         if within.len() < piece.len() {
-            self.found = Found::new(self.alloc);
+            self.found = RefsAndNotes::new(self.alloc);
             self.fault = Some(SourceFault::TooLong);
             return Err(SourceFault::TooLong);
         }
@@ -112,13 +110,16 @@ impl DumpReader {
     }
 
     /// Ends the dump, and with it its last object.
+    ///
+    /// A dump that was refused is so at its end too, and no memory is wanted then.
     pub fn finish(self) -> Result<Dump, SourceFault>
-        ensures { result ≢ Err SourceFault.Memory → (text : List ℕ) → self ≡ reading self.slot text
-            → result ≡ dump self.slot text }
+        ensures answer { result ≢ Err SourceFault.Memory → (text : List ℕ)
+            → self ≡ reading self.slot text → result ≡ dump self.slot text }
+        ensures refused { IfErr self.kept (λ fault. result ≡ Err fault) }
     {
-        if let Some(fault) = self.fault {
+        if let Some(refusal) = self.fault {
             drop(self);
-            return Err(fault);
+            return Err(refusal);
         }
         let DumpReader {
             alloc,
@@ -151,18 +152,18 @@ fn more_at_end(
     selection: &Selection,
     reader: &Reader,
     urls: &mut Texts,
-) -> Result<Found, Memory>
+) -> Result<RefsAndNotes, Memory>
     ensures refs { IfOk result (λ more. more.refs.items
         ≡ references slot.now (wanted selection.now (last reader.now.state))) }
     ensures notes { IfOk result (λ more. more.notes.items
         ≡ noted slot.now (wanted selection.now (last reader.now.state))) }
 {
     let seen = reader.see_end(selection)?;
-    Found::of(alloc, slot, &seen, urls)
+    RefsAndNotes::of(alloc, slot, &seen, urls)
 }
 
 // Both parts of what a dump says, with their notes in line order.
-fn joined(found: Found, more: Found) -> Result<Found, SourceFault>
+fn joined(found: RefsAndNotes, more: RefsAndNotes) -> Result<RefsAndNotes, SourceFault>
     ensures refs { IfOk result (λ whole. whole.refs.items ≡ found.refs.items ++ more.refs.items) }
     ensures notes { IfOk result (λ whole. AreApart (found.notes.items ++ more.notes.items)
         → whole.notes.items ≡ in_line_order (found.notes.items ++ more.notes.items)) }
@@ -178,7 +179,7 @@ fn joined(found: Found, more: Found) -> Result<Found, SourceFault>
     whole.reserve(&more)?;
     whole.join(more);
     let notes = in_line_order(whole.notes)?;
-    Ok(Found {
+    Ok(RefsAndNotes {
         refs: whole.refs,
         notes,
     })

@@ -6,24 +6,24 @@ ghost use Rattle.feed_refs.specs.References.{found_in_parts};
 
 use crate::reference::{What, found_of};
 use geo_addr::{Memory, Text};
-use geo_terms::{Note, Origin, Reference, Texts};
-use rpsl_reader::{Part, Seen, Sight};
+use geo_terms::{LineNote, Reference, Texts};
+use rpsl_reader::{AttributeSight, Sight, Sights};
 use std::alloc::Global;
 
 /// References and notes.
 #[derive(Debug, Drop)]
-pub(crate) struct Found {
+pub(crate) struct RefsAndNotes {
     pub refs: Vec<Reference>,
-    pub notes: Vec<Note>,
+    pub notes: Vec<LineNote>,
 }
 
-impl Found {
+impl RefsAndNotes {
     /// Nothing yet; it takes no memory.
-    pub fn new(alloc: Global) -> Found
+    pub fn new(alloc: Global) -> RefsAndNotes
         ensures refs { result.refs.items ≡ [] }
         ensures notes { result.notes.items ≡ [] }
     {
-        Found {
+        RefsAndNotes {
             refs: Vec::new(alloc),
             notes: Vec::new(alloc),
         }
@@ -31,11 +31,17 @@ impl Found {
 
     /// What items say, in their order. URLs that came before are given again.
     #[tactic(auto, unfolding(crate::specs::Dumps::noted, crate::specs::Dumps::references))]
-    pub fn of(alloc: Global, slot: &Text, seen: &Seen, urls: &mut Texts) -> Result<Found, Memory>
-        ensures refs { IfOk result (λ found. found.refs.items ≡ references slot.now seen.now.items) }
+    pub fn of(
+        alloc: Global,
+        slot: &Text,
+        seen: &Sights,
+        urls: &mut Texts,
+    ) -> Result<RefsAndNotes, Memory>
+        ensures refs { IfOk result
+            (λ found. found.refs.items ≡ references slot.now seen.now.items) }
         ensures notes { IfOk result (λ found. found.notes.items ≡ noted slot.now seen.now.items) }
     {
-        let mut found = Found::new(alloc);
+        let mut found = RefsAndNotes::new(alloc);
         for index in 0..seen.len() {
             take_item(alloc, slot, seen.at(index), urls, &mut found)?;
         }
@@ -43,7 +49,7 @@ impl Found {
     }
 
     /// Makes room for what more items say.
-    pub fn reserve(&mut self, more: &Found) -> Result<(), Memory>
+    pub fn reserve(&mut self, more: &RefsAndNotes) -> Result<(), Memory>
         ensures refs { self.new.refs.items ≡ self.old.refs.items }
         ensures notes { self.new.notes.items ≡ self.old.notes.items }
         ensures room_refs { OnOk result
@@ -57,7 +63,7 @@ impl Found {
     }
 
     /// Adds what more items say, for which there is room.
-    pub fn join(&mut self, more: Found)
+    pub fn join(&mut self, more: RefsAndNotes)
         requires room_refs { vec_len self.old.refs + vec_len more.refs
             ≤ vec_capacity self.old.refs }
         requires room_notes { vec_len self.old.notes + vec_len more.notes
@@ -78,7 +84,7 @@ fn take_item(
     slot: &Text,
     item: Sight,
     urls: &mut Texts,
-    found: &mut Found,
+    found: &mut RefsAndNotes,
 ) -> Result<(), Memory>
     ensures refs { OnOk result
         (found.new.refs.items ≡ found.old.refs.items ++ references_of slot.now item.entry) }
@@ -88,27 +94,25 @@ fn take_item(
     let line = item.line;
     match item.rule {
         None => take_object(alloc, slot, item.parts, urls, found),
-        Some(rule) => {
-            let origin = Origin::Rpsl(slot.copied()?);
-            found
-                .notes
-                .push(Note { origin, line, rule })
-                .map_err(Memory::from)
-        }
+        Some(rule) => found
+            .notes
+            .push(LineNote { line, rule })
+            .map_err(Memory::from),
     }
 }
 
 fn take_object(
     alloc: Global,
     slot: &Text,
-    parts: &[Part],
+    parts: &[AttributeSight],
     urls: &mut Texts,
-    found: &mut Found,
+    found: &mut RefsAndNotes,
 ) -> Result<(), Memory>
     ensures refs { OnOk result (found.new.refs.items
         ≡ found.old.refs.items ++ reference_in (found_in_parts slot.now parts.now).what) }
     ensures notes { OnOk result
-        (found.new.notes.items ≡ found.old.notes.items ++ (found_in_parts slot.now parts.now).notes) }
+        (found.new.notes.items
+        ≡ found.old.notes.items ++ (found_in_parts slot.now parts.now).notes) }
 {
     let told = found_of(alloc, slot, parts)?;
     let mut notes = told.notes.into_vec();
@@ -139,7 +143,7 @@ fn with_shared_url(reference: Reference, urls: &mut Texts) -> Result<Reference, 
 }
 
 /// Notes on distinct lines, in line order.
-pub(crate) fn in_line_order(notes: Vec<Note>) -> Result<Vec<Note>, Memory>
+pub(crate) fn in_line_order(notes: Vec<LineNote>) -> Result<Vec<LineNote>, Memory>
     ensures { IfOk result
         (λ sorted. AreApart notes.items → sorted.items ≡ in_line_order notes.items) }
 {

@@ -8,67 +8,67 @@ ghost use Rattle.feed_refs.specs.Kinds.{is_last_modified, is_of_kind, is_referen
 ghost use Rattle.feed_refs.specs.Kinds.{remark_url, url_text, used_kind};
 
 use geo_addr::{is_blank, trim_blanks};
-use rpsl_reader::Part;
+use rpsl_reader::AttributeSight;
 
 /// The two kinds of references: `geofeed` attributes, and remarks of the form that stands for them.
 #[derive(Clone, Copy, Debug, PartialEq, Eq)]
-pub(crate) enum Kind {
+pub(crate) enum RefKind {
     Geofeed,
     Remark,
 }
 
 /// The kind of which the references of an object count.
-pub(crate) fn used_kind(parts: &[Part]) -> Kind
+pub(crate) fn used_kind(parts: &[AttributeSight]) -> RefKind
     ensures { result ≡ used_kind parts.now }
 {
     if has_geofeed(parts) {
-        Kind::Geofeed
+        RefKind::Geofeed
     } else {
-        Kind::Remark
+        RefKind::Remark
     }
 }
 
-fn has_geofeed(parts: &[Part]) -> bool
+fn has_geofeed(parts: &[AttributeSight]) -> bool
     ensures { result ≡ list_any is_geofeed parts.now }
 {
     parts.iter().any(|a| is_geofeed(a))
 }
 
 /// Whether an attribute is a reference of a kind.
-pub(crate) fn is_of_kind(kind: Kind, attribute: &Part) -> bool
+pub(crate) fn is_of_kind(kind: RefKind, attribute: &AttributeSight) -> bool
     ensures { result ≡ is_of_kind kind attribute.now }
 {
     match kind {
-        Kind::Geofeed => is_geofeed(attribute),
-        Kind::Remark => is_reference_remark(attribute),
+        RefKind::Geofeed => is_geofeed(attribute),
+        RefKind::Remark => is_reference_remark(attribute),
     }
 }
 
 /// The URL text of a reference of a kind.
-pub(crate) fn url_text<'s>(kind: Kind, attribute: &'s Part) -> &'s [u8]
+pub(crate) fn url_text<'s>(kind: RefKind, attribute: &'s AttributeSight) -> &'s [u8]
     ensures { result.now ≡ url_text kind attribute.now }
 {
     let value = attribute.value.as_slice();
     match kind {
-        Kind::Geofeed => value,
-        Kind::Remark => remark_url(value).unwrap_or(&[]),
+        RefKind::Geofeed => value,
+        RefKind::Remark => remark_url(value).unwrap_or(&[]),
     }
 }
 
-fn is_geofeed(attribute: &Part) -> bool
+fn is_geofeed(attribute: &AttributeSight) -> bool
     ensures { result ≡ is_geofeed attribute.now }
 {
     attribute.name.as_str() == "geofeed"
 }
 
 /// Whether an attribute is a remark that refers to a feed.
-pub(crate) fn is_reference_remark(attribute: &Part) -> bool
+pub(crate) fn is_reference_remark(attribute: &AttributeSight) -> bool
     ensures { result ≡ is_reference_remark attribute.now }
 {
     attribute.name.as_str() == "remarks" && remark_url(attribute.value.as_slice()).is_some()
 }
 
-pub(crate) fn is_last_modified(attribute: &Part) -> bool
+pub(crate) fn is_last_modified(attribute: &AttributeSight) -> bool
     ensures { result ≡ is_last_modified attribute.now }
 {
     attribute.name.as_str() == "last-modified"

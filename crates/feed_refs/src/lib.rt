@@ -5,9 +5,12 @@ mod dump;
 mod feed_url;
 mod found;
 mod kinds;
+pub mod laws;
+mod limits;
 mod modified;
 mod reference;
 
-pub use dump::{DumpReader, LONGEST_DUMP};
+pub use dump::DumpReader;
 pub use feed_url::{UrlRead, read_url};
+pub use limits::LONGEST_DUMP;
 pub use reference::{FoundRef, What, reference_of};

@@ -14,11 +14,13 @@ ghost use Rattle.geo_addr.specs.Spans.{range_of_read, span_in};
 ghost use Rattle.feed_refs.specs.Used.{IsUsed};
 
 use crate::feed_url::{UrlRead, read_url};
-use crate::kinds::{Kind, is_last_modified, is_of_kind, is_reference_remark, url_text, used_kind};
+use crate::kinds::{
+    RefKind, is_last_modified, is_of_kind, is_reference_remark, url_text, used_kind,
+};
 use crate::modified::modified_in;
 use geo_addr::{List, Memory, Range, Text, parse_block, parse_span, range_of};
-use geo_terms::{Note, Origin, Reference, Rule};
-use rpsl_reader::{Object, Part, parts_of};
+use geo_terms::{LineNote, Reference, Rule};
+use rpsl_reader::{AttributeSight, Object, parts_of};
 use std::alloc::Global;
 
 /// What an object says of feeds.
@@ -38,7 +40,7 @@ pub enum What {
 #[derive(Debug, Drop, PartialEq, Eq)]
 pub struct FoundRef {
     pub what: What,
-    pub notes: List<Note>,
+    pub notes: List<LineNote>,
 }
 
 // The addresses of an object of a class that has some.
@@ -63,13 +65,17 @@ pub fn reference_of(alloc: Global, slot: &str, object: &Object) -> Result<FoundR
 }
 
 /// The same, for a slot that is shared, of the attributes of an object.
-pub(crate) fn found_of(alloc: Global, slot: &Text, parts: &[Part]) -> Result<FoundRef, Memory>
+pub(crate) fn found_of(
+    alloc: Global,
+    slot: &Text,
+    parts: &[AttributeSight],
+) -> Result<FoundRef, Memory>
     ensures { IfOk result (λ told. told ≡ found_in_parts slot.now parts.now) }
 {
     match parts {
         [first, ..] => match class_named(first) {
             Class::Other => Ok(without_notes(alloc, What::NotInet)),
-            Class::Unread => unread(alloc, slot, first.line),
+            Class::Unread => unread(alloc, first.line),
             Class::Inet(range) => found_in(alloc, slot, range, parts),
         },
         [] => Ok(without_notes(alloc, What::NotInet)),
@@ -87,11 +93,11 @@ fn without_notes(alloc: Global, what: What) -> FoundRef
 }
 
 // An object whose addresses are not read has one note, on its first attribute.
-fn unread(alloc: Global, slot: &Text, line: u64) -> Result<FoundRef, Memory>
-    ensures { IfOk result (λ told. told ≡ found_unread slot.now line) }
+fn unread(alloc: Global, line: u64) -> Result<FoundRef, Memory>
+    ensures { IfOk result (λ told. told ≡ found_unread line) }
 {
     let mut notes = Vec::new(alloc);
-    push_note(alloc, slot, line, Some(Rule::P03), &mut notes)?;
+    push_note(line, Some(Rule::P03), &mut notes)?;
     Ok(FoundRef {
         what: What::Nothing,
         notes: List::of(notes),
@@ -100,7 +106,7 @@ fn unread(alloc: Global, slot: &Text, line: u64) -> Result<FoundRef, Memory>
 
 // The addresses that the first attribute of an object names.
 #[tactic(auto, unfolding(crate::specs::References::class_named))]
-fn class_named(first: &Part) -> Class
+fn class_named(first: &AttributeSight) -> Class
     ensures { result ≡ class_named first.now }
 {
     let name = first.name.as_str();
@@ -137,7 +143,12 @@ fn v6_class(value: &[u8]) -> Class
 }
 
 // What the references of an object come to.
-fn found_in(alloc: Global, slot: &Text, range: Range, parts: &[Part]) -> Result<FoundRef, Memory>
+fn found_in(
+    alloc: Global,
+    slot: &Text,
+    range: Range,
+    parts: &[AttributeSight],
+) -> Result<FoundRef, Memory>
     ensures { IfOk result (λ told. told ≡ found_in slot.now range parts.now) }
 {
     let kind = used_kind(parts);
@@ -145,7 +156,7 @@ fn found_in(alloc: Global, slot: &Text, range: Range, parts: &[Part]) -> Result<
         Used::Nobody => Ok(without_notes(alloc, What::Nothing)),
         Used::One(only) => read_only(alloc, slot, range, parts, only),
         Used::Several => {
-            let notes = notes_on(alloc, slot, kind, Some(Rule::P04), parts)?;
+            let notes = notes_on(alloc, kind, Some(Rule::P04), parts)?;
             Ok(FoundRef {
                 what: What::Void,
                 notes,
@@ -158,11 +169,11 @@ fn found_in(alloc: Global, slot: &Text, range: Range, parts: &[Part]) -> Result<
 #[derive(Clone, Copy)]
 enum Used<'s, 'a> {
     Nobody,
-    One(&'s Part<'a>),
+    One(&'s AttributeSight<'a>),
     Several,
 }
 
-fn used_among<'s, 'a>(kind: Kind, parts: &'s [Part<'a>]) -> Used<'s, 'a>
+fn used_among<'s, 'a>(kind: RefKind, parts: &'s [AttributeSight<'a>]) -> Used<'s, 'a>
     ensures { IsUsed (filter (is_of_kind kind) parts.entry.now) result }
 {
     let mut used = Used::Nobody;
@@ -174,7 +185,7 @@ fn used_among<'s, 'a>(kind: Kind, parts: &'s [Part<'a>]) -> Used<'s, 'a>
     used
 }
 
-fn one_more<'s, 'a>(used: Used<'s, 'a>, next: &'s Part<'a>) -> Used<'s, 'a>
+fn one_more<'s, 'a>(used: Used<'s, 'a>, next: &'s AttributeSight<'a>) -> Used<'s, 'a>
     ensures { (before : List Attribute) → IsUsed before used.entry
         → IsUsed (before ++ next.entry.now ∷ []) result }
 {
@@ -190,8 +201,8 @@ fn read_only(
     alloc: Global,
     slot: &Text,
     range: Range,
-    parts: &[Part],
-    only: &Part,
+    parts: &[AttributeSight],
+    only: &AttributeSight,
 ) -> Result<FoundRef, Memory>
     ensures { IfOk result (λ told. told ≡ found_by slot.now range parts.now only.now
         (url_read (url_text (used_kind parts.now) only.now))) }
@@ -211,12 +222,12 @@ fn read_only(
             (What::One(reference), None)
         }
     };
-    let notes = notes_on(alloc, slot, kind, rule, parts)?;
+    let notes = notes_on(alloc, kind, rule, parts)?;
     Ok(FoundRef { what, notes })
 }
 
 // The time of the last change of an object, or 0.
-fn modified_of(parts: &[Part]) -> u64
+fn modified_of(parts: &[AttributeSight]) -> u64
     ensures { result ≡ modified_of parts.now }
 {
     match first_modified(parts) {
@@ -225,7 +236,7 @@ fn modified_of(parts: &[Part]) -> u64
     }
 }
 
-fn first_modified<'s, 'a>(parts: &'s [Part<'a>]) -> Option<&'s Part<'a>>
+fn first_modified<'s, 'a>(parts: &'s [AttributeSight<'a>]) -> Option<&'s AttributeSight<'a>>
     ensures { option_copied result ≡ find is_last_modified parts.now }
 {
     parts.iter().find(|a| is_last_modified(a))
@@ -234,24 +245,28 @@ fn first_modified<'s, 'a>(parts: &'s [Part<'a>]) -> Option<&'s Part<'a>>
 // The notes on attributes of which the references of the used kind have a rule or none.
 fn notes_on(
     alloc: Global,
-    slot: &Text,
-    kind: Kind,
+    kind: RefKind,
     used: Option<Rule>,
-    parts: &[Part],
-) -> Result<List<Note>, Memory>
-    ensures { IfOk result (λ notes. notes ≡ notes_on slot.now kind used parts.now) }
+    parts: &[AttributeSight],
+) -> Result<List<LineNote>, Memory>
+    ensures { IfOk result (λ notes. notes ≡ notes_on kind used parts.now) }
 {
     let mut notes = Vec::new(alloc);
     let mut seen = false;
     for attribute in parts {
         let rule = rule_on(kind, used, seen, attribute);
-        push_note(alloc, slot, attribute.line, rule, &mut notes)?;
+        push_note(attribute.line, rule, &mut notes)?;
         seen = seen || is_last_modified(attribute);
     }
     Ok(List::of(notes))
 }
 
-fn rule_on(kind: Kind, used: Option<Rule>, seen: bool, attribute: &Part) -> Option<Rule>
+fn rule_on(
+    kind: RefKind,
+    used: Option<Rule>,
+    seen: bool,
+    attribute: &AttributeSight,
+) -> Option<Rule>
     ensures { result ≡ rule_on kind used seen attribute.now }
 {
     if is_of_kind(kind, attribute) {
@@ -266,21 +281,12 @@ fn rule_on(kind: Kind, used: Option<Rule>, seen: bool, attribute: &Part) -> Opti
     None
 }
 
-fn push_note(
-    alloc: Global,
-    slot: &Text,
-    line: u64,
-    rule: Option<Rule>,
-    notes: &mut Vec<Note>,
-) -> Result<(), Memory>
+fn push_note(line: u64, rule: Option<Rule>, notes: &mut Vec<LineNote>) -> Result<(), Memory>
     ensures { OnOk result
-        (notes.new.items ≡ notes.old.items ++ option_to_list (note_by slot.now line rule)) }
+        (notes.new.items ≡ notes.old.items ++ option_to_list (note_by line rule)) }
 {
     if let Some(rule) = rule {
-        let origin = Origin::Rpsl(slot.copied()?);
-        notes
-            .push(Note { origin, line, rule })
-            .map_err(Memory::from)?;
+        notes.push(LineNote { line, rule }).map_err(Memory::from)?;
     }
     Ok(())
 }

@@ -1,4 +1,5 @@
-//! Tests of the readers of feeds and overrides, apart, so that a change of a test proves no crate again.
+//! Tests of the readers of feeds and overrides, apart, so that a change of a test proves no crate
+//! again.
 #![tactic(auto)]
 
 #[cfg(test)]

@@ -1,3 +1,4 @@
+//! The lines of a generated feed.
 ghost use Rattle.std.specs.Prelude.{◌≡◌, ◌≤◌, ◌<◌, ◌+◌, ◌*◌, ◌^◌, ◌++◌, IfOk, OnOk, decimal};
 ghost use Rattle.geo_addr.specs.Printing.{block_text};
 ghost use Rattle.generated.specs.Feeds.{country_of, feed, line_of};

@@ -63,7 +63,8 @@ feed_used url file second lines few =
     (entries_few second lines few)
 
 -- so are the statistics
-pub stats_used : (slot file : List ℕ) → no_source (acts.Stats slot file) (Some stats_file.bytes) ≡ None
+pub stats_used : (slot file : List ℕ)
+    → no_source (acts.Stats slot file) (Some stats_file.bytes) ≡ None
 unfolding stats_file
 stats_used slot file =
     let text = stats_file.bytes in

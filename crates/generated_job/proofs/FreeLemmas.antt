@@ -388,8 +388,8 @@ module _ (lines : ℕ) (few : lines ≤ 1000000) (file : List ℕ) where
 
   writes : (second : Bool) (line p n m : ℕ) (world : World)
       → Here (with_feed second lines) p n m world
-      → Here (with_feed second lines) 0 (n + 256 * (p + 2 * 1000013 + 1)) (m + (p + 2 * 1000013 + 1))
-      (after (does (emit_step line file)) world)
+      → Here (with_feed second lines) 0 (n + 256 * (p + 2 * 1000013 + 1))
+      (m + (p + 2 * 1000013 + 1)) (after (does (emit_step line file)) world)
   writes second line p n m world here = (
     emit_stage world.session (with_feed second lines) p n m 1000013 here.0
         (few_ranges second lines few),

@@ -1,6 +1,7 @@
 //! The files of the generated job.
 ghost use Rattle.std.specs.Prelude.{◌≡◌, ◌≤◌, IfOk};
-ghost use Rattle.generated_job.specs.Job.{dump_file, first_file, gen_files, second_file, stats_file};
+ghost use Rattle.generated_job.specs.Job.{dump_file, first_file, gen_files, second_file};
+ghost use Rattle.generated_job.specs.Job.{stats_file};
 
 use generated::gen_feed;
 use geo_addr::{Bytes, Memory, Text};
@@ -13,8 +14,8 @@ const DUMP: &str = "inetnum: 10.0.0.0 - 10.255.255.255\ngeofeed: https://gen.exa
 /// Its statistics file.
 const STATS: &str = "gen|US|ipv4|10.0.0.0|16777216|20200101|allocated\n";
 
-/// The files that the generated job of so many lines reads: its dump, its statistics, the first feed
-/// and the second one, in this order. Memory alone can lack.
+/// The files that the generated job of so many lines reads: its dump, its statistics, the first
+/// feed and the second one, in this order. Memory alone can lack.
 #[tactic(auto, unfolding(crate::specs::Job::gen_files))]
 pub fn gen_files(alloc: Global, lines: u32) -> Result<Vec<Apart>, Memory>
     requires few { lines ≤ 1000000 }

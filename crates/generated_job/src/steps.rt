@@ -31,8 +31,8 @@ pub fn gen_session(alloc: Global) -> Result<Session, Memory>
     Session::new(alloc, Meta { epoch: EPOCH, name })
 }
 
-/// The steps of the generated job that writes the file of this name twice: after the first feed, and
-/// after the second one in its place. Memory alone can lack.
+/// The steps of the generated job that writes the file of this name twice: after the first feed,
+/// and after the second one in its place. Memory alone can lack.
 #[tactic(auto, unfolding(crate::specs::Job::gen_steps))]
 pub fn gen_steps(alloc: Global, name: &str) -> Result<Vec<Step>, Memory>
     ensures { IfOk result (λ list. list.items ≡ gen_steps name.now) }

@@ -1,3 +1,4 @@
+//! Address texts of either family, read.
 ghost use Rattle.std.specs.Prelude.{◌≡◌};
 ghost use Rattle.geo_addr.specs.AddressTexts.{address_in, is_six, number_in};
 

@@ -1,3 +1,4 @@
+//! A law: an address is its 128 bits.
 ghost use Rattle.std.specs.Prelude.{ℕ};
 ghost use Rattle.geo_addr.specs.Bits.{OneListOfBits};
 

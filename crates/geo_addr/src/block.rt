@@ -1,3 +1,4 @@
+//! Aligned blocks of addresses.
 ghost use Rattle.std.specs.Prelude.{◌≡◌, ◌-◌, ◌%◌, ◌^◌, ◌≤◌, ◌==◌};
 
 use std::marker::Model;

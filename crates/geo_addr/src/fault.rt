@@ -1,3 +1,4 @@
+//! What is wrong with the text of an address, a block or a range.
 use thiserror::Error;
 
 /// What is wrong with the text of an address; where several things are, the first of this list.

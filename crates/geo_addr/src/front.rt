@@ -1,3 +1,4 @@
+//! The IPv4 address in front of a text, read in one pass.
 ghost use Rattle.std.specs.Prelude.{IfSome};
 ghost use Rattle.geo_addr.specs.Fronts.{BeginsWithAddress, BeginsWithDigit, BeginsWithDotted};
 ghost use Rattle.geo_addr.specs.Fronts.{BeginsWithOctet};

@@ -1,3 +1,4 @@
+//! The lines of a text, with their numbers.
 ghost use Rattle.std.specs.Prelude.{◌≡◌, ◌+◌, ◌-◌, ◌<◌, ◌≤◌, ◌^◌, ◌∷◌, ◌++◌, ◌==◌, length};
 ghost use Rattle.std.specs.Prelude.{MatchOption, All, ◌≢◌};
 ghost use Rattle.std.specs.Iterator.{YieldsFirstBy, item_count};

@@ -1,3 +1,4 @@
+//! The fault of a call that finds no memory.
 use std::alloc::{AllocError, AllocFailed};
 use thiserror::Error;
 

@@ -1,3 +1,4 @@
+//! Prefix texts, read.
 ghost use Rattle.std.specs.Prelude.{◌≡◌, ◌≤◌, ◌^◌, ◌%◌, ◌-◌, ◌==◌};
 ghost use Rattle.std.specs.Option.{ForSome};
 ghost use Rattle.geo_addr.specs.Prefixes.{address_length, aligned_block, block_in, block_of};

@@ -1,3 +1,4 @@
+//! Texts of addresses, blocks and ranges, written.
 ghost use Rattle.std.specs.Prelude.{◌≡◌, ◌/◌, ◌%◌, ◌^◌, ◌<◌, Ok, IfOk, Some};
 ghost use Rattle.std.specs.Net.Addr.{ipv4_octets, ipv6_segments};
 ghost use Rattle.geo_addr.specs.AddressTexts.{address_in};

@@ -1,3 +1,4 @@
+//! Ranges of addresses, and the ground that they stand on.
 ghost use Rattle.std.specs.Prelude.{◌≡◌};
 ghost use Rattle.geo_addr.specs.Ranges.{ground_first, holds, is_v4, range_of_block, size};
 

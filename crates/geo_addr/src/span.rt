@@ -1,3 +1,4 @@
+//! Span texts, read: two addresses with a hyphen, or a prefix.
 ghost use Rattle.std.specs.Prelude.{◌≡◌};
 ghost use Rattle.geo_addr.specs.Spans.{ordered_range, range_between, span_in};
 

@@ -1,3 +1,4 @@
+//! UTF-8 texts whose copies share their bytes.
 ghost use Rattle.std.specs.Prelude.{◌≡◌, IfOk, nat_eq, refl, Some, string_bytes};
 ghost use Rattle.std.specs.Cmp.{partial_equiv_from_equiv};
 ghost use Rattle.std.specs.Cmp.Lexicographic.{pointwise, slice_cmp, nat_list_eq_equiv};

@@ -1,3 +1,4 @@
+//! IPv4 texts, read.
 ghost use Rattle.std.specs.Prelude.{◌≡◌, ◌∷◌, ◌≤◌, true, false, ◌<◌, ◌^◌, IfOk, MatchBool};
 ghost use Rattle.std.specs.Prelude.{MatchOption};
 ghost use Rattle.std.specs.Str.Parse.{digits_value};

@@ -1,3 +1,4 @@
+//! IPv6 texts, read.
 ghost use Rattle.std.specs.Prelude.{◌≡◌, ◌+◌, ◌-◌, ◌*◌, ◌^◌, ◌≤◌, length, IfSome};
 ghost use Rattle.geo_addr.specs.Ipv6Texts.{double_at, elided_address, ipv6_in, whole_address};
 ghost use Rattle.geo_addr.specs.Sides.{IsSmall};

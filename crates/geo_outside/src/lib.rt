@@ -19,4 +19,4 @@ pub use mem_sink::MemSink;
 pub use put::Put;
 pub use sink::Sink;
 pub use steps::Steps;
-pub use whole::{WholeErr, read_whole};
+pub use whole::{PIECE, WholeErr, read_whole};

@@ -10,7 +10,7 @@ use std::alloc::{AllocError, Global};
 use thiserror::Error;
 
 /// How many bytes one read asks for.
-const PIECE: usize = 65_536;
+pub const PIECE: usize = 65_536;
 
 /// Why a whole file was not read.
 #[derive(Clone, Copy, Debug, PartialEq, Eq, Error)]
@@ -58,7 +58,7 @@ pub fn read_whole<F: Folder>(
     ensures read_faults { F.read_faults folder.old ≤ F.read_faults folder.new }
     ensures put_faults { F.put_faults folder.old ≤ F.put_faults folder.new }
     ensures misses { F.misses folder.old ≤ F.misses folder.new }
-    ensures given { F.given folder.new ≤ F.given folder.old + limit + 65536 }
+    ensures given { F.given folder.new ≤ F.given folder.old + limit + PIECE }
 {
     let mut buffer = empty_piece(alloc)?;
     let piece: &mut [u8] = &mut buffer;
@@ -79,7 +79,7 @@ pub fn read_whole<F: Folder>(
 
 /// Room for one read.
 fn empty_piece(alloc: Global) -> Result<Vec<u8>, AllocError>
-    ensures { IfOk result (λ v. vec_len v ≡ 65536) }
+    ensures { IfOk result (λ v. vec_len v ≡ PIECE) }
 {
     vec![in alloc; 0; PIECE]
 }

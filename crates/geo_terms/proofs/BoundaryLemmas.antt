@@ -13,8 +13,8 @@ use Rattle.geo_addr.specs.Ranges.{Ends, IsRange, ground_first, holds}
 use Rattle.geo_terms.specs.Boundaries.{told, AreBoundaries}
 use Rattle.geo_terms.specs.Edges.{edges_of, edges_from, after_edge, sweep}
 use Rattle.geo_terms.specs.Nested.{StandAtEdges, is_edge, stands_at}
-use Rattle.geo_terms.specs.declared.boundaries.Boundary.{Boundary}
-use Rattle.geo_terms.specs.declared.boundaries.Edge.{Edge}
+use Rattle.geo_terms.specs.declared.firsts.boundaries.Boundary.{Boundary}
+use Rattle.geo_terms.specs.declared.firsts.boundaries.Edge.{Edge}
 use Rattle.geo_terms.proofs.RankLemmas.{after_all, flag, up_all, in_all, head_is_position}
 
 -- the edges at or below an address

@@ -19,7 +19,7 @@ use Rattle.geo_terms.specs.Boundaries.{told, AreBoundaries}
 use Rattle.geo_terms.specs.First.{IsFirst, better, first_of, first_at}
 use Rattle.geo_terms.specs.FirstIndex.{TellsFirst, index_cmp, with_index}
 use Rattle.geo_terms.specs.Nested.{stands_at}
-use Rattle.geo_terms.specs.declared.boundaries.Boundary.{Boundary}
+use Rattle.geo_terms.specs.declared.firsts.boundaries.Boundary.{Boundary}
 use Rattle.geo_terms.proofs.FirstLemmas.{first_is_first}
 use Rattle.geo_terms.proofs.Members.{Among, among_from_contains, contains_from_among, all_among}
 

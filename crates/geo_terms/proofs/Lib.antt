@@ -4,12 +4,12 @@ pub mod FirstLemmas
 pub mod IndexLemmas
 pub mod LeadLemmas
 pub mod LineOrder
-pub mod MarkLemmas
 pub mod Members
 pub mod NearLemmas
 pub mod NestedLemmas
 pub mod NumberLemmas
 pub mod PlaceLemmas
 pub mod RankLemmas
+pub mod ReportLemmas
 pub mod SlotLemmas
 pub mod StandLemmas

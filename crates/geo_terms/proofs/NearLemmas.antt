@@ -5,7 +5,7 @@ use Rattle.std.specs.List.Sorted.{IsNonDecreasingBy}
 use Rattle.std.proofs.lemmas.Bool.Decides.{nat_tests}
 use Rattle.std.proofs.lemmas.Option.{slice_get_within, slice_get-get_or, get_or_from_slice_get}
 use Rattle.geo_terms.specs.Boundaries.{told}
-use Rattle.geo_terms.specs.declared.boundaries.Boundary.{Boundary}
+use Rattle.geo_terms.specs.declared.firsts.boundaries.Boundary.{Boundary}
 use Rattle.geo_terms.proofs.BoundaryLemmas.{told_at}
 
 -- some boundary, where there is none

@@ -17,7 +17,7 @@ use Rattle.geo_terms.specs.First.{better}
 use Rattle.geo_terms.specs.FirstIndex.{index_cmp}
 use Rattle.geo_terms.specs.Nested.{AreBoundariesOf, ArePassed, Climb, Closes, IsPut, Nest, Reach}
 use Rattle.geo_terms.specs.Nested.{best, best_index, innermost, is_edge, is_end, stands_at, top}
-use Rattle.geo_terms.specs.declared.boundaries.Boundary.{Boundary}
+use Rattle.geo_terms.specs.declared.firsts.boundaries.Boundary.{Boundary}
 use Rattle.geo_terms.proofs.BoundaryLemmas.{ground_before, held}
 
 -- a list with a last item
@@ -34,7 +34,8 @@ last_is (x ∷ y ∷ ys) t is =
 
 pub snoc_length : {A : Type 0} (xs : List A) (t : A) → length (xs ++ t ∷ []) ≡ length xs + 1
 snoc_length [] t = refl
-snoc_length (x ∷ xs) t = let e : length (xs ++ t ∷ []) ≡ length xs + 1 = snoc_length xs t in omega arith
+snoc_length (x ∷ xs) t = let e : length (xs
+    ++ t ∷ []) ≡ length xs + 1 = snoc_length xs t in omega arith
 
 module _ {C : Type 0} where
   inner_more : (outer : Option C) (os : List (ℕ × C)) (l : ℕ) (x : C) (a : ℕ) → Reach (l + 1) os
@@ -269,7 +270,8 @@ module _ {X : Type 0} (order : X → X → Ordering) (range_of : X → Ends) whe
       let p : ℕ × X → Bool = λ x. holds (range_of x.1) a in
       ap (fold (better lt) None) (filter-append p cs (c ∷ []))
       ∙ fold-append (better lt) None (filter p cs) (filter p (c ∷ []))
-      ∙ elim (holds (range_of c.1) a) as (λ v. fold (better lt) (fold (better lt) None (filter p cs))
+      ∙ elim (holds (range_of c.1) a) as (λ v. fold (better lt) (fold (better lt) None
+      (filter p cs))
       (cond v (c ∷ []) []) ≡ cond v (better lt (fold (better lt) None (filter p cs)) c)
       (fold (better lt) None (filter p cs))) [ true ↦ refl | false ↦ refl ]
 
@@ -283,7 +285,8 @@ module _ {X : Type 0} (order : X → X → Ordering) (range_of : X → Ends) whe
   edge_more (y ∷ ys) x c =
       let r : Ends = range_of y.1 in
       let later = edge_more ys x c in
-      ap (λ v. (eqb (ground_first r) c || eqb (r.last + 1) c) || v) later ∙ assoc (eqb (ground_first r) c || eqb (r.last + 1) c)
+      ap (λ v. (eqb (ground_first r) c || eqb (r.last + 1) c) || v) later
+      ∙ assoc (eqb (ground_first r) c || eqb (r.last + 1) c)
       (is_edge (map (λ (z : ℕ × X). range_of z.1) ys) c)
       (eqb (ground_first (range_of x.1)) c || eqb ((range_of x.1).last + 1) c)
     where
@@ -477,7 +480,8 @@ module _ {X : Type 0} (order : X → X → Ordering) (range_of : X → Ends) whe
     all_passed h far = record {
       ordered = climb_ordered 0 (2 ^ 128) bs h.climb;
       tell = h.past;
-      stand = λ c. no_end (stands_at bs c) (is_end os c) (ltb c (2 ^ 128)) (none_open os h.nest far c)
+      stand = λ c. no_end (stands_at bs c) (is_end os c) (ltb c (2 ^ 128))
+          (none_open os h.nest far c)
           ∙ h.stand c;
     }
       where

@@ -1,7 +1,10 @@
 -- The number of a place that was just put into the list, and of one that stands in it.
 use Rattle.std.proofs.Common.{◌≡◌, ℕ, suc, ◌+◌, ◌<◌, Bool, true, false, cond, not, ◌&&◌, ◌||◌, ltb}
-use Rattle.std.proofs.Common.{zero, eqb, get_or, length-append, List, [], ◌∷◌, ◌++◌, length, position}
-use Rattle.std.proofs.Common.{Some, None, option_map, refl, sym, ap, ◌∙◌, arith}
+use Rattle.std.proofs.Common.{zero, eqb, get_or, length-append, List, [], ◌∷◌, ◌++◌, length}
+use Rattle.std.proofs.Common.{position}
+use Rattle.std.proofs.Common.{Some, None, option_map, refl, sym, ap, ◌∙◌, arith, subst, ◌≤◌}
+use Rattle.std.proofs.Common.{inl, inr}
+use Rattle.std.proofs.lemmas.Bool.{cases_Bool}
 use Rattle.std.specs.Cmp.Lexicographic.{bytes_decides}
 use Rattle.std.specs.List.{AllByRecursion, IsDistinct, list_any, position_or_len}
 use Rattle.std.specs.Prelude.{slice_get}
@@ -179,3 +182,69 @@ numbers_stay places p more n h =
     elim (list_any (same_place more) places)
     as (λ b. number_of (cond b places (places ++ more ∷ [])) p ≡ Some n)
     [ true ↦ h | false ↦ position_stays (same_place p) places more n h ]
+
+-- ---- one more place at the end
+
+at_most : {X : Type 0} (q : X → Bool) (xs : List X) → position_or_len q xs ≤ length xs
+at_most q [] = omega arith
+at_most q (x ∷ xs) =
+    let h = at_most q xs in
+    elim (cases_Bool (q x)) [ inl e ↦ rw e (omega arith) | inr e ↦ rw e (omega (arith, h)) ]
+
+at_end : (i n : ℕ) → i ≤ n → option_map (λ k. k + 1) (cond (ltb i n) (Some i) None) ≡ None
+    → Some (n + 1) ≡ option_map (λ k. k + 1)
+    (cond (ltb (cond (eqb i n) (n + 0) i) (n + 1)) (Some (cond (eqb i n) (n + 0) i)) None)
+at_end i n most none = grind (arith, nat_tests)
+
+as_before : (i n : ℕ) → i ≤ n
+    → option_map (λ k. k + 1) (cond (ltb i n) (Some i) None) ≡ option_map (λ k. k + 1)
+    (cond (ltb (cond (eqb i n) (n + 1) i) (n + 1)) (Some (cond (eqb i n) (n + 1) i)) None)
+as_before i n most = grind (arith, nat_tests)
+
+pub number_push : (xs : List PlaceParts) (p q : PlaceParts) → number_of xs p ≡ None
+    → cond (same_place p q) (Some (length xs + 1)) (number_of xs q) ≡ number_of (xs ++ p ∷ []) q
+number_push xs p q none =
+    elim (same_place p q) as (λ b. same_place p q ≡ b
+    → cond b (Some (length xs + 1)) (number_of xs q) ≡ number_of (xs ++ p ∷ []) q) [
+      | true ↦ λ e.
+          let is : p ≡ q = same_parts p q e in
+          let own : number_of xs q ≡ None = subst (λ (z : PlaceParts). number_of xs z
+          ≡ None) is none in
+          rw (
+            position_or_len_push (same_place q) xs p,
+            place_is_itself q p (sym is),
+            length-append xs (p ∷ []),
+          ) (at_end (position_or_len (same_place q) xs) (length xs)
+          (at_most (same_place q) xs) own)
+      | false ↦ λ e.
+          rw (
+            position_or_len_push (same_place q) xs p,
+            told_apart_back p q e,
+            length-append xs (p ∷ []),
+          ) (as_before (position_or_len (same_place q) xs) (length xs)
+          (at_most (same_place q) xs))
+    ] refl
+
+pub absent_any : (xs : List PlaceParts) (p : PlaceParts) → number_of xs p ≡ None
+    → list_any (same_place p) xs ≡ false
+absent_any xs p none =
+    elim (list_any (same_place p) xs)
+    as (λ b. position (same_place p) (cond b xs (xs ++ p ∷ []))
+    ≡ Some (position_or_len (same_place p) xs) → b ≡ false) [
+      | true ↦ λ e. absurd (let f : None ≡ Some (position_or_len (same_place p) xs + 1) =
+          sym none ∙ ap (option_map (λ i. i + 1)) e in cc)
+      | false ↦ λ e. refl
+    ] (position_after_insert (same_place p) xs p (place_is_itself p p refl))
+
+-- a new place has the next number, and stands last
+pub number_new : (xs ys : List PlaceParts) (p : PlaceParts) (n : ℕ) → number_of xs p ≡ None
+    → ys ≡ xs ++ p ∷ [] → n ≡ length xs → number_of ys p ≡ Some (n + 1)
+number_new xs ys p n none pushed long =
+    let last : cond (same_place p p) (Some (length xs + 1)) (number_of xs p)
+    ≡ Some (length xs + 1) =
+    rw (place_is_itself p p refl) refl in
+    rw (pushed, long) (sym (number_push xs p p none) ∙ last)
+
+pub table_new : (xs ys : List PlaceParts) (p : PlaceParts) → number_of xs p ≡ None
+    → ys ≡ xs ++ p ∷ [] → ys ≡ with_place xs p
+table_new xs ys p none pushed = rw (absent_any xs p none) pushed

@@ -194,7 +194,8 @@ place_in_form country region city postal c r l says = record {
 }
 
 -- so do texts that are those of the fields
-pub fields_in_form : (country region city postal own_country own_region own_city own_postal : List ℕ)
+pub fields_in_form :
+    (country region city postal own_country own_region own_city own_postal : List ℕ)
     → own_country ≡ (parts_of country region city postal).country → own_region ≡ upper region
     → own_city ≡ city → own_postal ≡ postal
     → IsTrue (country_fits country) → IsTrue (region_fits region) → IsTrue (lengths_fit city postal)

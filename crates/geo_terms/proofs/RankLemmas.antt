@@ -11,7 +11,7 @@ use Rattle.std.specs.Set.{remove_key}
 use Rattle.std.proofs.lemmas.Bool.Decides.{nat_tests}
 use Rattle.std.proofs.lemmas.List.Sums.{position_or_len_is}
 use Rattle.geo_terms.specs.Edges.{after_edge}
-use Rattle.geo_terms.specs.declared.boundaries.Edge.{Edge}
+use Rattle.geo_terms.specs.declared.firsts.boundaries.Edge.{Edge}
 use Rattle.geo_terms.proofs.Members.{Among}
 
 -- the numbers ascend, from this one on

@@ -21,7 +21,7 @@ use Rattle.geo_addr.specs.Ranges.{AreCuts, Ends, IsCut, IsEdge, IsWithin, ground
 use Rattle.geo_terms.specs.First.{better}
 use Rattle.geo_terms.specs.FirstIndex.{StandAtCuts, TellsFirst, index_cmp}
 use Rattle.geo_terms.specs.Nested.{AreBoundariesOf, StandAtEdges, best_index, is_edge, stands_at}
-use Rattle.geo_terms.specs.declared.boundaries.Boundary.{Boundary}
+use Rattle.geo_terms.specs.declared.firsts.boundaries.Boundary.{Boundary}
 use Rattle.geo_terms.proofs.IndexLemmas.{best_first, map_map}
 use Rattle.geo_terms.proofs.Members.{Among, among_from_contains, contains_from_among}
 use Rattle.geo_terms.proofs.RankLemmas.{nat_cases}

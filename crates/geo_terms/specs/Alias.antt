@@ -1,14 +1,15 @@
 -- The two blocks of IPv6 addresses that carry an IPv4 address: its record is theirs.
 use Rattle.std.specs.Prelude.{ℕ, Bool, ◌&&◌, ◌||◌, ◌/◌, ◌%◌, ◌^◌, nat_eq, if◌then◌else◌}
 use Rattle.geo_addr.specs.Ranges.{Ends, ground_first}
+use Rattle.geo_terms.specs.declared.alias.TheConstants.{MAPPED_HEAD, SIX_TO_FOUR_HEAD}
 
--- in ::ffff:0:0/96 the IPv4 address is in the low 32 bits
+-- in ::ffff:0:0/96, whose first 96 bits are MAPPED_HEAD, the IPv4 address is in the low 32 bits
 abbrev pub is_mapped : ℕ → Bool
-is_mapped a = nat_eq (a / 2 ^ 32) 0xffff
+is_mapped a = nat_eq (a / 2 ^ 32) MAPPED_HEAD
 
--- in 2002::/16 it is in the 32 bits after the first 16
+-- in 2002::/16, whose first 16 bits are SIX_TO_FOUR_HEAD, it is in the 32 bits after the first 16
 abbrev pub is_six_to_four : ℕ → Bool
-is_six_to_four a = nat_eq (a / 2 ^ 112) 0x2002
+is_six_to_four a = nat_eq (a / 2 ^ 112) SIX_TO_FOUR_HEAD
 
 -- an address of one of the two alias blocks
 unfoldable pub is_alias : ℕ → Bool

@@ -3,7 +3,7 @@ use Rattle.std.specs.Prelude.{◌≡◌, ℕ, ◌^◌, ◌<◌, nat_le, if◌the
 use Rattle.std.specs.Prelude.{position}
 use Rattle.std.specs.List.Sorted.{IsNonDecreasingBy}
 use Rattle.geo_addr.specs.Ranges.{Ends, holds}
-use Rattle.geo_terms.specs.declared.boundaries.Boundary.{Boundary}
+use Rattle.geo_terms.specs.declared.firsts.boundaries.Boundary.{Boundary}
 
 -- what the last boundary at or below an address tells; where there is none, what was told before
 abbrev pub told : Option ℕ → List Boundary → ℕ → Option ℕ

@@ -7,8 +7,8 @@ use Rattle.std.specs.BTreeMap.{is_at}
 use Rattle.std.specs.BTreeSet.{insert_key}
 use Rattle.std.specs.Set.{remove_key}
 use Rattle.geo_addr.specs.Ranges.{Ends, ground_first}
-use Rattle.geo_terms.specs.declared.boundaries.Boundary.{Boundary}
-use Rattle.geo_terms.specs.declared.boundaries.Edge.{Edge}
+use Rattle.geo_terms.specs.declared.firsts.boundaries.Boundary.{Boundary}
+use Rattle.geo_terms.specs.declared.firsts.boundaries.Edge.{Edge}
 
 -- where a ground begins and where it has ended; one that reaches the last address never ends
 abbrev pub edges_of : ℕ → Ends → List Edge

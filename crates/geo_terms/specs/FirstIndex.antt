@@ -7,7 +7,7 @@ use Rattle.std.specs.Ordering.{is_lt, nat_cmp, ordering_then}
 use Rattle.geo_addr.specs.Ranges.{AreCuts, Ends}
 use Rattle.geo_terms.specs.Boundaries.{told}
 use Rattle.geo_terms.specs.First.{first_at}
-use Rattle.geo_terms.specs.declared.boundaries.Boundary.{Boundary}
+use Rattle.geo_terms.specs.declared.firsts.boundaries.Boundary.{Boundary}
 
 -- the first statement that holds an address is the one at the index that is told
 abbrev pub TellsFirst : {X : Type 0} → (X → X → Ordering) → (X → Ends) → List X

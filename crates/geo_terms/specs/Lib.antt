@@ -7,7 +7,6 @@ pub mod DelegationForm
 pub mod Edges
 pub mod First
 pub mod FirstIndex
-pub mod MarkHash
 pub mod Nested
 pub mod NoteText
 pub mod Numbers
@@ -15,8 +14,10 @@ pub mod Orders
 pub mod PlaceEquality
 pub mod PlaceForm
 pub mod PlaceLead
+pub mod PlaceOrder
 pub mod Precedence
 pub mod Report
+pub mod ReportOrder
 pub mod SaidOf
 pub mod SlotOrder
 pub mod SourceForm

@@ -11,7 +11,7 @@ use Rattle.geo_addr.specs.Ranges.{Ends, ground_first}
 use Rattle.geo_terms.specs.Boundaries.{told}
 use Rattle.geo_terms.specs.First.{first_at}
 use Rattle.geo_terms.specs.FirstIndex.{index_cmp}
-use Rattle.geo_terms.specs.declared.boundaries.Boundary.{Boundary}
+use Rattle.geo_terms.specs.declared.firsts.boundaries.Boundary.{Boundary}
 
 module _ {C : Type 0} where
   -- what the innermost open ground has that holds an address behind where it begins

@@ -11,6 +11,7 @@ use Rattle.geo_terms.specs.Precedence.{reference_before, lies_within}
 use Rattle.geo_terms.specs.SourceForm.{FeedParts, OverridesParts}
 use Rattle.geo_terms.specs.Alias.{lies_in_alias}
 use Rattle.geo_terms.specs.Sources.{InForce, references, feed_of, delegations, override_rows}
+use Rattle.geo_terms.specs.declared.note.LineNote.{LineNote}
 use Rattle.geo_terms.specs.declared.note.Note.{Note}
 use Rattle.geo_terms.specs.declared.note.Origin.{Origin}
 use Rattle.geo_terms.specs.declared.note.Origin.TheVariants.{Rpsl, Feed, Stats, Overrides}
@@ -78,15 +79,20 @@ abbrev pub in_order : {X : Type 0} → (X → X → Ordering) → List X → Lis
 in_order cmp [] = []
 in_order cmp (x ∷ xs) = put_in cmp x (in_order cmp xs)
 
+-- the notes of a source, with the source named
+abbrev pub named : Origin → List LineNote → List Note
+named origin = map (λ n. record { origin = origin; line = n.line; rule = n.rule })
+
 abbrev pub notes_in : Option OverridesParts → List Note
 notes_in None = []
-notes_in (Some o) = o.notes
+notes_in (Some o) = named Overrides o.notes
 
 -- the notes that the readers gave
 abbrev pub reader_notes : InForce → List Note
 reader_notes s =
-    flat_map (λ d. d.notes) s.dumps ++ (flat_map (λ f. f.notes) s.feeds
-    ++ (flat_map (λ t. t.notes) s.stats ++ notes_in s.overrides))
+    flat_map (λ d. named (Rpsl d.slot) d.notes) s.dumps
+    ++ (flat_map (λ f. named (Feed f.url) f.notes) s.feeds
+    ++ (flat_map (λ t. named (Stats t.slot) t.notes) s.stats ++ notes_in s.overrides))
 
 -- the notes of one source on others: rules that a source alone cannot tell
 abbrev pub joint_notes : InForce → List Note

@@ -4,6 +4,12 @@ ghost use Rattle.geo_terms.specs.Alias.{home, is_alias, is_mapped, is_six_to_fou
 
 use geo_addr::{Addr, Range};
 
+/// The first 96 bits of `::ffff:0:0/96`, as a number.
+pub const MAPPED_HEAD: u128 = 0xffff;
+
+/// The first 16 bits of `2002::/16`, as a number.
+pub const SIX_TO_FOUR_HEAD: u128 = 0x2002;
+
 /// The IPv4 address that an address of `::ffff:0:0/96` (RFC 4291, section 2.5.5.2) or of
 /// `2002::/16` (RFC 3056, section 2) carries; every other address is its own home.
 #[tactic(auto, unfolding(crate::specs::Alias::home))]
@@ -41,11 +47,11 @@ pub fn lies_in_alias(range: Range) -> bool
 fn is_mapped(at: u128) -> bool
     ensures { result ≡ is_mapped at }
 {
-    at >> 32 == 0xffff
+    at >> 32 == MAPPED_HEAD
 }
 
 fn is_six_to_four(at: u128) -> bool
     ensures { result ≡ is_six_to_four at }
 {
-    at >> 112 == 0x2002
+    at >> 112 == SIX_TO_FOUR_HEAD
 }

@@ -1,6 +1,7 @@
 //! Laws over the definitions alone, which the crates above rest on.
 ghost use Rattle.geo_terms.specs.Cuts.{ConstantBetweenCuts};
 ghost use Rattle.geo_terms.specs.Orders.{FirstsAreFirst};
+ghost use Rattle.geo_terms.specs.ReportOrder.{ReportsAreInOrder};
 ghost use Rattle.geo_terms.specs.Numbers.{NumbersNamePlaces, NumbersStay, PlacesAreToldApart};
 
 /// What the sources say of an address is constant between their cut points.
@@ -31,4 +32,9 @@ pub fn numbers_stay()
 #[tactic(auto, using(crate::proofs::FirstLemmas::firsts_are_first))]
 pub fn firsts_are_first()
     ensures { FirstsAreFirst }
+{}
+
+/// Notes in the order of a report are the same notes, each as often, and ascend in it.
+pub fn reports_are_in_order()
+    ensures { ReportsAreInOrder }
 {}

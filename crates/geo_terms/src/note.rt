@@ -1,3 +1,4 @@
+//! Notes on lines of sources: their rules, their order in a report, and their text.
 ghost use Rattle.std.specs.Prelude.{◌≡◌, IfOk};
 ghost use Rattle.geo_terms.specs.NoteText.{code_of, kind_of, kind_rank, name_of, note_cmp};
 ghost use Rattle.geo_terms.specs.NoteText.{note_line};
@@ -97,7 +98,14 @@ pub enum Rule {
     A01,
 }
 
-/// A line of a source to which a rule applies.
+/// A line to which a rule applies, as its source keeps it, which says itself what source it is.
+#[derive(Clone, Copy, Debug, PartialEq, Eq)]
+pub struct LineNote {
+    pub line: u64,
+    pub rule: Rule,
+}
+
+/// A line of a source to which a rule applies, with the source named.
 #[derive(Debug, Drop, PartialEq, Eq)]
 pub struct Note {
     pub origin: Origin,

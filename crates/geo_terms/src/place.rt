@@ -1,3 +1,4 @@
+//! Places and what a line says of its addresses.
 ghost use Rattle.std.specs.Prelude.{◌≡◌, ◌++◌, ◌&&◌, IfOk, IsTrue};
 ghost use Rattle.std.specs.Cmp.{partial_equiv_from_equiv};
 ghost use Rattle.std.specs.Cmp.Rules.{hashing};
@@ -7,9 +8,13 @@ ghost use Rattle.geo_terms.specs.PlaceForm.{IsPlace, same_text};
 ghost use Rattle.geo_terms.specs.PlaceLead.{Tells};
 ghost use Rattle.geo_terms.specs.Numbers.{same_place};
 ghost use Rattle.geo_terms.specs.PlaceEquality as equality;
+ghost use Rattle.geo_terms.specs.PlaceOrder as order;
+ghost use Rattle.std.specs.Prelude.{Some, refl};
+ghost use Rattle.std.specs.Cmp.{partial_order_from_agreeing_total};
 
 use geo_addr::{Memory, Text};
 use std::alloc::Global;
+use std::cmp::Ordering;
 use std::hash::{Hash, Hasher};
 use std::marker::Model;
 use std::sync::Arc;
@@ -69,7 +74,13 @@ impl Place {
         city: Text,
         postal: Text,
     ) -> Result<Place, Memory>
-        requires { IsPlace (record { country = country; region = region; city = city; postal = postal }) }
+        requires { IsPlace (record {
+          country = country;
+          region = region;
+          city = city;
+          postal =
+              postal;
+        }) }
         ensures { IfOk result (λ place. place
             ≡ record { country = country; region = region; city = city; postal = postal }) }
     {
@@ -182,7 +193,8 @@ fn tells(lead: u64, country: &[u8], region: &[u8]) -> bool
     &bytes[1..3] == country && &bytes[1..count] == region
 }
 
-// One more than the length of the region, and its bytes behind that, or where there is none those of
+// One more than the length of the region, and its bytes behind that, or where there is none those
+// of
 // the country: the lowest first.
 fn spelled(country: &[u8], region: &[u8]) -> u64 {
     let text = if region.is_empty() { country } else { region };
@@ -205,6 +217,35 @@ impl PartialEq for Place {
 
 impl Eq for Place {
     ghost laws = { equality.place_equiv };
+}
+
+impl PartialOrd for Place {
+    ghost partial_cmp = { λ x y. Some (order.place_cmp x y) };
+
+    ghost laws = { partial_order_from_agreeing_total order.place_cmp order.place_total
+        (λ x y. refl) order.place_ties };
+
+    fn partial_cmp(&self, other: &Place) -> Option<Ordering> {
+        Some(self.cmp(other))
+    }
+}
+
+impl Ord for Place {
+    ghost cmp = { order.place_cmp };
+
+    ghost total = { order.place_total };
+
+    ghost matches_partial_cmp = { λ x y. refl };
+
+    ghost matches_eq = { order.place_ties };
+
+    fn cmp(&self, other: &Place) -> Ordering {
+        self.country()
+            .cmp(other.country())
+            .then_with(|| self.region().cmp(other.region()))
+            .then_with(|| self.city().cmp(other.city()))
+            .then_with(|| self.postal().cmp(other.postal()))
+    }
 }
 
 impl Hash for Place {

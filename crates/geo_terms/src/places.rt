@@ -1,42 +1,52 @@
-//! Numbers for places.
+//! Places of texts, and numbers for them.
 ghost use Rattle.std.specs.Prelude.{◌≡◌, ℕ, ◌-◌, ◌^◌, ◌<◌, ◌≤◌, ◌↔◌, [], length, IfOk, OnOk, OnErr};
 ghost use Rattle.std.specs.Prelude.{IsNone, IfSome, IsTrue, Some};
 ghost use Rattle.std.specs.Option.{option_copied};
 ghost use Rattle.std.specs.List.{IsDistinct};
 ghost use Rattle.geo_terms.specs.Numbers.{number_of, place_at, same_place, with_place};
 
+pub(crate) mod fields;
+mod slots;
+pub(crate) mod texts;
+
 use crate::place::Place;
 use geo_addr::Memory;
-use indexmap::IndexSet;
 use std::alloc::Global;
+use std::collections::BTreeMap;
 use std::marker::Model;
+use std::mem;
 use thiserror::Error;
 
 /// Distinct places with their numbers, in the order in which they came.
 ///
 /// The first place has number 1; a number that was given is never changed. A place is looked for by
-/// its mark first, and only where that leads to another by its texts.
+/// its mark first, and only where that leads to others by its texts, in a tree: a stranger who
+/// chooses marks makes a look-up as dear as the tree, and no dearer.
 #[derive(Drop)]
 pub struct Places {
-    places: IndexSet<Place>,
+    list: Vec<Place>,
+    index: BTreeMap<Place, u32>,
     recent: Vec<u32>,
 }
 
-/// How many numbers are kept by marks: so few that all stay near the processor.
-const SLOTS: u64 = 1 << 14;
+/// How many numbers are kept by marks at first, and at most.
+const FIRST_RECENT: usize = 1 << 14;
+
+const MOST_RECENT: usize = 1 << 20;
 
 impl Model for Places {
     ghost use Rattle.std.specs.Prelude.{List, ◌^◌, ◌<◌, length};
     ghost use Rattle.std.specs.List.{IsDistinct};
     ghost use Rattle.geo_terms.specs.PlaceForm.{PlaceParts};
     ghost use Rattle.geo_terms.specs.Numbers.{same_place};
+    ghost use Rattle.geo_terms.specs.PlaceOrder.{Leads};
 
     ghost Value = { List PlaceParts };
 
-    ghost view = { λ p. p.places.keys };
+    ghost view = { λ p. p.list.items };
 
-    ghost invariant = { λ p. IsDistinct same_place p.places.keys
-        × (length p.places.keys < 2 ^ 32) };
+    ghost invariant = { λ p. IsDistinct same_place p.list.items
+        × (length p.list.items < 2 ^ 32) × Leads p.list.items p.index };
 }
 
 /// Why a place has no number.
@@ -54,7 +64,8 @@ impl Places {
         ensures { result ≡ [] }
     {
         Places {
-            places: IndexSet::new(alloc),
+            list: Vec::new(alloc),
+            index: BTreeMap::new(alloc),
             recent: Vec::new(alloc),
         }
     }
@@ -82,19 +93,46 @@ impl Places {
     fn remember(&mut self, place: &Place, number: u32)
         ensures { self.new ≡ self.old }
     {
-        if self.recent.is_empty() && self.recent.resize(SLOTS as usize, 0).is_err() {
-            return;
+        let count = self.recent.len();
+        if count < MOST_RECENT && count / 4 <= self.list.len() {
+            self.more_recent(count);
         }
-        if let Some(slot) = self.recent.get_mut(slot_of(place)) {
-            *slot = number;
-        }
+        note_recent(&mut self.recent, place, number);
     }
 
-    // The number of a place that its mark leads to.
+    // More slots for numbers by marks, if there is memory for them, with the numbers given so far.
+    fn more_recent(&mut self, count: usize)
+        ensures { self.new ≡ self.old }
+    {
+        let mut recent = Vec::new(*self.list.allocator());
+        if recent
+            .resize(count.saturating_mul(2).max(FIRST_RECENT), 0)
+            .is_err()
+        {
+            return;
+        }
+        for (index, place) in self.list.iter().enumerate() {
+            note_recent(&mut recent, place, index as u32 + 1);
+        }
+        self.recent = recent;
+    }
+
+    // The number of a place that its mark leads to, in the slot of the mark or the one beside it.
     fn number_by_mark(&self, place: &Place) -> Option<u32>
         ensures { IfSome result (λ number. number_of self.now place.now ≡ Some number) }
     {
-        let number = *self.recent.get(slot_of(place))?;
+        let slot = slot_of(&self.recent, place);
+        match self.number_in(slot, place) {
+            Some(number) => Some(number),
+            None => self.number_in(slot ^ 1, place),
+        }
+    }
+
+    // The number in this slot, if it is that of the place.
+    fn number_in(&self, slot: usize, place: &Place) -> Option<u32>
+        ensures { IfSome result (λ number. number_of self.now place.now ≡ Some number) }
+    {
+        let number = *self.recent.get(slot)?;
         let found = self.get(number)?;
         if found != place {
             return None;
@@ -113,19 +151,24 @@ impl Places {
             ↔ (IsNone (number_of self.old place.now) × (length self.old ≡ 2 ^ 32 - 1)) }
         ensures err { OnErr result (self.new ≡ self.old) }
     {
-        if let Some(index) = self.places.get_index_of(place) {
-            return Ok(index as u32 + 1);
+        if let Some(number) = self.index.get(place) {
+            return Ok(*number);
         }
-        if self.places.len() >= u32::MAX as usize {
+        if self.list.len() >= u32::MAX as usize {
             return Err(PlacesFault::Full);
         }
-        let Ok(copy) = place.copied() else {
+        let (Ok(copy), Ok(key)) = (place.copied(), place.copied()) else {
             return Err(PlacesFault::Memory);
         };
-        let Ok((index, _)) = self.places.insert_full(copy) else {
+        let number = self.list.len() as u32 + 1;
+        if self.list.push(copy).is_err() {
             return Err(PlacesFault::Memory);
-        };
-        Ok(index as u32 + 1)
+        }
+        if self.index.insert(key, number).is_err() {
+            self.list.pop();
+            return Err(PlacesFault::Memory);
+        }
+        Ok(number)
     }
 
     /// The place of a number.
@@ -135,7 +178,7 @@ impl Places {
         if number == 0 {
             return None;
         }
-        self.places.get_index(number as usize - 1)
+        self.list.get(number as usize - 1)
     }
 
     /// How many places have a number.
@@ -143,18 +186,30 @@ impl Places {
         ensures count { result ≡ length self.now }
         ensures distinct { IsDistinct same_place self.now }
     {
-        self.places.len() as u32
+        self.list.len() as u32
     }
 
     /// Whether no place has a number.
     pub fn is_empty(&self) -> bool
         ensures { IsTrue result ↔ (self.now ≡ []) }
     {
-        self.places.is_empty()
+        self.list.is_empty()
+    }
+}
+
+// Puts a number into the slot of the place's mark, and what was there into the one beside it.
+fn note_recent(recent: &mut [u32], place: &Place, number: u32) {
+    let slot = slot_of(recent, place);
+    let Some(first) = recent.get_mut(slot) else {
+        return;
+    };
+    let before = mem::replace(first, number);
+    if let Some(second) = recent.get_mut(slot ^ 1) {
+        *second = before;
     }
 }
 
 // Where the number of a place with this mark is kept.
-fn slot_of(place: &Place) -> usize {
-    (place.mark() % SLOTS) as usize
+fn slot_of(recent: &[u32], place: &Place) -> usize {
+    place.mark() as usize & recent.len().saturating_sub(1)
 }

@@ -1,4 +1,5 @@
-use crate::note::Note;
+//! Sources as they are read: what they state, and the notes on their lines.
+use crate::note::LineNote;
 use crate::statement::{Delegation, Entry, Override, Reference};
 use geo_addr::{List, Memory, Text};
 use std::marker::Model;
@@ -6,13 +7,12 @@ use thiserror::Error;
 
 /// A registry dump, read: its references and its notes.
 ///
-/// A literal owes that both lists are in line order, that the references carry the slot, and that
-/// the notes are about this dump.
+/// A literal owes that both lists are in line order, and that the references carry the slot.
 #[derive(Debug, Drop)]
 pub struct Dump {
     pub slot: Text,
     pub refs: List<Reference>,
-    pub notes: List<Note>,
+    pub notes: List<LineNote>,
 }
 
 impl Model for Dump {
@@ -29,13 +29,13 @@ impl Model for Dump {
 
 /// A feed, read: its entries and its notes.
 ///
-/// A literal owes that both lists are in line order and share no line, that the blocks of the
-/// entries are distinct, and that the notes are about this feed.
+/// A literal owes that both lists are in line order and share no line, and that the blocks of the
+/// entries are distinct.
 #[derive(Debug, Drop)]
 pub struct Feed {
     pub url: Text,
     pub entries: List<Entry>,
-    pub notes: List<Note>,
+    pub notes: List<LineNote>,
 }
 
 impl Model for Feed {
@@ -53,13 +53,12 @@ impl Model for Feed {
 
 /// A statistics file, read: its delegations and its notes.
 ///
-/// A literal owes that both lists are in line order, that the delegations carry the slot, and that
-/// the notes are about this file.
+/// A literal owes that both lists are in line order, and that the delegations carry the slot.
 #[derive(Debug, Drop)]
 pub struct Stats {
     pub slot: Text,
     pub rows: List<Delegation>,
-    pub notes: List<Note>,
+    pub notes: List<LineNote>,
 }
 
 impl Model for Stats {
@@ -76,12 +75,11 @@ impl Model for Stats {
 
 /// The overrides, read: their rows and their notes.
 ///
-/// A literal owes that both lists are in line order, that the ranges of the rows are distinct, and
-/// that the notes are about the overrides.
+/// A literal owes that both lists are in line order, and that the ranges of the rows are distinct.
 #[derive(Debug, Drop)]
 pub struct Overrides {
     pub rows: List<Override>,
-    pub notes: List<Note>,
+    pub notes: List<LineNote>,
 }
 
 impl Model for Overrides {

@@ -1,3 +1,4 @@
+//! Statements: references, entries, delegations and overrides.
 use crate::place::{Place, Said};
 use geo_addr::{Block, Range, Text};
 use std::marker::Model;

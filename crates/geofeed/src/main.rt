@@ -50,7 +50,8 @@ usage:
   geofeed -V, --version           prints the version, the toolchain's line, and the commit
 
 JOB and FILE are names at or below the current folder, without blanks, with no part `.` or `..`.
-The exit status is 0 where all was done. Each other one has a line on standard error that says why and what to do;
+The exit status is 0 where all was done. Each other one has a line on standard error that says why \
+and what to do;
 docs/stops.md and geofeed(1) have them all.
 ";
 

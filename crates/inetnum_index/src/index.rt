@@ -1,3 +1,4 @@
+//! The index of references, and what is asked of it.
 use crate::cover::{end_of, first_reaching, some_reach};
 use crate::firsts::firsts_of;
 use crate::links::{Link, links_of};

@@ -40,16 +40,18 @@ pub(crate) struct Held<'a> {
 }
 
 /// Work that reads the lines of a feed and makes it ready to be set.
-#[derive(Clone, Copy, Debug)]
-struct Parsing;
+#[derive(Drop)]
+struct Parsing {
+    alloc: Global,
+}
 
 impl<'a> Work<Held<'a>, Result<ReadyFeed, Stop>> for Parsing {
     ghost use Rattle.job_run.specs.Feeds.{Parses};
 
     ghost related = { λ work held parsed. Parses held parsed };
 
-    fn done(&self, alloc: Global, item: &Held<'a>) -> Result<Result<ReadyFeed, Stop>, Memory> {
-        Ok(ready_feed(alloc, item.url, item.bytes.as_slice()))
+    fn done(&self, item: &Held<'a>) -> Result<Result<ReadyFeed, Stop>, Memory> {
+        Ok(ready_feed(self.alloc, item.url, item.bytes.as_slice()))
     }
 }
 
@@ -226,7 +228,8 @@ fn parsed_all<R: Threads + Sync, G: Gate>(
             return parsed_long(forks, one);
         }
     }
-    map_pieces(forks, held, &Parsing)
+    let work = Parsing { alloc: forks.alloc };
+    map_pieces(forks.rt, forks.alloc, forks.gate, forks.pieces, held, &work)
 }
 
 /// What a long one is, by parts side by side.

@@ -7,7 +7,7 @@ ghost use Rattle.kept_sources.specs.Kinds.{IsKindIndex};
 use crate::kind_index::{KindIndex, index_of, push_ranges};
 use crate::shelf::second;
 use geo_addr::{Addr, Memory, Range};
-use geo_terms::{Note, Override, Overrides};
+use geo_terms::{Note, Origin, Override, Overrides};
 use source_changes::push_borrows;
 use source_notes::{note_overrides, push_notes};
 use std::alloc::Global;
@@ -131,7 +131,7 @@ impl Overriding {
         ensures { OnOk result (notes.new.items ≡ notes.old.items ++ notes_in self.now) }
     {
         if let Some(held) = &self.held {
-            push_notes(notes, held.overrides.notes.as_slice())?;
+            push_notes(notes, &Origin::Overrides, held.overrides.notes.as_slice())?;
         }
         Ok(())
     }

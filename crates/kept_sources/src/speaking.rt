@@ -65,7 +65,7 @@ impl Speaking {
     ghost use Rattle.authority.specs.declared.fault.DropFault.{DropFault};
     ghost use Rattle.geo_addr.specs.Ranges.{IsRange, range_of_block};
     ghost use Rattle.geo_terms.specs.PlaceForm.{same_text};
-    ghost use Rattle.geo_terms.specs.Report.{alias_note};
+    ghost use Rattle.geo_terms.specs.Report.{alias_note, named};
     ghost use Rattle.geo_terms.specs.SlotOrder.{placed, removed};
     ghost use Rattle.geo_terms.specs.Sources.{entries, no_sources, references};
     ghost use Rattle.geo_terms.specs.declared.note.Origin.{Origin};
@@ -205,8 +205,9 @@ impl Speaking {
     /// Appends the notes of all dumps, and then those of all feeds.
     pub fn push_notes(&self, notes: &mut Vec<Note>) -> Result<(), Memory>
         ensures { OnOk result
-            (notes.new.items ≡ (notes.old.items ++ flat_map (λ d. d.notes) self.now.dumps)
-            ++ flat_map (λ f. f.notes) self.now.feeds) }
+            (notes.new.items ≡ (notes.old.items
+            ++ flat_map (λ d. named (Origin.Rpsl d.slot) d.notes) self.now.dumps)
+            ++ flat_map (λ f. named (Origin.Feed f.url) f.notes) self.now.feeds) }
     {
         push_dump_notes(notes, self.authority.dumps())?;
         push_feed_notes(notes, self.authority.feeds())

@@ -45,7 +45,7 @@ impl Statistics {
     ghost use Rattle.geo_terms.specs.First.{first_at};
     ghost use Rattle.geo_terms.specs.PlaceForm.{same_text};
     ghost use Rattle.geo_terms.specs.Precedence.{delegation_before};
-    ghost use Rattle.geo_terms.specs.Report.{alias_note};
+    ghost use Rattle.geo_terms.specs.Report.{alias_note, named};
     ghost use Rattle.geo_terms.specs.SlotOrder.{AreInOrder, placed, removed};
     ghost use Rattle.geo_terms.specs.declared.note.Origin.{Origin};
     ghost use Rattle.cut_segments.specs.CutPoints.{AreCutsOf};
@@ -138,7 +138,8 @@ impl Statistics {
     /// Appends the notes of all files, file by file.
     pub fn push_notes(&self, notes: &mut Vec<Note>) -> Result<(), Memory>
         ensures { OnOk result
-            (notes.new.items ≡ notes.old.items ++ flat_map (λ t. t.notes) self.now) }
+            (notes.new.items ≡ notes.old.items
+            ++ flat_map (λ t. named (Origin.Stats t.slot) t.notes) self.now) }
     {
         push_file_notes(notes, self.files.as_slice())
     }

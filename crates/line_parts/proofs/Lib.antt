@@ -1,2 +1,3 @@
 pub mod GatherLemmas
+mod CutLemmas
 mod PartLemmas

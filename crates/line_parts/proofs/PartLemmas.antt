@@ -3,7 +3,7 @@ use Rattle.std.proofs.Common.{◌≡◌, ℕ, ◌+◌, ◌<◌, ◌≤◌, ◌&&
 use Rattle.std.proofs.Common.{◌++◌, length, map, take, drop, inl, inr, refl, sym, ap, ap₂, ◌∙◌}
 use Rattle.std.proofs.Common.{subst, arith}
 use Rattle.std.proofs.Common.{Option, None, Some, eqb, get_or, ne_eqb, All, ◌⊎◌, ◌≢◌, ◌^◌, ◌-◌}
-use Rattle.std.specs.List.{enumerate_from, flat_map, onto_first, slice_split, starts_with}
+use Rattle.std.specs.List.{enumerate_from, flat_map, onto_first, starts_with}
 use Rattle.std.specs.Prelude.{nat_eq}
 use Rattle.std.specs.Str.Lines.{strip_carriage_return}
 use Rattle.std.proofs.lemmas.Bool.{eqb-true}
@@ -18,7 +18,7 @@ use Rattle.std.proofs.lemmas.List.Splits.{length-slice_split, slice_split_none}
 use Rattle.geo_addr.specs.Lines.{byte_order_mark, lines_of, lines_of_pieces, numbered_lines}
 use Rattle.geo_addr.specs.Lines.{pieces, without_mark}
 use Rattle.std.proofs.lemmas.Grind.{flat_map-append}
-use Rattle.line_parts.specs.Parts.{EndsBehind, EndsWithFeed, HasInnerMark, behind, feeds, lines_in}
+use Rattle.line_parts.specs.Parts.{EndsBehind, EndsWithFeed, behind, feeds, lines_in}
 use Rattle.line_parts.specs.declared.part.LinePart.{LinePart}
 
 -- a first piece before others is a line
@@ -229,8 +229,8 @@ numbers_below : (before n top : ℕ) (xs : List (List ℕ)) → before + n + len
     → All (λ (l : ℕ × List ℕ). before + l.0 < top) (enumerate_from n xs)
 numbers_below before n top [] few = All-nil (λ (l : ℕ × List ℕ). before + l.0 < top)
 numbers_below before n top (x ∷ xs) few =
-    All-cons (λ (l : ℕ × List ℕ). before + l.0 < top) (n, x) (enumerate_from (n + 1) xs) (omega arith)
-    (numbers_below before (n + 1) top xs (omega arith))
+    All-cons (λ (l : ℕ × List ℕ). before + l.0 < top) (n, x) (enumerate_from (n + 1) xs)
+    (omega arith) (numbers_below before (n + 1) top xs (omega arith))
 
 -- the numbers of the lines of a part are small
 pub numbers_fit : (before : ℕ) (text : List ℕ) → before + length text < 2 ^ 64
@@ -285,7 +285,8 @@ module _ (size : ℕ) (text piece after : List ℕ) where
   long_head : size ≤ length text → length (take size text) ≡ size
   long_head within = length-take-le size text within
 
-  pub cut_short : size ≤ length text → All (λ b. b ≢ 10) piece → drop size text ≡ piece ++ 10 ∷ after
+  pub cut_short : size ≤ length text → All (λ b. b ≢ 10) piece
+      → drop size text ≡ piece ++ 10 ∷ after
       → EndsBehind size (take (length text - length after) text)
   cut_short within free cut =
       let behind_it : drop size (take (length text - length after) text) ≡ piece ++ 10 ∷ [] =

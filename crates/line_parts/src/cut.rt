@@ -1,10 +1,11 @@
 //! A file cut into parts.
 ghost use Rattle.std.specs.Prelude.{◌≡◌, ◌+◌, ◌<◌, ◌≤◌, ◌^◌, ◌++◌, ◌⊎◌, [], false, true, All};
-ghost use Rattle.std.specs.Prelude.{IfOk, length, map, ◌==◌};
-ghost use Rattle.std.specs.List.{flat_map};
+ghost use Rattle.std.specs.Prelude.{IfOk, length, map, drop, take, nat_eq, ◌==◌};
+ghost use Rattle.std.specs.List.{flat_map, starts_with};
 ghost use Rattle.std.specs.Simd.Lanes.{mask_l};
 ghost use Rattle.geo_addr.specs.Lines.{byte_order_mark, numbered_lines, without_mark};
-ghost use Rattle.line_parts.specs.Parts.{EndsBehind, EndsWithFeed, feeds, lines_in};
+ghost use Rattle.line_parts.specs.Parts.{AreCut, EndsBehind, EndsWithFeed, feeds, lines_in};
+ghost use Rattle.line_parts.specs.Parts.{part_end};
 
 use crate::part::LinePart;
 use geo_addr::{Memory, cut_at, skip_mark};
@@ -16,6 +17,7 @@ use std::simd::prelude::*;
 /// Where a byte order mark stands there, which is part of a line, what is left is one part.
 pub fn parts_of(alloc: Global, file: &[u8], size: usize) -> Result<Vec<LinePart<'_>>, Memory>
     ensures lines { IfOk result (λ parts. flat_map lines_in parts.items ≡ numbered_lines file.now) }
+    ensures cut { IfOk result (λ parts. AreCut size file.now parts.items []) }
     ensures short { IfOk result (λ parts. All (λ p. EndsBehind size p.text.now) parts.items) }
 {
     let mut parts = Vec::new(alloc);
@@ -45,6 +47,8 @@ fn cut_behind(text: &[u8], size: usize) -> (&[u8], &[u8])
     ensures joined { result.0.now ++ result.1.now ≡ text.now }
     ensures end { (result.1.now ≡ []) ⊎ EndsWithFeed result.0.now }
     ensures unmarked { without_mark result.1.now ≡ result.1.now }
+    ensures first { result.0.now ≡ take (part_end size text.now) text.now }
+    ensures rest { result.1.now ≡ drop (part_end size text.now) text.now }
     ensures short { EndsBehind size result.0.now }
     ensures shorter { length result.1.now < length text.now }
 {
@@ -67,6 +71,7 @@ fn cut_behind(text: &[u8], size: usize) -> (&[u8], &[u8])
 fn has_mark(text: &[u8]) -> bool
     ensures without { result ≡ false → without_mark text.now ≡ text.now }
     ensures with { result ≡ true → text.now ≡ byte_order_mark ++ without_mark text.now }
+    ensures exact { result ≡ starts_with nat_eq text.now byte_order_mark }
 {
     skip_mark(text).len() < text.len()
 }

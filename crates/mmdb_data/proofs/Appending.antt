@@ -1,14 +1,12 @@
 -- The steps of a packer, seen as what is appended.
 use Rattle.std.proofs.Common.{◌≡◌, ℕ, ◌-◌, ◌≤◌, Bool, true, false, cond, List, [], ◌∷◌, ◌++◌}
-use Rattle.std.proofs.Common.{length, take, drop, map as map_list, Option, Some, None, Result, Ok}
+use Rattle.std.proofs.Common.{length, take, drop, Option, Some, None, Result, Ok}
 use Rattle.std.proofs.Common.{Err, refl, sym, ap, ◌∙◌, subst, All}
 use Rattle.std.specs.Prelude.{OnOk, OnErr, is_some, nat_eq}
 use Rattle.std.specs.Cmp.Lexicographic.{pointwise}
-use Rattle.std.specs.Global.{Vec}
 use Rattle.std.specs.Int.{bytes_high_first}
 use Rattle.std.specs.Map.{lookup}
-use Rattle.std.proofs.lemmas.List.{take_at, take-map}
-use Rattle.indexmap.specs.IndexMap.{insert_entry}
+use Rattle.std.proofs.lemmas.List.{take_at}
 use Rattle.byteorder.proofs.Bytes.{between-bytes_high_first}
 use Rattle.mmdb_data.specs.ValueTree.{ValueTree, Members, Items, map, list, members_len, items_len}
 use Rattle.mmdb_data.specs.ValueTree.{CanBePacked, IsWithinLimits}
@@ -16,7 +14,6 @@ use Rattle.mmdb_data.specs.Reading.{reads}
 use Rattle.mmdb_data.specs.Spelling.{head, spelling}
 use Rattle.mmdb_data.specs.Packing.{Packed, nothing_packed, offset_of, with_bytes, noted}
 use Rattle.mmdb_data.specs.Packing.{content_in, members_in, items_in, in_full, all_in_full, IsKept}
-use Rattle.mmdb_data.specs.Section.{entry_view}
 use Rattle.mmdb_data.proofs.Packs.{kept_trans, noted_kept}
 use Rattle.mmdb_data.proofs.Keeps.{own_offset}
 use Rattle.mmdb_data.proofs.PackedReads.{put_is_read}
@@ -26,58 +23,20 @@ packed_is bytes full = record { bytes = bytes; full = full }
 
 -- ---- the table
 
--- a look-up by bytes, in the table and as it is seen
-pub lookup_viewed : (spelled : List ℕ) (entries : List (Vec ℕ × ℕ))
-    → lookup (λ (k : Vec ℕ). pointwise nat_eq spelled k.items) entries ≡ lookup
-    (pointwise nat_eq spelled) (map_list entry_view entries)
-lookup_viewed spelled [] = refl
-lookup_viewed spelled (e ∷ entries) =
-    ap (λ (r : Option ℕ). cond (pointwise nat_eq spelled e.0.items) (Some e.1) r)
-    (lookup_viewed spelled entries)
-
-abbrev same_bytes : Vec ℕ → Vec ℕ → Bool
-same_bytes a b = pointwise nat_eq a.items b.items
-
-insert_by : (k : Vec ℕ) (v : ℕ) (e : Vec ℕ × ℕ) (entries : List (Vec ℕ × ℕ)) (b : Bool)
-    → cond b (Some e.1) (lookup (pointwise nat_eq k.items) (map_list entry_view entries)) ≡ None
-    → (lookup (pointwise nat_eq k.items) (map_list entry_view entries) ≡ None
-    → map_list entry_view (insert_entry same_bytes entries k v) ≡ map_list entry_view entries
-    ++ (k.items, v) ∷ [])
-    → map_list entry_view (cond b ((e.0, v) ∷ entries) (e ∷ insert_entry same_bytes entries k v))
-    ≡ entry_view e ∷ (map_list entry_view entries ++ (k.items, v) ∷ [])
-insert_by k v e entries true none inner = absurd cc
-insert_by k v e entries false none inner =
-    ap (λ (es : List (List ℕ × ℕ)). entry_view e ∷ es) (inner none)
-
-insert_viewed : (k : Vec ℕ) (v : ℕ) (entries : List (Vec ℕ × ℕ))
-    → lookup (pointwise nat_eq k.items) (map_list entry_view entries) ≡ None
-    → map_list entry_view (insert_entry same_bytes entries k v) ≡ map_list entry_view entries
-    ++ (k.items, v) ∷ []
-insert_viewed k v [] none = refl
-insert_viewed k v (e ∷ entries) none =
-    insert_by k v e entries (pointwise nat_eq k.items e.0.items) none
-    (λ h. insert_viewed k v entries h)
-
-pub noted_is : (bytes : List ℕ) (entries later : List (Vec ℕ × ℕ)) (spelled : Vec ℕ) (at : ℕ)
-    → lookup (pointwise nat_eq spelled.items) (map_list entry_view entries) ≡ None
-    → later ≡ insert_entry same_bytes entries spelled at
-    → packed_is bytes (map_list entry_view later) ≡ noted spelled.items at
-    (packed_is bytes (map_list entry_view entries))
-noted_is bytes entries later spelled at none is =
-    ap (λ (es : List (Vec ℕ × ℕ)). packed_is bytes (map_list entry_view es)) is
-    ∙ ap (packed_is bytes) (insert_viewed spelled at entries none) ∙ sym (rw none refl)
+pub noted_is : (bytes : List ℕ) (full later : List (List ℕ × ℕ)) (spelled : List ℕ) (at : ℕ)
+    → lookup (pointwise nat_eq spelled) full ≡ None → later ≡ full ++ (spelled, at) ∷ []
+    → packed_is bytes later ≡ noted spelled at (packed_is bytes full)
+noted_is bytes full later spelled at none is = ap (packed_is bytes) is ∙ sym (rw none refl)
 
 -- what was put is taken off again
-pub cut_back : (old new : Packed) (more : List (Vec ℕ × ℕ)) (n m : ℕ) → IsKept old new
-    → new.full ≡ map_list entry_view more → n ≡ length old.bytes → m ≡ length old.full
-    → packed_is (take n new.bytes) (map_list entry_view (take m more)) ≡ old
-cut_back old new more n m kept full n_is m_is =
+pub cut_back : (old new : Packed) (n m : ℕ) → IsKept old new → n ≡ length old.bytes
+    → m ≡ length old.full → packed_is (take n new.bytes) (take m new.full) ≡ old
+cut_back old new n m kept n_is m_is =
     let bytes : take n new.bytes ≡ old.bytes =
     ap (take n) kept.bytes.1 ∙ take_at old.bytes kept.bytes.0 n (sym n_is) in
-    let entries : map_list entry_view (take m more) ≡ old.full =
-    sym (take-map entry_view m more) ∙ ap (take m) (sym full ∙ kept.full.1)
-    ∙ take_at old.full kept.full.0 m (sym m_is) in
-    rw (bytes, entries) refl
+    let full : take m new.full ≡ old.full =
+    ap (take m) kept.full.1 ∙ take_at old.full kept.full.0 m (sym m_is) in
+    rw (bytes, full) refl
 
 -- ---- values
 

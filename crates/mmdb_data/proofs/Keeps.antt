@@ -22,7 +22,7 @@ abbrev pub KeepsFrom : ℕ → (Packed → Packed) → Type 0
 KeepsFrom n append = (other : List ℕ) (section : Packed) → n ≤ length other
     → offset_of other (append section) ≡ offset_of other section
 
-lookup-push : (test : List ℕ → Bool) (entries : List (List ℕ × ℕ)) (entry : List ℕ × ℕ)
+pub lookup-push : (test : List ℕ → Bool) (entries : List (List ℕ × ℕ)) (entry : List ℕ × ℕ)
     → test entry.0 ≡ false → lookup test (entries ++ entry ∷ []) ≡ lookup test entries
 lookup-push test [] entry h = rw h refl
 lookup-push test (e ∷ entries) entry h =
@@ -126,7 +126,7 @@ own_offset value section = content_keeps value (length (spelling value)) (omega 
 
 -- ---- the least offset
 
-lookup-stays : (test : List ℕ → Bool) (entries more : List (List ℕ × ℕ)) (at : ℕ)
+pub lookup-stays : (test : List ℕ → Bool) (entries more : List (List ℕ × ℕ)) (at : ℕ)
     → lookup test entries ≡ Some at → lookup test (entries ++ more) ≡ Some at
 lookup-stays test [] more at h = absurd cc
 lookup-stays test (e ∷ entries) more at h =
@@ -146,7 +146,7 @@ offsets_stay spelled value section at h =
     ap (lookup (pointwise nat_eq spelled)) begins.1
     ∙ lookup-stays (pointwise nat_eq spelled) section.full begins.0 at h
 
-lookup-new : (test : List ℕ → Bool) (entries : List (List ℕ × ℕ)) (spelled : List ℕ) (at : ℕ)
+pub lookup-new : (test : List ℕ → Bool) (entries : List (List ℕ × ℕ)) (spelled : List ℕ) (at : ℕ)
     → lookup test entries ≡ None → test spelled ≡ true
     → lookup test (entries ++ (spelled, at) ∷ []) ≡ Some at
 lookup-new test [] spelled at none h = rw h refl

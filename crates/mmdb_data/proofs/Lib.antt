@@ -13,6 +13,7 @@ pub mod Pointed
 pub mod Keys
 pub mod Packs
 pub mod Keeps
+pub mod Table
 pub mod PackedReads
 pub mod Appending
 mod PackedVectors

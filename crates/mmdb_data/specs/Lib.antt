@@ -4,5 +4,6 @@ pub mod Spelling
 pub mod Reading
 pub mod View
 pub mod Packing
+pub mod FullValues
 pub mod Section
 pub mod Laws

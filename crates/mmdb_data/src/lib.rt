@@ -4,6 +4,7 @@
 mod budget;
 mod decoding;
 mod fault;
+mod full_values;
 mod kind;
 mod laws;
 mod leaves;
@@ -18,7 +19,9 @@ mod writing;
 
 pub use decoding::decode;
 pub use fault::{DataCause, DataFault};
-pub use laws::{packed_at_the_least_offset, packed_reads_back, reads_back};
+pub use laws::{
+    keys_are_texts, packed_at_the_least_offset, packed_reads_back, pointers_read_back, reads_back,
+};
 pub use packer::Packer;
 pub use sizes::fits;
 pub use value::Value;

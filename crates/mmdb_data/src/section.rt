@@ -11,20 +11,20 @@ ghost use Rattle.mmdb_data.specs.Packing.{pointer, nothing_packed, offset_of, wi
 ghost use Rattle.mmdb_data.specs.Packing.{full_by, shorter_pointer, part_by, key_part, IsKept};
 ghost use Rattle.mmdb_data.specs.Section.{packed_of};
 
+use crate::full_values::FullValues;
 use crate::kind::Kind;
 use crate::value::Value;
 use crate::writing::{put_head, put_sized, put_value};
 use byteorder::{BigEndian, ByteOrder};
 use geo_addr::Memory;
-use indexmap::IndexMap;
 use std::alloc::Global;
 
 /// A data section while it grows.
 #[derive(Debug, Drop)]
 pub(crate) struct Section {
     pub(crate) bytes: Vec<u8>,
-    /// Where each value stands in full, by its spelling.
-    pub(crate) full: IndexMap<Vec<u8>, u64>,
+    /// Where each value stands in full, by its spelling, in the order in which they ended.
+    pub(crate) full: FullValues,
     /// What is looked up or appended next. It is reused, so that looking up takes no memory.
     pub(crate) piece: Vec<u8>,
 }
@@ -35,7 +35,7 @@ impl Section {
     {
         Section {
             bytes: Vec::new(alloc),
-            full: IndexMap::new(alloc),
+            full: FullValues::new(alloc),
             piece: Vec::new(alloc),
         }
     }
@@ -63,7 +63,7 @@ impl Section {
     pub(crate) fn found(&self) -> Option<u64>
         ensures { result ≡ offset_of self.now.piece.items (packed_of self.now) }
     {
-        self.full.get(self.piece.as_slice()).copied()
+        self.full.get(&self.piece)
     }
 
     pub(crate) fn append(&mut self) -> Result<(), Memory>
@@ -103,7 +103,7 @@ impl Section {
             (packed_of self.new ≡ noted spelled.items at (packed_of self.old)) }
         ensures refused { OnErr result (packed_of self.new ≡ packed_of self.old) }
     {
-        self.full.insert(spelled, at)?;
+        self.full.push(spelled, at)?;
         Ok(())
     }
 

@@ -1,3 +1,4 @@
+//! The values of a data section.
 use geo_addr::{Bytes, Text};
 
 /// A value of the data section (MaxMind DB 2.0, "Output Data Section").

@@ -1,3 +1,4 @@
+//! Why no file is written.
 use geo_addr::Memory;
 use thiserror::Error;
 

@@ -1,3 +1,4 @@
+//! Laws of the whole file: its last marker is the writer's, and its walk gives the tree's answers.
 ghost use Rattle.std.specs.Prelude.{ℕ};
 ghost use Rattle.mmdb_file.specs.Laws.{LastMarkerIsTheWriters, NumbersStandForPlaces};
 ghost use Rattle.mmdb_file.specs.Laws.{WrittenFileIsWalked, WrittenSectionHolds};

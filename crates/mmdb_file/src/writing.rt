@@ -197,7 +197,8 @@ fn bits_for(nodes: usize, section_len: usize) -> Option<Bits>
     record_bits(nodes as u64, section_len as u64)
 }
 
-#[tactic(auto, unfolding(crate::specs::FileImage::file_of, crate::specs::Marker::marker, crate::specs::Metadata::metadata))]
+#[tactic(auto, unfolding(crate::specs::FileImage::file_of, crate::specs::Marker::marker, // parts
+crate::specs::Metadata::metadata))]
 fn file_bytes(
     alloc: Global,
     bits: Bits,

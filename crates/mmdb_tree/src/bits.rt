@@ -1,3 +1,4 @@
+//! The sizes of a record.
 ghost use Rattle.std.specs.Prelude.{◌≡◌, ◌+◌, ◌^◌, ◌<◌, ◌≤◌};
 ghost use Rattle.mmdb_tree.specs.Nodes.{record_size, width, smallest};
 

@@ -1,3 +1,4 @@
+//! Laws over the definitions.
 ghost use Rattle.mmdb_tree.specs.Laws.{NodeReadsBack, ValueReadsBack};
 
 /// The law that both records of a node that was written are read back. Calling it does nothing.

@@ -1,7 +1,9 @@
+//! Writing and reading a node of the search tree.
 ghost use Rattle.std.specs.Prelude.{◌≡◌, ◌+◌, ◌*◌, ◌<◌, ◌≤◌, ◌++◌, length, take, drop};
 ghost use Rattle.mmdb_tree.specs.Nodes.{limit, node_bytes, node_record, width};
 
 use crate::bits::Bits;
+use byteorder::{BigEndian, ByteOrder};
 
 /// Writes node `n` with its two records; every other byte of the tree stays.
 pub fn put_node(tree: &mut [u8], bits: Bits, n: u32, left: u32, right: u32)
@@ -13,12 +15,22 @@ pub fn put_node(tree: &mut [u8], bits: Bits, n: u32, left: u32, right: u32)
 {
     let start = n as usize * bits.width();
     let node = &mut tree[start..start + bits.width()];
-    let [a, b, c, d] = left.to_be_bytes();
-    let [e, f, g, h] = right.to_be_bytes();
     match bits {
-        Bits::B24 => node.copy_from_slice(&[b, c, d, f, g, h]),
-        Bits::B28 => node.copy_from_slice(&[b, c, d, a * 16 + e, f, g, h]),
-        Bits::B32 => node.copy_from_slice(&[a, b, c, d, e, f, g, h]),
+        Bits::B24 => {
+            BigEndian::write_u24(node, left);
+            BigEndian::write_u24(&mut node[3..], right);
+        }
+        Bits::B28 => {
+            let mut words = [0; 8];
+            BigEndian::write_u32(&mut words, left);
+            BigEndian::write_u32(&mut words[4..], right);
+            let [a, b, c, d, e, f, g, h] = words;
+            node.copy_from_slice(&[b, c, d, a * 16 + e, f, g, h]);
+        }
+        Bits::B32 => {
+            BigEndian::write_u32(node, left);
+            BigEndian::write_u32(&mut node[4..], right);
+        }
     }
 }
 
@@ -31,11 +43,11 @@ pub fn get_record(tree: &[u8], bits: Bits, n: u32, right: bool) -> u32
     let start = n as usize * bits.width();
     let node = &tree[start..start + bits.width()];
     match (bits, right) {
-        (Bits::B24, false) => u32::from_be_bytes([0, node[0], node[1], node[2]]),
-        (Bits::B24, true) => u32::from_be_bytes([0, node[3], node[4], node[5]]),
-        (Bits::B28, false) => u32::from_be_bytes([node[3] / 16, node[0], node[1], node[2]]),
-        (Bits::B28, true) => u32::from_be_bytes([node[3] % 16, node[4], node[5], node[6]]),
-        (Bits::B32, false) => u32::from_be_bytes([node[0], node[1], node[2], node[3]]),
-        (Bits::B32, true) => u32::from_be_bytes([node[4], node[5], node[6], node[7]]),
+        (Bits::B24, false) => BigEndian::read_u24(node),
+        (Bits::B24, true) => BigEndian::read_u24(&node[3..]),
+        (Bits::B28, false) => BigEndian::read_u32(&[node[3] / 16, node[0], node[1], node[2]]),
+        (Bits::B28, true) => BigEndian::read_u32(&[node[3] % 16, node[4], node[5], node[6]]),
+        (Bits::B32, false) => BigEndian::read_u32(node),
+        (Bits::B32, true) => BigEndian::read_u32(&node[4..]),
     }
 }

@@ -10,8 +10,8 @@ use Rattle.geo_terms.specs.DelegationForm.{IsCountryAlone}
 use Rattle.geo_terms.specs.PlaceForm.{PlaceParts, place_of_country, same_text}
 use Rattle.geo_terms.specs.declared.note.Rule.{Rule}
 use Rattle.geo_terms.specs.declared.note.Rule.TheVariants.{S01, S02, S03, S04, S05, S06, S07}
-use Rattle.nro_stats.specs.declared.verdict.Verdict.{Verdict}
-use Rattle.nro_stats.specs.declared.verdict.Verdict.TheVariants.{Silent, Broken, Delegated}
+use Rattle.nro_stats.specs.declared.verdict.LineOutcome.{LineOutcome}
+use Rattle.nro_stats.specs.declared.verdict.LineOutcome.TheVariants.{Silent, Broken, Delegated}
 use Rattle.nro_stats.specs.Fields.{fields, is_skipped, is_version_line, is_summary_line}
 
 -- the types of resources
@@ -82,40 +82,40 @@ range_in kind start value =
     if same_text kind (codes "ipv4") then v4_range start value else v6_range start value
 
 -- a delegation of a range to what a country names; it is out of form where that is none
-abbrev pub placed_at : Ends → Option PlaceParts → Verdict
+abbrev pub placed_at : Ends → Option PlaceParts → LineOutcome
 placed_at range None = Broken S06
 placed_at range (Some place) = Delegated range place
 
-abbrev pub placed : Ends → List ℕ → Verdict
+abbrev pub placed : Ends → List ℕ → LineOutcome
 placed range country = placed_at range (place_of_country country)
 
-abbrev pub placed_in : Result Ends Rule → List ℕ → Verdict
+abbrev pub placed_in : Result Ends Rule → List ℕ → LineOutcome
 placed_in (Err rule) country = Broken rule
 placed_in (Ok range) country = placed range country
 
 -- what a record says: the first rule that holds of it, else nothing, else a delegation
-unfoldable pub judged : (country kind start value status : List ℕ) → Verdict
+unfoldable pub judged : (country kind start value status : List ℕ) → LineOutcome
 judged country kind start value status =
     if not (is_kind kind) then Broken S02
     else (if not (is_status status) then Broken S03
     else (if is_silent kind status then Silent
     else placed_in (range_in kind start value) country))
 
-abbrev pub record_verdict : List (List ℕ) → Verdict
+abbrev pub record_verdict : List (List ℕ) → LineOutcome
 record_verdict (registry ∷ country ∷ kind ∷ start ∷ value ∷ date ∷ status ∷ more) =
     judged country kind start value status
 record_verdict _ = Broken S01
 
 -- what the fields of a line say: version and summary lines are passed over
-abbrev pub fields_verdict : List (List ℕ) → Verdict
+abbrev pub fields_verdict : List (List ℕ) → LineOutcome
 fields_verdict fs = if is_version_line fs || is_summary_line fs then Silent else record_verdict fs
 
 -- what a line says
-unfoldable pub verdict : List ℕ → Verdict
+unfoldable pub verdict : List ℕ → LineOutcome
 verdict line = if is_skipped line then Silent else fields_verdict (fields line)
 
 -- the place of a delegation has a country and nothing else
-abbrev pub PlacesCountryAlone : Verdict → Type 0
+abbrev pub PlacesCountryAlone : LineOutcome → Type 0
 PlacesCountryAlone (Delegated range place) = IsCountryAlone place
 PlacesCountryAlone (Broken rule) = Unit {0}
 PlacesCountryAlone Silent = Unit {0}

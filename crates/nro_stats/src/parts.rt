@@ -4,7 +4,7 @@ ghost use Rattle.std.specs.List.{flat_map};
 ghost use Rattle.nro_stats.specs.File.{longest, most, rows, stats};
 ghost use Rattle.nro_stats.specs.Parts.{found_notes, found_rows};
 
-use crate::read::{Found, LONGEST_STATS, MOST, read_lines, read_stats};
+use crate::read::{Gathered, LONGEST_STATS, MOST, read_lines, read_stats};
 use fan_work::{Forks, Work, map_pieces};
 use geo_addr::{List, Memory, Text};
 use geo_outside::Gate;
@@ -20,16 +20,17 @@ const LEAST_PART: usize = 262_144;
 /// Work that reads the lines of a part of the file in a slot, which has `size` bytes.
 #[derive(Drop)]
 struct PartReading<'a> {
+    alloc: Global,
     slot: &'a str,
     size: usize,
 }
 
-impl<'a, 'b> Work<LinePart<'b>, Found> for PartReading<'a> {
+impl<'a, 'b> Work<LinePart<'b>, Gathered> for PartReading<'a> {
     ghost use Rattle.nro_stats.specs.Parts.{IsPartRead};
 
     ghost related = { λ work part found. IsPartRead work.slot.now part found };
 
-    fn done(&self, alloc: Global, item: &LinePart<'b>) -> Result<Found, Memory> {
+    fn done(&self, item: &LinePart<'b>) -> Result<Gathered, Memory> {
         // The rows of the other parts come to stand behind those of the first.
         let room = if item.before == 0 {
             self.size
@@ -37,8 +38,8 @@ impl<'a, 'b> Work<LinePart<'b>, Found> for PartReading<'a> {
             item.text.len()
         };
         // A text of its own, since all copies of a text are counted in one cell.
-        let slot = Text::of(alloc, self.slot)?;
-        match read_lines(alloc, &slot, *item, room, usize::MAX) {
+        let slot = Text::of(self.alloc, self.slot)?;
+        match read_lines(self.alloc, &slot, *item, room, usize::MAX) {
             Ok(found) => Ok(found),
             Err(_) => Err(Memory),
         }
@@ -47,8 +48,8 @@ impl<'a, 'b> Work<LinePart<'b>, Found> for PartReading<'a> {
 
 /// Reads a statistics file as `read_stats` does, by parts of it side by side.
 ///
-/// A file of at most 262,144 bytes is read on the calling thread. Whether a longer one has too many
-/// delegations is asked once all are read.
+/// A file of at most `LEAST_PART` bytes is read on the calling thread. Whether a longer one has too
+/// many delegations is asked once all are read.
 pub fn read_stats_by_parts<R: Threads + Sync, G: Gate>(
     forks: &Forks<R, G>,
     slot: &str,
@@ -68,10 +69,18 @@ pub fn read_stats_by_parts<R: Threads + Sync, G: Gate>(
     let size = (bytes.len() / forks.pieces as usize).max(LEAST_PART);
     let parts = parts_of(forks.alloc, bytes, size)?;
     let work = PartReading {
+        alloc: forks.alloc,
         slot,
         size: bytes.len(),
     };
-    let found = map_pieces(forks, parts.as_slice(), &work)?;
+    let found = map_pieces(
+        forks.rt,
+        forks.alloc,
+        forks.gate,
+        forks.pieces,
+        parts.as_slice(),
+        &work,
+    )?;
     let all = joined(forks.alloc, found)?;
     if all.rows.len() > MOST {
         return Err(SourceFault::TooMany);
@@ -85,11 +94,11 @@ pub fn read_stats_by_parts<R: Threads + Sync, G: Gate>(
 }
 
 // What was found in all parts.
-fn joined(alloc: Global, parts: Vec<Found>) -> Result<Found, Memory>
+fn joined(alloc: Global, parts: Vec<Gathered>) -> Result<Gathered, Memory>
     ensures rows { IfOk result (λ all. all.rows.items ≡ flat_map found_rows parts.items) }
     ensures notes { IfOk result (λ all. all.notes.items ≡ flat_map found_notes parts.items) }
 {
-    let mut all = Found {
+    let mut all = Gathered {
         rows: Vec::new(alloc),
         notes: Vec::new(alloc),
     };
@@ -100,7 +109,7 @@ fn joined(alloc: Global, parts: Vec<Found>) -> Result<Found, Memory>
 }
 
 // What was found in two parts, in the room of the first where that has rows.
-fn joined_two(first: Found, second: Found) -> Result<Found, Memory>
+fn joined_two(first: Gathered, second: Gathered) -> Result<Gathered, Memory>
     ensures rows { IfOk result (λ all. all.rows.items ≡ first.rows.items ++ second.rows.items) }
     ensures notes { IfOk result (λ all. all.notes.items ≡ first.notes.items ++ second.notes.items) }
 {

@@ -4,9 +4,9 @@ ghost use Rattle.std.specs.Prelude.{option_to_list};
 ghost use Rattle.nro_stats.specs.File.{longest, most, note_of, row_of, rows, stats};
 ghost use Rattle.nro_stats.specs.Parts.{notes_in, rows_in};
 
-use crate::verdict::{Verdict, read_line};
+use crate::verdict::{LineOutcome, read_line};
 use geo_addr::{Line, List, Memory, Text};
-use geo_terms::{Delegation, Note, Origin, SourceFault, Stats, Texts};
+use geo_terms::{Delegation, LineNote, SourceFault, Stats, Texts};
 use line_parts::LinePart;
 use std::alloc::Global;
 
@@ -22,7 +22,7 @@ const SHORT_LINE: usize = 40;
 
 /// Reads a statistics file: the delegations and the notes of its lines.
 ///
-/// A file is too long over 268,435,456 bytes, and has too many delegations over 2,097,152.
+/// A file is too long over `LONGEST_STATS` bytes, and has too many delegations over `MOST`.
 pub fn read_stats(alloc: Global, slot: &str, bytes: &[u8]) -> Result<Stats, SourceFault>
     ensures read { IfOk result (λ found. found ≡ stats slot.now bytes.now) }
     ensures within { IfOk result (λ found. length found.rows ≤ most) }
@@ -43,16 +43,16 @@ pub fn read_stats(alloc: Global, slot: &str, bytes: &[u8]) -> Result<Stats, Sour
 
 /// What the lines of a part say.
 #[derive(Drop)]
-pub(crate) struct Found {
+pub(crate) struct Gathered {
     pub rows: Vec<Delegation>,
-    pub notes: Vec<Note>,
+    pub notes: Vec<LineNote>,
 }
 
 // What is found in the lines so far.
 #[derive(Drop)]
 struct Reading {
     rows: Vec<Delegation>,
-    notes: Vec<Note>,
+    notes: Vec<LineNote>,
     texts: Texts,
 }
 
@@ -63,9 +63,9 @@ pub(crate) fn read_lines(
     part: LinePart,
     size: usize,
     limit: usize,
-) -> Result<Found, SourceFault>
+) -> Result<Gathered, SourceFault>
     ensures rows { IfOk result (λ found. found.rows.items ≡ rows_in slot.now part.entry) }
-    ensures notes { IfOk result (λ found. found.notes.items ≡ notes_in slot.now part.entry) }
+    ensures notes { IfOk result (λ found. found.notes.items ≡ notes_in part.entry) }
     ensures within { IfOk result (λ found. length found.rows.items ≤ limit) }
     ensures too_many { result ≡ Err SourceFault.TooMany
         → limit < length (rows_in slot.now part.entry) }
@@ -80,7 +80,7 @@ pub(crate) fn read_lines(
     for line in part.lines() {
         take_line(slot, line, limit, &mut found)?;
     }
-    Ok(Found {
+    Ok(Gathered {
         rows: found.rows,
         notes: found.notes,
     })
@@ -92,7 +92,7 @@ fn take_line(slot: &Text, line: Line, limit: usize, found: &mut Reading) -> Resu
     ensures rows { OnOk result (found.new.rows.items ≡ found.old.rows.items
         ++ option_to_list (row_of slot.now (line.entry.number, line.entry.text.now))) }
     ensures notes { OnOk result (found.new.notes.items ≡ found.old.notes.items
-        ++ option_to_list (note_of slot.now (line.entry.number, line.entry.text.now))) }
+        ++ option_to_list (note_of (line.entry.number, line.entry.text.now))) }
     ensures within { OnOk result (length found.new.rows.items ≤ limit) }
     ensures too_many { result ≡ Err SourceFault.TooMany
         → IsSome (row_of slot.now (line.entry.number, line.entry.text.now))
@@ -100,17 +100,13 @@ fn take_line(slot: &Text, line: Line, limit: usize, found: &mut Reading) -> Resu
     ensures too_long { result ≢ Err SourceFault.TooLong }
 {
     match read_line(&mut found.texts, line.text)? {
-        Verdict::Silent => {}
-        Verdict::Broken(rule) => {
-            let origin = Origin::Stats(slot.copied()?);
-            let note = Note {
-                origin,
-                line: line.number,
-                rule,
-            };
+        LineOutcome::Silent => {}
+        LineOutcome::Broken(rule) => {
+            let number = line.number;
+            let note = LineNote { line: number, rule };
             found.notes.push(note).map_err(Memory::from)?;
         }
-        Verdict::Delegated(range, place) => {
+        LineOutcome::Delegated(range, place) => {
             if found.rows.len() == limit {
                 return Err(SourceFault::TooMany);
             }

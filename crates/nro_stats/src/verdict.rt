@@ -12,7 +12,7 @@ use geo_terms::{Place, Rule, Texts, country_place};
 
 /// What a line says: nothing, a rule that it breaks, or that a range is delegated to a country.
 #[derive(Debug, Drop)]
-pub(crate) enum Verdict {
+pub(crate) enum LineOutcome {
     Silent,
     Broken(Rule),
     Delegated(Range, Place),
@@ -20,40 +20,40 @@ pub(crate) enum Verdict {
 
 /// What a line says.
 #[tactic(auto, unfolding(crate::specs::Verdicts::verdict))]
-pub(crate) fn read_line(texts: &mut Texts, line: &[u8]) -> Result<Verdict, Memory>
+pub(crate) fn read_line(texts: &mut Texts, line: &[u8]) -> Result<LineOutcome, Memory>
     ensures verdict { IfOk result (λ found. found ≡ verdict line.now) }
     ensures alone { IfOk result PlacesCountryAlone }
 {
     if is_skipped(line) {
-        return Ok(Verdict::Silent);
+        return Ok(LineOutcome::Silent);
     }
     match Record::of(line) {
-        Some(found) if is_heading(&found) => Ok(Verdict::Silent),
+        Some(found) if is_heading(&found) => Ok(LineOutcome::Silent),
         Some(found) => judged(texts, &found),
-        None if is_heading_line(line) => Ok(Verdict::Silent),
-        None => Ok(Verdict::Broken(Rule::S01)),
+        None if is_heading_line(line) => Ok(LineOutcome::Silent),
+        None => Ok(LineOutcome::Broken(Rule::S01)),
     }
 }
 
 // What a record says: the first rule that holds of it, else nothing, else a delegation.
 #[tactic(auto, unfolding(crate::specs::Verdicts::judged))]
-fn judged(texts: &mut Texts, found: &Record) -> Result<Verdict, Memory>
+fn judged(texts: &mut Texts, found: &Record) -> Result<LineOutcome, Memory>
     ensures verdict { IfOk result (λ said. said ≡ judged found.now.country.now found.now.kind.now
         found.now.start.now found.now.value.now found.now.status.now) }
     ensures alone { IfOk result PlacesCountryAlone }
 {
     if !is_kind(found.kind) {
-        return Ok(Verdict::Broken(Rule::S02));
+        return Ok(LineOutcome::Broken(Rule::S02));
     }
     if !is_status(found.status) {
-        return Ok(Verdict::Broken(Rule::S03));
+        return Ok(LineOutcome::Broken(Rule::S03));
     }
     if is_silent(found.kind, found.status) {
-        return Ok(Verdict::Silent);
+        return Ok(LineOutcome::Silent);
     }
     match range_in(found.kind, found.start, found.value) {
         Ok(range) => placed(texts, range, found.country),
-        Err(rule) => Ok(Verdict::Broken(rule)),
+        Err(rule) => Ok(LineOutcome::Broken(rule)),
     }
 }
 
@@ -166,12 +166,12 @@ fn v6_start(start: &[u8]) -> Option<u128>
 
 // A delegation of a range to a country, where that is one.
 #[tactic(auto, using(crate::proofs::CountryLemmas::country_alone))]
-fn placed(texts: &mut Texts, range: Range, country: &[u8]) -> Result<Verdict, Memory>
+fn placed(texts: &mut Texts, range: Range, country: &[u8]) -> Result<LineOutcome, Memory>
     ensures verdict { IfOk result (λ said. said ≡ placed range country.now) }
     ensures alone { IfOk result PlacesCountryAlone }
 {
     match country_place(texts, country)? {
-        Some(place) => Ok(Verdict::Delegated(range, place)),
-        None => Ok(Verdict::Broken(Rule::S06)),
+        Some(place) => Ok(LineOutcome::Delegated(range, place)),
+        None => Ok(LineOutcome::Broken(Rule::S06)),
     }
 }

@@ -1,22 +1,19 @@
 -- The lists of a file keep what `Overrides` promises.
-use Rattle.std.proofs.Common.{◌≡◌, ℕ, List, [], ◌∷◌, map, Option, Some, None, refl, sym, ap, ◌∙◌}
+use Rattle.std.proofs.Common.{◌≡◌, ℕ, List, map, Option, Some, None, refl, sym, ◌∙◌}
 use Rattle.std.proofs.Common.{subst, arith}
 use Rattle.std.specs.List.{enumerate_from}
-use Rattle.std.proofs.lemmas.List.Elements.{All-map}
 use Rattle.geo_addr.specs.Lines.{lines_of, without_mark}
 use Rattle.geo_terms.specs.SourceForm.{IsOverrides}
-use Rattle.geo_terms.specs.declared.note.Note.{Note}
-use Rattle.geo_terms.specs.declared.note.Origin.TheVariants.{Overrides}
+use Rattle.geo_terms.specs.declared.note.LineNote.{LineNote}
 use Rattle.geo_terms.specs.declared.statement.Override.{Override}
 use Rattle.csv_lines.specs.Repeats.{Rises, fate, fault_by, is_kept_by, merged, repeat_faults}
 use Rattle.csv_lines.specs.declared.fate.Fate.{Fate}
-use Rattle.csv_lines.specs.declared.fault.Fault.{Fault}
-use Rattle.csv_lines.proofs.OrderLemmas.{acc_rises, all_members, either, fault_line}
+use Rattle.csv_lines.proofs.OrderLemmas.{acc_rises, either, fault_line}
 use Rattle.csv_lines.proofs.OrderLemmas.{filter_map_agree, increasing, kept_apart, merged_is}
 use Rattle.csv_lines.proofs.OrderLemmas.{rises_filter, rises_lower}
 use Rattle.override_rows.specs.File.{accepted, rows, row_by, row_line, row_of_line, row_range}
-use Rattle.override_rows.specs.File.{row_said, fault_alone, fault_among, fault_of, faults, note_of}
-use Rattle.override_rows.specs.File.{notes, overrides, refused, repeat_rules}
+use Rattle.override_rows.specs.File.{row_said, fault_alone, fault_among, fault_of, faults}
+use Rattle.override_rows.specs.File.{overrides, refused, repeat_rules}
 use Rattle.override_rows.specs.Verdicts.{verdict}
 use Rattle.override_rows.specs.declared.verdict.Verdict.{Verdict}
 use Rattle.override_rows.specs.declared.verdict.Verdict.TheVariants.{Silent, Broken, Accepted}
@@ -26,7 +23,7 @@ entry_number line Silent e h = absurd cc
 entry_number line (Broken rule) e h = absurd cc
 entry_number line (Accepted range said) e h = cc
 
-fault_number : (line : ℕ) (v : Verdict) (f : Fault) → fault_alone line v ≡ Some f → f.line ≡ line
+fault_number : (line : ℕ) (v : Verdict) (f : LineNote) → fault_alone line v ≡ Some f → f.line ≡ line
 fault_number line Silent f h = absurd cc
 fault_number line (Broken rule) f h = cc
 fault_number line (Accepted range said) f h = absurd cc
@@ -48,16 +45,16 @@ module _ (file : List ℕ) where
   abbrev fate_of : Override → Fate
   fate_of e = fate row_line row_range row_said all e
 
-  abbrev late : Override → Option Fault
+  abbrev late : Override → Option LineNote
   late e = fault_by repeat_rules (row_line e) (fate_of e)
 
   acc_line : (p : ℕ × List ℕ) (e : Override) → row_of_line p ≡ Some e → row_line e ≡ p.0
   acc_line p e h = entry_number p.0 (verdict p.1) e h
 
-  bad_line : (p : ℕ × List ℕ) (f : Fault) → fault_of p ≡ Some f → f.line ≡ p.0
+  bad_line : (p : ℕ × List ℕ) (f : LineNote) → fault_of p ≡ Some f → f.line ≡ p.0
   bad_line p f h = fault_number p.0 (verdict p.1) f h
 
-  late_line : (e : Override) (f : Fault) → late e ≡ Some f → f.line ≡ row_line e
+  late_line : (e : Override) (f : LineNote) → late e ≡ Some f → f.line ≡ row_line e
   late_line e f h = fault_line repeat_rules (row_line e) (fate_of e) f h
 
   among_is : (line : ℕ) (v : Verdict) → either row_of_line fault_of row_line acc_line bad_line late
@@ -80,7 +77,7 @@ module _ (file : List ℕ) where
       rises_lower 0 1 (map row_line all) (omega arith)
       (acc_rises row_of_line fault_of row_line acc_line bad_line 1 lines)
 
-  among_number : (line : ℕ) (v : Verdict) (f : Fault) → fault_among all line v ≡ Some f
+  among_number : (line : ℕ) (v : Verdict) (f : LineNote) → fault_among all line v ≡ Some f
       → f.line ≡ line
   among_number line Silent f h = absurd cc
   among_number line (Broken rule) f h = cc
@@ -88,7 +85,7 @@ module _ (file : List ℕ) where
       fault_line repeat_rules line
       (fate_of (record { line = line; range = range; said = said })) f h
 
-  among_line : (p : ℕ × List ℕ) (f : Fault) → fault_among all p.0 (verdict p.1) ≡ Some f
+  among_line : (p : ℕ × List ℕ) (f : LineNote) → fault_among all p.0 (verdict p.1) ≡ Some f
       → f.line ≡ p.0
   among_line p f h = among_number p.0 (verdict p.1) f h
 
@@ -97,29 +94,18 @@ module _ (file : List ℕ) where
       acc_rises (λ p. fault_among all p.0 (verdict p.1)) fault_of
       (λ f. f.line) among_line bad_line 1 lines
 
-  lines_of_notes : (fs : List Fault) → map (λ n. n.line) (map note_of fs) ≡ map (λ f. f.line) fs
-  lines_of_notes [] = refl
-  lines_of_notes (f ∷ fs) = ap (λ t. f.line ∷ t) (lines_of_notes fs)
-
   in_form : IsOverrides (overrides file)
   in_form = record {
     distinct = kept_apart row_line row_range row_said 0 all all_rise;
     ordered =
         increasing 0 (map row_line (rows file))
         (rises_filter row_line (λ x. is_kept_by (fate_of x)) 0 all all_rise);
-    notes = record {
-      origins =
-          All-map (λ n. n.origin ≡ Overrides) note_of (faults file)
-          (all_members (λ f. Overrides ≡ Overrides) (faults file) (λ f m. refl));
-      ordered =
-          rw (lines_of_notes (faults file))
-          (increasing 1 (map (λ f. f.line) (faults file)) faults_rise);
-    };
+    notes = increasing 1 (map (λ f. f.line) (faults file)) faults_rise;
   }
 
   -- the lists that were read are those of the file
-  pub overrides_in_form : (rs : List Override) (ns : List Note) → rs ≡ rows file → ns ≡ notes file
-      → IsOverrides (record { rows = rs; notes = ns })
+  pub overrides_in_form : (rs : List Override) (ns : List LineNote) → rs ≡ rows file
+      → ns ≡ faults file → IsOverrides (record { rows = rs; notes = ns })
   overrides_in_form rs ns f g =
       let same : record { rows = rs; notes = ns } ≡ overrides file =
       λ i. record { rows = f i; notes = g i } in

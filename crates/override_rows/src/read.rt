@@ -1,22 +1,22 @@
 //! A file of overrides.
-ghost use Rattle.std.specs.Prelude.{◌≡◌, ◌≢◌, ◌<◌, ◌≤◌, ◌↔◌, ◌++◌, ℕ, List, Some, length, map};
+ghost use Rattle.std.specs.Prelude.{◌≡◌, ◌≢◌, ◌<◌, ◌≤◌, ◌↔◌, ◌++◌, ℕ, List, Some, length};
 ghost use Rattle.std.specs.Prelude.{IfOk, IsSome, OnOk, option_to_list};
-ghost use Rattle.csv_lines.specs.Rests.{CanRead, Stands, handed};
+ghost use Rattle.csv_lines.specs.Rests.{CanRead, StandsIf, handed};
 ghost use Rattle.override_rows.specs.File.{AreClean, accepted, refused, row_of_line, fault_of};
-ghost use Rattle.override_rows.specs.File.{longest, most, note_of, overrides};
+ghost use Rattle.override_rows.specs.File.{longest, most, overrides};
 
 use crate::verdict::{Verdict, read_line};
 use csv::{ByteRecord, Reader};
-use csv_lines::{Fault, RepeatRules, all_handed, judge, reader_of};
+use csv_lines::{RepeatRules, all_handed, judge, reader_of};
 use geo_addr::{Line, Lines, List, Memory};
-use geo_terms::{Note, Origin, Override, Overrides, Rule, SourceFault, Texts};
+use geo_terms::{LineNote, Override, Overrides, Rule, SourceFault, Texts};
 use std::alloc::Global;
 
 /// The most bytes of a file of overrides.
 pub const LONGEST_OVERRIDES: usize = 67_108_864;
 
 /// The most lines that pass the line rules.
-const MOST: usize = 2_097_152;
+pub(crate) const MOST: usize = 2_097_152;
 
 /// Reads a file of overrides: the rows and the notes of its lines.
 ///
@@ -38,10 +38,9 @@ pub fn read_overrides(alloc: Global, bytes: &[u8]) -> Result<Overrides, SourceFa
         differs: Rule::O08,
     };
     let judged = judge(alloc, found.rows, found.faults, rules)?;
-    let notes = notes_of(alloc, judged.faults.as_slice())?;
     Ok(Overrides {
         rows: List::of(judged.rows),
-        notes: List::of(notes),
+        notes: List::of(judged.faults),
     })
 }
 
@@ -49,7 +48,7 @@ pub fn read_overrides(alloc: Global, bytes: &[u8]) -> Result<Overrides, SourceFa
 #[derive(Drop)]
 struct Found {
     rows: Vec<Override>,
-    faults: Vec<Fault>,
+    faults: Vec<LineNote>,
     texts: Texts,
     row: ByteRecord,
 }
@@ -77,7 +76,11 @@ fn read_lines(alloc: Global, bytes: &[u8]) -> Result<Found, SourceFault>
 }
 
 // Adds what one more line says.
-fn take_line(line: Line, reader: &mut Reader<&[u8]>, found: &mut Found) -> Result<(), SourceFault>
+fn take_line(
+    line: Line,
+    reader: &mut Option<Reader<&[u8]>>,
+    found: &mut Found,
+) -> Result<(), SourceFault>
     requires few { length found.old.rows.items ≤ most }
     requires reads { CanRead (λ s. Some s.now) reader.old line.text.now }
     ensures rows { OnOk result (found.new.rows.items ≡ found.old.rows.items
@@ -86,8 +89,8 @@ fn take_line(line: Line, reader: &mut Reader<&[u8]>, found: &mut Found) -> Resul
         ++ option_to_list (fault_of (line.entry.number, line.entry.text.now))) }
     ensures within { OnOk result (length found.new.rows.items ≤ most) }
     ensures stands { (left : List ℕ)
-        → Stands (λ s. Some s.now) reader.old (handed line.entry.text.now ++ left)
-        → OnOk result (Stands (λ s. Some s.now) reader.new left) }
+        → StandsIf (λ s. Some s.now) reader.old (handed line.entry.text.now ++ left)
+        → OnOk result (StandsIf (λ s. Some s.now) reader.new left) }
     ensures too_many { result ≡ Err SourceFault.TooMany
         → IsSome (row_of_line (line.entry.number, line.entry.text.now))
         × (length found.old.rows.items ≡ most) }
@@ -96,7 +99,7 @@ fn take_line(line: Line, reader: &mut Reader<&[u8]>, found: &mut Found) -> Resul
     match read_line(reader, line.text, &mut found.row, &mut found.texts)? {
         Verdict::Silent => {}
         Verdict::Broken(rule) => {
-            let fault = Fault {
+            let fault = LineNote {
                 line: line.number,
                 rule,
             };
@@ -115,20 +118,4 @@ fn take_line(line: Line, reader: &mut Reader<&[u8]>, found: &mut Found) -> Resul
         }
     }
     Ok(())
-}
-
-// The notes on the lines that have faults.
-fn notes_of(alloc: Global, faults: &[Fault]) -> Result<Vec<Note>, Memory>
-    ensures { IfOk result (λ notes. notes.items ≡ map note_of faults.now) }
-{
-    let mut notes = Vec::with_capacity(alloc, faults.len())?;
-    for fault in faults {
-        let note = Note {
-            origin: Origin::Overrides,
-            line: fault.line,
-            rule: fault.rule,
-        };
-        notes.push(note).map_err(Memory::from)?;
-    }
-    Ok(notes)
 }

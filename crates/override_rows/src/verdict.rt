@@ -1,7 +1,7 @@
 //! What a line says by itself.
 ghost use Rattle.std.specs.Prelude.{◌≡◌, ◌++◌, ℕ, List, Some, IfOk, OnOk};
 ghost use Rattle.csv_lines.specs.Clean.{AreTexts};
-ghost use Rattle.csv_lines.specs.Rests.{CanRead, Stands, column, handed};
+ghost use Rattle.csv_lines.specs.Rests.{CanRead, StandsIf, column, handed};
 ghost use Rattle.override_rows.specs.Verdicts.{acted, row_verdict, set_at, verdict};
 
 use csv::{ByteRecord, Reader};
@@ -20,15 +20,16 @@ pub(crate) enum Verdict {
 /// What the next line of the reader's file says.
 #[tactic(auto, unfolding(crate::specs::Verdicts::verdict))]
 pub(crate) fn read_line(
-    reader: &mut Reader<&[u8]>,
+    reader: &mut Option<Reader<&[u8]>>,
     line: &[u8],
     row: &mut ByteRecord,
     texts: &mut Texts,
 ) -> Result<Verdict, Memory>
     requires { CanRead (λ s. Some s.now) reader.old line.now }
     ensures verdict { IfOk result (λ found. found ≡ verdict line.now) }
-    ensures stands { (left : List ℕ) → Stands (λ s. Some s.now) reader.old (handed line.now ++ left)
-        → OnOk result (Stands (λ s. Some s.now) reader.new left) }
+    ensures stands { (left : List ℕ)
+        → StandsIf (λ s. Some s.now) reader.old (handed line.now ++ left)
+        → OnOk result (StandsIf (λ s. Some s.now) reader.new left) }
 {
     if let Some(bare) = bare_row(line) {
         return row_verdict(texts, &bare);

@@ -1,3 +1,4 @@
+//! Where the last look-up found what it looked for, for each kind of source.
 use authority::Near as NearEntry;
 
 /// Where the last look-up found what it looked for: there it is looked for first.

@@ -1,3 +1,4 @@
+//! The sources in force, set and dropped, and what is asked of them.
 ghost use Rattle.std.specs.Prelude.{◌≡◌};
 ghost use Rattle.std.specs.Option.{option_copied};
 ghost use Rattle.geo_terms.specs.Precedence.{said_place};

@@ -1,3 +1,4 @@
+//! The reasons of a record.
 use geo_terms::{Delegation, Entry, Override, Place, Reference};
 
 /// Why an address has its record: each part by its own rule, also where an override decides.

@@ -1,3 +1,4 @@
+//! A line of the shortest list, as a block and its leaf.
 use geo_addr::Block;
 
 /// A block and the leaf that the addresses have for which no longer line speaks.

@@ -21,13 +21,13 @@ use Rattle.geo_addr.specs.Ranges.{Ends, IsBlock, Prefix, range_of_block}
 use Rattle.geo_addr.proofs.LineLemmas.{line_before_feed}
 use Rattle.geo_terms.specs.PlaceForm.{PlaceParts}
 use Rattle.geo_terms.specs.Report.{same_ends}
+use Rattle.geo_terms.specs.declared.note.LineNote.{LineNote}
 use Rattle.geo_terms.specs.declared.statement.Entry.{Entry}
 use Rattle.csv_lines.specs.Clean.{is_clean}
 use Rattle.csv_lines.specs.Repeats.{kept, merged, repeat_faults}
-use Rattle.csv_lines.specs.declared.fault.Fault.{Fault}
 use Rattle.csv_lines.proofs.FateLemmas.{Apart, apart_kept, apart_silent}
 use Rattle.feed_csv.specs.File.{accepted, entry_by, entry_line, entry_of as file_entry, entry_range}
-use Rattle.feed_csv.specs.File.{entry_said, fault_alone, fault_of, faults, feed, note_of, refused}
+use Rattle.feed_csv.specs.File.{entry_said, fault_alone, fault_of, faults, feed, refused}
 use Rattle.feed_csv.specs.File.{repeat_rules}
 use Rattle.feed_csv.specs.Verdicts.{verdict}
 use Rattle.feed_csv.proofs.FileLemmas.{faults_are}
@@ -250,9 +250,8 @@ feeds_read_back url place_of ls form apart clean =
     let late : repeat_faults entry_line entry_range entry_said repeat_rules (accepted file) ≡ [] =
     ap (λ (es : List Entry). repeat_faults entry_line entry_range entry_said repeat_rules es) all
     ∙ apart_silent entry_line entry_range entry_said repeat_rules said differ in
-    let no_faults : faults file ≡ [] =
-    sym (faults_are file) ∙ ap (λ (fs : List Fault). merged fs (refused file)) late ∙ none in
-    let no_notes = ap (map (note_of url)) no_faults in (
+    let no_notes : faults file ≡ [] =
+    sym (faults_are file) ∙ ap (λ (fs : List LineNote). merged fs (refused file)) late ∙ none in (
       λ i. record { url = url; entries = kept_are i; notes = no_notes i },
       ap length all ∙ length-map (enumerate_from 1 ls) (entry_of place_of) ∙ length-enumerate 1 ls,
     )

@@ -11,6 +11,7 @@ use Rattle.std.specs.Char.{is_ascii_alphabetic, to_ascii_lowercase}
 use Rattle.std.specs.List.{list_all}
 use Rattle.std.specs.Str.{IsAscii, IsUtf8}
 use Rattle.geo_terms.specs.PlaceForm.{same_text}
+use Rattle.rpsl_reader.specs.declared.limits.TheConstants.{LONGEST_NAME}
 use Rattle.rpsl_reader.specs.Attributes.{is_name, is_name_byte}
 use Rattle.rpsl_reader.specs.Selections.{HasFirst, is_among}
 
@@ -41,12 +42,14 @@ bytes_are_ascii (b ∷ bs) h =
 pub name_is_text : (name : List ℕ) → IsTrue (is_name name) → IsUtf8 name
 name_is_text [] h = IsUtf8-from_ascii [] IsAscii-nil
 name_is_text (b ∷ bs) h =
-    let front : (is_ascii_alphabetic b && nat_le (length bs) 63) ≡ true =
-    and_left (is_ascii_alphabetic b && nat_le (length bs) 63) (list_all is_name_byte bs) h in
+    let front : (is_ascii_alphabetic b && nat_le (length bs) LONGEST_NAME) ≡ true =
+    and_left (is_ascii_alphabetic b && nat_le (length bs) LONGEST_NAME)
+    (list_all is_name_byte bs) h in
     IsUtf8-from_ascii (b ∷ bs) (IsAscii-cons b bs
-    (letter_is_ascii b (and_left (is_ascii_alphabetic b) (nat_le (length bs) 63) front))
+    (letter_is_ascii b (and_left (is_ascii_alphabetic b) (nat_le (length bs) LONGEST_NAME) front))
     (bytes_are_ascii bs
-    (and_right (is_ascii_alphabetic b && nat_le (length bs) 63) (list_all is_name_byte bs) h)))
+    (and_right (is_ascii_alphabetic b && nat_le (length bs) LONGEST_NAME)
+    (list_all is_name_byte bs) h)))
 
 pub same_is : (xs ys : List ℕ) → same_text xs ys ≡ true → xs ≡ ys
 same_is [] [] e = refl

@@ -7,8 +7,8 @@ use Rattle.std.proofs.lemmas.List.Elements.{All-head, All-tail}
 use Rattle.rpsl_reader.specs.declared.item.Attribute.{Attribute}
 use Rattle.rpsl_reader.specs.declared.item.Item.{Item}
 use Rattle.rpsl_reader.specs.declared.item.Item.TheVariants.{Whole}
-use Rattle.rpsl_reader.specs.declared.seen.Row.{Row}
-use Rattle.rpsl_reader.specs.Seen.{HasRows, item_of, items_in, row_item}
+use Rattle.rpsl_reader.specs.declared.seen.SightRow.{SightRow}
+use Rattle.rpsl_reader.specs.Sights.{HasRows, item_of, items_in, row_item}
 
 -- attributes behind the list change no row
 part_stays : (from count : ℕ) (ps qs : List Attribute) → from + count ≤ length ps
@@ -17,13 +17,13 @@ part_stays from count ps qs inside =
     ap (take count) (drop-append-le from ps qs (omega arith))
     ∙ take-append-le count (drop from ps) qs (omega (arith, length-drop from ps))
 
-row_stays : (row : Row) (ps qs : List Attribute) → row.from + row.count ≤ length ps
+row_stays : (row : SightRow) (ps qs : List Attribute) → row.from + row.count ≤ length ps
     → row_item (ps ++ qs) row ≡ row_item ps row
 row_stays row ps qs inside =
     ap (λ t. item_of row.line t row.rule) (part_stays row.from row.count ps qs inside)
 
 -- one more row, of the attributes that were added
-pub one_more : (rows : List Row) (ps qs : List Attribute) (line : ℕ) → HasRows rows ps
+pub one_more : (rows : List SightRow) (ps qs : List Attribute) (line : ℕ) → HasRows rows ps
     → items_in (rows ++ record {
       line = line;
       from = length ps;
@@ -35,9 +35,9 @@ one_more [] ps qs line has =
     (ap (take (length qs)) (drop-append_seam ps qs) ∙ take-length qs)
 one_more (r ∷ rs) ps qs line has =
     let first : row_item (ps ++ qs) r ≡ row_item ps r =
-    row_stays r ps qs (All-head (λ (row : Row). row.from + row.count ≤ length ps) r rs has) in
+    row_stays r ps qs (All-head (λ (row : SightRow). row.from + row.count ≤ length ps) r rs has) in
     let rest = one_more rs ps qs line
-    (All-tail (λ (row : Row). row.from + row.count ≤ length ps) r rs has) in
+    (All-tail (λ (row : SightRow). row.from + row.count ≤ length ps) r rs has) in
     λ i. first i ∷ rest i
 
 -- one more copy

@@ -13,6 +13,7 @@ use Rattle.std.specs.Char.{is_ascii_alphabetic, to_ascii_lowercase}
 use Rattle.std.specs.List.{list_all, list_any, position, position_or_len}
 use Rattle.geo_addr.specs.Prefixes.{cut_first}
 use Rattle.rpsl_reader.proofs.Names.{and_left, and_right}
+use Rattle.rpsl_reader.specs.declared.limits.TheConstants.{LONGEST_NAME}
 use Rattle.rpsl_reader.specs.Attributes.{HasSides, Numbered, behind, continued, continues}
 use Rattle.rpsl_reader.specs.Attributes.{is_attribute, is_name, is_name_byte, is_named, joined}
 use Rattle.rpsl_reader.specs.Attributes.{may_begin, name_of, said_of, value_of}
@@ -91,7 +92,7 @@ cut_there (b ∷ bs) value all =
 names_are : (name : List ℕ) → list_all is_name_byte name ≡ true → is_name name ≡ may_begin name
 names_are [] all = refl
 names_are (b ∷ bs) all =
-    and_true (is_ascii_alphabetic b && nat_le (length bs) 63) (list_all is_name_byte bs)
+    and_true (is_ascii_alphabetic b && nat_le (length bs) LONGEST_NAME) (list_all is_name_byte bs)
     (and_right (is_name_byte b) (list_all is_name_byte bs) all)
 
 and_false : (b : Bool) → (b && false) ≡ false
@@ -126,11 +127,13 @@ none_named (b ∷ bs) rest all stops bare =
 name_all : (name : List ℕ) → is_name name ≡ true → list_all is_name_byte name ≡ true
 name_all [] e = absurd (let f : false ≡ true = e in cc)
 name_all (b ∷ bs) e =
-    let front : (is_ascii_alphabetic b && nat_le (length bs) 63) ≡ true =
-    and_left (is_ascii_alphabetic b && nat_le (length bs) 63) (list_all is_name_byte bs) e in
+    let front : (is_ascii_alphabetic b && nat_le (length bs) LONGEST_NAME) ≡ true =
+    and_left (is_ascii_alphabetic b && nat_le (length bs) LONGEST_NAME)
+    (list_all is_name_byte bs) e in
     ap (λ t. t && list_all is_name_byte bs)
-    (letter_is b (and_left (is_ascii_alphabetic b) (nat_le (length bs) 63) front))
-    ∙ and_right (is_ascii_alphabetic b && nat_le (length bs) 63) (list_all is_name_byte bs) e
+    (letter_is b (and_left (is_ascii_alphabetic b) (nat_le (length bs) LONGEST_NAME) front))
+    ∙ and_right (is_ascii_alphabetic b && nat_le (length bs) LONGEST_NAME)
+    (list_all is_name_byte bs) e
 
 named_all : (c : List ℕ × Option (List ℕ)) → is_named c ≡ true → all_named c ≡ true
 named_all (name, None) e = e

@@ -26,17 +26,17 @@ from g [] = said_by g
 from g (l ∷ ls) = ended_by g l ++ from (group_after g l) ls
 
 -- the lines that pieces between line feeds are, behind so many others
-lined : ℕ → List (List ℕ) → List Numbered
+unfoldable pub lined : ℕ → List (List ℕ) → List Numbered
 lined n [] = []
 lined n (p ∷ ps) = line_of (n + 1) p ∷ lined (n + 1) ps
 
 -- a list put before the first of some
 module _ {X : Type 0} where
-  onto : List X → List (List X) → List (List X)
+  unfoldable pub onto : List X → List (List X) → List (List X)
   onto p [] = p ∷ []
   onto p (x ∷ xs) = (p ++ x) ∷ xs
 
-  onto-onto_first : (p : List X) (b : X) (xs : List (List X))
+  pub onto-onto_first : (p : List X) (b : X) (xs : List (List X))
       → onto p (onto_first b xs) ≡ onto (p ++ (b ∷ [])) xs
   unfolding onto
   onto-onto_first p b [] = refl
@@ -47,7 +47,7 @@ module _ {X : Type 0} where
   onto-none_first b [] = refl
   onto-none_first b (y ∷ ys) = refl
 
-  onto-none : (p : X → Bool) (xs : List X) → onto [] (slice_split p xs) ≡ slice_split p xs
+  pub onto-none : (p : X → Bool) (xs : List X) → onto [] (slice_split p xs) ≡ slice_split p xs
   unfolding onto
   onto-none p [] = refl
   onto-none p (x ∷ xs) =
@@ -125,7 +125,7 @@ unfolding from ended_by group_after items
 from_last g n [] = append-nil (said_by g)
 from_last g n (b ∷ bs) = refl
 
-later_line : (n : ℕ) (p : List ℕ) → 1 < n → line_of n p ≡ (n, strip_carriage_return p)
+pub later_line : (n : ℕ) (p : List ℕ) → 1 < n → line_of n p ≡ (n, strip_carriage_return p)
 unfolding line_of
 later_line n p h =
     ap (λ t. (n, strip_carriage_return (cond t (without_mark p) p)))
@@ -161,7 +161,7 @@ pub record Parts (text : List ℕ) (ps : List (List ℕ)) : Type 0 where
   pub rest : List ℕ
   pub begins : text ≡ first ++ rest
 
-parts_of : (text : List ℕ) → Parts text (pieces 10 text)
+pub parts_of : (text : List ℕ) → Parts text (pieces 10 text)
 parts_of [] = record { first = []; others = []; are = refl; rest = []; begins = refl }
 parts_of (b ∷ text) =
     let p : Parts text (pieces 10 text) = parts_of text in
@@ -197,7 +197,7 @@ no_mark (x ∷ y ∷ []) r e =
 no_mark (x ∷ y ∷ z ∷ p) r e = e
 
 -- the pieces of a text without its mark: the first loses the mark, and the others stay
-abbrev FirstLoses : List ℕ → List (List ℕ) → Type 0
+abbrev pub FirstLoses : List ℕ → List (List ℕ) → Type 0
 FirstLoses text [] = ⊥
 FirstLoses text (p ∷ ps) = pieces 10 (without_mark text) ≡ without_mark p ∷ ps
 
@@ -241,7 +241,7 @@ loses_by x y z text true e =
     (subst (λ (a : ℕ). FirstLoses (239 ∷ 187 ∷ a ∷ text) (pieces 10 (239 ∷ 187 ∷ a ∷ text))) is_z
     (loses_mark text)))
 
-loses : (text : List ℕ) → FirstLoses text (pieces 10 text)
+pub loses : (text : List ℕ) → FirstLoses text (pieces 10 text)
 loses [] = refl
 loses (x ∷ []) = loses_none (x ∷ []) (and_false (nat_eq 239 x))
 loses (x ∷ y ∷ []) =
@@ -264,10 +264,10 @@ abbrev head : List Numbered → ℕ
 head [] = 0
 head (l ∷ ls) = l.0
 
-gathered : List Numbered → Group
+unfoldable pub gathered : List Numbered → Group
 gathered ls = cond (ltb longest (size ls)) (over (head ls)) (within ls)
 
-said_gathered : (ls : List Numbered) → said_by (gathered ls) ≡ group_items ls
+pub said_gathered : (ls : List Numbered) → said_by (gathered ls) ≡ group_items ls
 unfolding gathered group_items
 said_gathered [] = refl
 said_gathered (l ∷ ls) =
@@ -282,7 +282,7 @@ size-push : (ls : List Numbered) (l : Numbered) → size (ls ++ (l ∷ [])) ≡ 
 size-push ls l =
     sum_by-append (λ k. length k.1) ls (l ∷ []) ∙ ap (λ k. size ls + k) (zero-add (length l.1))
 
-gathered-push : (ls : List Numbered) (l : Numbered)
+pub gathered-push : (ls : List Numbered) (l : Numbered)
     → with_line (gathered ls) l ≡ gathered (ls ++ (l ∷ []))
 unfolding gathered with_line
 gathered-push [] l = refl

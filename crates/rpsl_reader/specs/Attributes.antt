@@ -9,6 +9,7 @@ use Rattle.geo_addr.specs.Lines.{is_blank, trimmed}
 use Rattle.geo_addr.specs.Prefixes.{cut_first}
 use Rattle.geo_terms.specs.PlaceForm.{is_empty}
 use Rattle.rpsl_reader.specs.declared.item.Attribute.{Attribute}
+use Rattle.rpsl_reader.specs.declared.limits.TheConstants.{LONGEST_NAME}
 
 -- a line beside its number
 abbrev pub Numbered : Type 0
@@ -34,12 +35,13 @@ is_name_byte b = is_ascii_alphanumeric b || b == 45 || b == 95
 -- a name: an ASCII letter, then up to 63 letters, digits, `-` and `_`
 abbrev pub is_name : List ℕ → Bool
 is_name [] = false
-is_name (b ∷ bs) = is_ascii_alphabetic b && nat_le (length bs) 63 && list_all is_name_byte bs
+is_name (b ∷ bs) =
+    is_ascii_alphabetic b && nat_le (length bs) LONGEST_NAME && list_all is_name_byte bs
 
 -- whether bytes that may all stand in a name are one
 abbrev pub may_begin : List ℕ → Bool
 may_begin [] = false
-may_begin (b ∷ bs) = is_ascii_alphabetic b && nat_le (length bs) 63
+may_begin (b ∷ bs) = is_ascii_alphabetic b && nat_le (length bs) LONGEST_NAME
 
 -- whether what stands before the first colon of a line is a name, if there is a colon
 abbrev pub is_named : List ℕ × Option (List ℕ) → Bool

@@ -2,6 +2,7 @@
 use Rattle.std.specs.Prelude.{◌≡◌, ℕ, ◌+◌, ◌≤◌, List, [], ◌∷◌, ◌++◌, length}
 use Rattle.std.specs.List.{concat}
 use Rattle.rpsl_reader.specs.declared.item.Item.{Item}
+use Rattle.rpsl_reader.specs.Ended.{said_so_far}
 use Rattle.rpsl_reader.specs.Objects.{longest, objects, size}
 use Rattle.rpsl_reader.specs.Reading.{Group, State, after, given, last, most, over, start, within}
 use Rattle.rpsl_reader.specs.Selections.{Wanted, wanted}
@@ -41,3 +42,12 @@ given_in_pieces s (p ∷ ps) = given s p ++ given_in_pieces (after s p) ps
 -- it is what the whole text says, however it is cut
 abbrev pub AnyCutting : Type 0
 AnyCutting = (ps : List (List ℕ)) → given_in_pieces start ps ≡ objects (concat ps)
+
+-- what the pieces of a text have given while more may follow
+abbrev pub given_by_pieces : State → List (List ℕ) → List Item
+given_by_pieces s [] = []
+given_by_pieces s (p ∷ ps) = given s p ++ given_by_pieces (after s p) ps
+
+-- after each piece it is what the groups say that have ended, no sooner and no later
+abbrev pub GivenSoFar : Type 0
+GivenSoFar = (ps : List (List ℕ)) → given_by_pieces start ps ≡ said_so_far (concat ps)

@@ -1,7 +1,8 @@
 pub mod Attributes
 pub mod Changes
+pub mod Ended
 pub mod Laws
 pub mod Objects
 pub mod Reading
-pub mod Seen
 pub mod Selections
+pub mod Sights

@@ -6,12 +6,13 @@ use Rattle.geo_addr.specs.Lines.{numbered_lines}
 use Rattle.geo_terms.specs.declared.note.Rule.TheVariants.{P01, P02}
 use Rattle.rpsl_reader.specs.declared.item.Item.{Item}
 use Rattle.rpsl_reader.specs.declared.item.Item.TheVariants.{Whole, Passed}
+use Rattle.rpsl_reader.specs.declared.limits.TheConstants.{LONGEST}
 use Rattle.rpsl_reader.specs.Attributes.{Numbered, attribute, attributes, is_attribute, is_comment}
 use Rattle.rpsl_reader.specs.Attributes.{is_end, is_stray}
 
 -- the most bytes of an object's lines, line ends not counted
 abbrev pub longest : ℕ
-longest = 1048576
+longest = LONGEST
 
 -- the bytes of some lines
 abbrev pub size : List Numbered → ℕ

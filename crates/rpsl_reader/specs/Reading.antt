@@ -7,6 +7,7 @@ use Rattle.geo_addr.specs.Lines.{is_blank, without_mark}
 use Rattle.geo_terms.specs.declared.note.Rule.TheVariants.{P01}
 use Rattle.rpsl_reader.specs.declared.item.Item.{Item}
 use Rattle.rpsl_reader.specs.declared.item.Item.TheVariants.{Passed}
+use Rattle.rpsl_reader.specs.declared.limits.TheConstants.{MOST}
 use Rattle.rpsl_reader.specs.Attributes.{Numbered, is_comment, is_end}
 use Rattle.rpsl_reader.specs.Objects.{items, longest, size}
 
@@ -34,7 +35,7 @@ start = record { lines = 0; pending = []; group = none }
 -- how many bytes of a line are kept as they are: the longest group,
 -- a byte order mark and a carriage return
 abbrev pub most : ℕ
-most = 1048580
+most = MOST
 
 -- the byte that stands for others, after one more: the newest while the ones
 -- before it are blanks, else an `x`

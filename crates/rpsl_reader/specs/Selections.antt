@@ -1,5 +1,6 @@
 -- Which objects, and which attributes of them, a reader is asked for.
-use Rattle.std.specs.Prelude.{◌≡◌, ℕ, All, Bool, false, length, get_or, true, ◌||◌, if◌then◌else◌, List, [], ◌∷◌, filter, filter_map}
+use Rattle.std.specs.Prelude.{◌≡◌, ℕ, All, Bool, false, length, get_or, true, ◌||◌}
+use Rattle.std.specs.Prelude.{if◌then◌else◌, List, [], ◌∷◌, filter, filter_map}
 use Rattle.std.specs.Prelude.{Option, None, Some}
 use Rattle.std.specs.List.{list_any}
 use Rattle.geo_terms.specs.PlaceForm.{same_text}

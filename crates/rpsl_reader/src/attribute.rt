@@ -1,3 +1,4 @@
+//! The attributes that the lines of an object make.
 ghost use Rattle.std.specs.Prelude.{◌≡◌, ◌≤◌, ◌∷◌, ◌++◌, [], false, not, length, map, IfOk, OnOk};
 ghost use Rattle.std.specs.Prelude.{IsTrue, MatchOption, filter};
 ghost use Rattle.std.specs.Char.{to_ascii_lowercase};
@@ -8,14 +9,12 @@ ghost use Rattle.rpsl_reader.specs.Attributes.{is_stray, may_begin, said_of};
 ghost use Rattle.rpsl_reader.specs.Selections.{wants_name};
 
 use crate::front::{TOGETHER, lacks_hash, plain_front};
+use crate::limits::LONGEST_NAME;
 use crate::line::{GroupLine, continues, cut_first, without_first};
-use crate::seen::{Part, Said};
+use crate::seen::{AttributeSight, Said};
 use crate::selection::Selection;
 use geo_addr::{Memory, Text, trim_blanks};
 use std::alloc::Global;
-
-/// The most bytes of a name behind its first letter.
-const LONGEST_NAME: usize = 63;
 
 /// The two sides of the first colon of a line that begins an attribute.
 #[derive(Clone, Copy)]
@@ -149,7 +148,7 @@ pub(crate) fn push_attributes<'a>(
     alloc: Global,
     selection: &Selection,
     lines: &[GroupLine<'a>],
-    parts: &mut Vec<Part<'a>>,
+    parts: &mut Vec<AttributeSight<'a>>,
 ) -> Result<bool, Memory>
     ensures parts { OnOk result (parts.new.items
         ≡ parts.old.items ++ filter (λ a. wants_name selection.now a.name) (attributes lines.now)) }
@@ -172,7 +171,7 @@ fn push_line<'a>(
     selection: &Selection,
     line: &GroupLine<'a>,
     lines: &[GroupLine<'a>],
-    parts: &mut Vec<Part<'a>>,
+    parts: &mut Vec<AttributeSight<'a>>,
 ) -> Result<bool, Memory>
     ensures parts { OnOk result (parts.new.items ≡ parts.old.items
         ++ filter (λ a. wants_name selection.now a.name) (attribute_in line.now lines.now)) }
@@ -194,7 +193,7 @@ fn push_attribute<'a>(
     line: &GroupLine<'a>,
     sides: Sides<'a>,
     lines: &[GroupLine<'a>],
-    parts: &mut Vec<Part<'a>>,
+    parts: &mut Vec<AttributeSight<'a>>,
 ) -> Result<(), Memory>
     requires { HasSides line.now.1 sides.name.now sides.value.now }
     ensures { OnOk result (parts.new.items ≡ parts.old.items
@@ -205,6 +204,6 @@ fn push_attribute<'a>(
     };
     let value = value_of(alloc, sides.value, lines)?;
     let line = line.number;
-    parts.push(Part { name, value, line })?;
+    parts.push(AttributeSight { name, value, line })?;
     Ok(())
 }

@@ -1,9 +1,10 @@
 //! The first bytes of a line, which are looked at together.
-ghost use Rattle.std.specs.Prelude.{◌≡◌, ◌≢◌, ℕ, ◌<◌, ◌≤◌, length, map, slice_index, IsTrue, nat_lt};
-ghost use Rattle.std.specs.Prelude.{◌==◌, false, if◌then◌else◌, true};
+ghost use Rattle.std.specs.Prelude.{◌≡◌, ◌≢◌, ℕ, ◌<◌, ◌≤◌, length, map, slice_index, IsTrue};
+ghost use Rattle.std.specs.Prelude.{◌==◌, false, if◌then◌else◌, nat_lt, true};
 ghost use Rattle.std.specs.List.{list_any};
 ghost use Rattle.std.specs.Simd.Lanes.{mask_l};
 ghost use Rattle.rpsl_reader.specs.Attributes.{is_name_byte};
+ghost use Rattle.rpsl_reader.specs.declared.front.TheConstants.{HALF, TOGETHER, WIDE};
 
 use std::simd::prelude::*;
 
@@ -13,8 +14,8 @@ pub(crate) const TOGETHER: usize = 16;
 /// How many of the first bytes of a line are small letters, digits and hyphens, which may all stand
 /// in a name.
 pub(crate) fn plain_front(line: &[u8]) -> usize
-    requires { 16 ≤ length line.now }
-    ensures within { result ≤ 16 }
+    requires { TOGETHER ≤ length line.now }
+    ensures within { result ≤ TOGETHER }
     ensures named { (k : ℕ) → k < result → IsTrue (is_name_byte (slice_index line.now k)) }
 {
     let bytes = u8x16::from_slice(line);
@@ -26,8 +27,8 @@ pub(crate) fn plain_front(line: &[u8]) -> usize
 // Zeros where bytes lie between two others, and elsewhere the lanes of `others`.
 #[inline(always)]
 fn unless_between(bytes: u8x16, low: u8, high: u8, others: u8x16) -> u8x16
-    ensures long { length result ≡ 16 }
-    ensures lanes { (k : ℕ) → k < 16 → slice_index result k
+    ensures long { length result ≡ TOGETHER }
+    ensures lanes { (k : ℕ) → k < TOGETHER → slice_index result k
         ≡ (if nat_lt (slice_index bytes k) low then slice_index others k
         else (if nat_lt high (slice_index bytes k) then slice_index others k else 0)) }
 {
@@ -38,8 +39,8 @@ fn unless_between(bytes: u8x16, low: u8, high: u8, others: u8x16) -> u8x16
 // The lanes of `chosen` where a byte is less than another, and elsewhere those of `others`.
 #[inline(always)]
 fn where_less(bytes: u8x16, than: u8x16, chosen: u8x16, others: u8x16) -> u8x16
-    ensures long { length result ≡ 16 }
-    ensures lanes { (k : ℕ) → k < 16 → slice_index result k
+    ensures long { length result ≡ TOGETHER }
+    ensures lanes { (k : ℕ) → k < TOGETHER → slice_index result k
         ≡ (if nat_lt (slice_index bytes k) (slice_index than k) then slice_index chosen k
         else slice_index others k) }
 {
@@ -49,7 +50,7 @@ fn where_less(bytes: u8x16, than: u8x16, chosen: u8x16, others: u8x16) -> u8x16
 // How many lanes come before the first that is not zero.
 #[inline(always)]
 fn leading_zeros(bytes: u8x16) -> usize
-    ensures within { result ≤ 16 }
+    ensures within { result ≤ TOGETHER }
     ensures zeros { (k : ℕ) → k < result → slice_index bytes k ≡ 0 }
 {
     let others = bytes.simd_ne(u8x16::splat(0)).to_bitmask();
@@ -65,9 +66,9 @@ pub(crate) const WIDE: usize = 64;
 /// The offset of the first line feed among the first 64 bytes of a text, or 64 where there is none.
 #[inline(always)]
 pub(crate) fn feed_among(text: &[u8]) -> usize
-    requires { 64 ≤ length text.now }
+    requires { WIDE ≤ length text.now }
     ensures free { (k : ℕ) → k < result → slice_index text.now k ≢ 10 }
-    ensures feed { result < 64 → slice_index text.now result ≡ 10 }
+    ensures feed { result < WIDE → slice_index text.now result ≡ 10 }
 {
     let found = feeds(u8x64::from_slice(text));
     if found == 0 {
@@ -105,8 +106,8 @@ pub(crate) fn lacks_hash(text: &[u8]) -> bool
 // Whether no `#` is among the first 16 bytes of a text.
 #[inline(always)]
 fn lacks_few(text: &[u8]) -> bool
-    requires { 16 ≤ length text.now }
-    ensures { result ≡ true → (k : ℕ) → k < 16 → slice_index text.now k ≢ 35 }
+    requires { TOGETHER ≤ length text.now }
+    ensures { result ≡ true → (k : ℕ) → k < TOGETHER → slice_index text.now k ≢ 35 }
 {
     few_hashes(u8x16::from_slice(text)) == 0
 }
@@ -114,8 +115,8 @@ fn lacks_few(text: &[u8]) -> bool
 // Whether no `#` is among the first 32 bytes of a text.
 #[inline(always)]
 fn lacks_many(text: &[u8]) -> bool
-    requires { 32 ≤ length text.now }
-    ensures { result ≡ true → (k : ℕ) → k < 32 → slice_index text.now k ≢ 35 }
+    requires { HALF ≤ length text.now }
+    ensures { result ≡ true → (k : ℕ) → k < HALF → slice_index text.now k ≢ 35 }
 {
     many_hashes(u8x32::from_slice(text)) == 0
 }

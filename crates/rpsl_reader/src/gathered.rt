@@ -1,3 +1,4 @@
+//! The open group while a piece is read.
 ghost use Rattle.std.specs.Prelude.{◌≡◌, ◌++◌, [], true, false, IfOk, OnOk};
 ghost use Rattle.rpsl_reader.specs.Changes.{IsOpen, open_group, open_lines};
 ghost use Rattle.rpsl_reader.specs.Reading.{ended_by, first_number, group_after, said_by};
@@ -5,18 +6,16 @@ ghost use Rattle.rpsl_reader.specs.Reading.{with_line};
 ghost use Rattle.rpsl_reader.specs.Selections.{wanted};
 
 use crate::item::Item;
+use crate::limits::LONGEST;
 use crate::line::{GroupLine, HeldLine, held_lines, is_comment, is_end};
 use crate::object::push_items;
 use crate::progress::{Ended, Progress};
-use crate::seen::Seen;
+use crate::seen::Sights;
 use crate::selection::Selection;
 use geo_addr::Memory;
 use geo_terms::Rule;
 use std::alloc::Global;
 use std::marker::Model;
-
-/// The most bytes of an object's lines, line ends not counted.
-pub(crate) const LONGEST: usize = 1_048_576;
 
 /// The open group while a piece is read: its lines that the reader holds, and those of the piece.
 #[derive(Debug, Drop)]
@@ -73,7 +72,7 @@ impl<'a> Gathered<'a> {
         selection: &Selection,
         number: u64,
         text: &'a [u8],
-        found: &mut Seen<'a>,
+        found: &mut Sights<'a>,
     ) -> Result<(), Memory>
         ensures held { OnOk result (self.new.held ≡ self.old.held) }
         ensures group { OnOk result
@@ -139,7 +138,7 @@ impl<'a> Gathered<'a> {
     }
 
     // Adds what the group says.
-    fn say(&self, selection: &Selection, found: &mut Seen<'a>) -> Result<(), Memory>
+    fn say(&self, selection: &Selection, found: &mut Sights<'a>) -> Result<(), Memory>
         ensures { OnOk result (found.new.items
             ≡ found.old.items ++ wanted selection.now (said_by (open_group self.now))) }
     {

@@ -1,3 +1,4 @@
+//! What a dump says, as it is handed out.
 use geo_addr::{Bytes, List, Text};
 use geo_terms::Rule;
 

@@ -1,3 +1,4 @@
+//! The object and the notes that the lines of a group say.
 ghost use Rattle.std.specs.Prelude.{◌≡◌, ◌∷◌, ◌++◌, [], false, IfOk, OnOk, filter};
 ghost use Rattle.std.specs.List.{list_any};
 ghost use Rattle.rpsl_reader.specs.Attributes.{HasSides, attribute, attributes, continued};
@@ -8,7 +9,7 @@ ghost use Rattle.rpsl_reader.specs.declared.item.Item.TheVariants.{Passed, Whole
 
 use crate::attribute::{Sides, is_stray, push_attributes, sides_of, value_of};
 use crate::line::GroupLine;
-use crate::seen::{Part, Seen};
+use crate::seen::{AttributeSight, Sights};
 use crate::selection::Selection;
 use geo_addr::{Memory, Text};
 use geo_terms::Rule;
@@ -19,7 +20,7 @@ pub(crate) fn push_items<'a>(
     alloc: Global,
     selection: &Selection,
     lines: &[GroupLine<'a>],
-    found: &mut Seen<'a>,
+    found: &mut Sights<'a>,
 ) -> Result<(), Memory>
     ensures { OnOk result
         (found.new.items ≡ found.old.items ++ wanted selection.now (items lines.now)) }
@@ -43,7 +44,7 @@ fn push_first<'a>(
     line: &GroupLine<'a>,
     sides: Sides<'a>,
     lines: &[GroupLine<'a>],
-    found: &mut Seen<'a>,
+    found: &mut Sights<'a>,
 ) -> Result<(), Memory>
     requires { HasSides line.now.1 sides.name.now sides.value.now }
     ensures { OnOk result
@@ -65,7 +66,7 @@ fn push_object<'a>(
     line: &GroupLine<'a>,
     sides: Sides<'a>,
     lines: &[GroupLine<'a>],
-    found: &mut Seen<'a>,
+    found: &mut Sights<'a>,
 ) -> Result<bool, Memory>
     requires { HasSides line.now.1 sides.name.now sides.value.now }
     ensures found { OnOk result
@@ -99,7 +100,7 @@ fn begin_object<'a>(
     line: &GroupLine<'a>,
     first: &'a [u8],
     lines: &[GroupLine<'a>],
-    parts: &mut Vec<Part<'a>>,
+    parts: &mut Vec<AttributeSight<'a>>,
 ) -> Result<bool, Memory>
     ensures parts { OnOk result (parts.new.items ≡ record {
       name = name;
@@ -111,12 +112,12 @@ fn begin_object<'a>(
     let value = value_of(alloc, first, lines)?;
     let line = line.number;
     parts.clear();
-    parts.push(Part { name, value, line })?;
+    parts.push(AttributeSight { name, value, line })?;
     push_attributes(alloc, selection, lines, parts)
 }
 
 // Adds a note on each line that is neither an attribute nor a continuation.
-fn push_strays(lines: &[GroupLine], found: &mut Seen) -> Result<(), Memory>
+fn push_strays(lines: &[GroupLine], found: &mut Sights) -> Result<(), Memory>
     ensures { OnOk result (found.new.items ≡ found.old.items ++ strays lines.now) }
 {
     let mut left = lines;
@@ -130,7 +131,7 @@ fn push_strays(lines: &[GroupLine], found: &mut Seen) -> Result<(), Memory>
 }
 
 // Adds the note on such a line.
-fn push_stray(line: &GroupLine, found: &mut Seen) -> Result<(), Memory>
+fn push_stray(line: &GroupLine, found: &mut Sights) -> Result<(), Memory>
     ensures { OnOk result (found.new.items ≡ found.old.items ++ Passed line.now.0 Rule.P02 ∷ []) }
 {
     let line = line.number;

@@ -2,11 +2,8 @@
 ghost use Rattle.std.specs.Prelude.{◌≡◌, ◌+◌, ◌≤◌, length, fold, OnOk, OnErr};
 ghost use Rattle.rpsl_reader.specs.Reading.{grown, most, newer};
 
+use crate::limits::MOST;
 use geo_addr::{Memory, is_blank};
-
-/// How many bytes of a line are kept as they are: the longest object,
-/// a byte order mark and a carriage return.
-const MOST: usize = 1_048_580;
 
 /// Goes on with a line by bytes that do not end it. Past `MOST` its last
 /// byte stands for all the others.

@@ -1,3 +1,4 @@
+//! What a piece changes, before the reader accepts it.
 ghost use Rattle.std.specs.Prelude.{◌≡◌, ◌++◌, [], OnOk, OnErr};
 
 use crate::item::Item;

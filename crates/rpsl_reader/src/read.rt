@@ -8,7 +8,7 @@ ghost use Rattle.rpsl_reader.specs.Selections.{wanted};
 use crate::gathered::Gathered;
 use crate::line::{cut_line, text_of};
 use crate::progress::Ended;
-use crate::seen::Seen;
+use crate::seen::Sights;
 use crate::selection::Selection;
 use geo_addr::Memory;
 
@@ -19,7 +19,7 @@ pub(crate) fn read_lines<'b, 'a: 'b>(
     gathered: &mut Gathered<'b>,
     first: &'b [u8],
     rest: &'a [u8],
-    found: &mut Seen<'b>,
+    found: &mut Sights<'b>,
 ) -> Result<Ended<'a>, Memory>
     requires { lines + length rest.now + 1 < 2 ^ 64 }
     ensures held { OnOk result (gathered.new.held ≡ gathered.old.held) }

@@ -1,3 +1,4 @@
+//! A dump, read in pieces.
 ghost use Rattle.std.specs.Prelude.{◌≡◌, ◌≢◌, ◌+◌, ◌<◌, ◌≤◌, ◌^◌, ◌∷◌, ◌++◌, [], All, length, fold};
 ghost use Rattle.std.specs.Prelude.{IfOk, OnOk, OnErr, if◌then◌else◌};
 ghost use Rattle.rpsl_reader.specs.Changes.{IsChange, IsCounted, accepted, lines_in, open_group};
@@ -10,7 +11,7 @@ use crate::line::HeldLine;
 use crate::pending::hold;
 use crate::progress::Progress;
 use crate::read::read_lines;
-use crate::seen::Seen;
+use crate::seen::Sights;
 use crate::selection::Selection;
 use geo_addr::{Memory, cut_at};
 use std::alloc::Global;
@@ -127,13 +128,14 @@ impl Reader {
         Ok(progress.with(found))
     }
 
-    /// The same, as it stands in the piece, in this reader and in `line`, whose bytes do not matter.
+    /// The same, as it stands in the piece, in this reader and in `line`, whose bytes before do not
+    /// matter.
     pub fn see<'b, 'a: 'b>(
         &'b self,
         piece: &'a [u8],
         selection: &Selection,
         line: &'b mut Vec<u8>,
-    ) -> Result<(Progress<'a>, Seen<'b>), Memory>
+    ) -> Result<(Progress<'a>, Sights<'b>), Memory>
         requires { self.now.fed + length piece.now < 2 ^ 63 }
         ensures change { IfOk result (λ both. IsChange self.entry.now both.0) }
         ensures fed { IfOk result (λ both. (accepted self.entry.now both.0).fed
@@ -146,7 +148,7 @@ impl Reader {
         let fed = self.fed + piece.len() as u64;
         let (head, after) = cut_at(piece, b'\n');
         match after {
-            None => Ok((self.part(fed, piece), Seen::new(self.alloc))),
+            None => Ok((self.part(fed, piece), Sights::new(self.alloc))),
             Some(rest) => self.ended(selection, fed, head, rest, line),
         }
     }
@@ -182,7 +184,7 @@ impl Reader {
         head: &[u8],
         rest: &'a [u8],
         line: &'b mut Vec<u8>,
-    ) -> Result<(Progress<'a>, Seen<'b>), Memory>
+    ) -> Result<(Progress<'a>, Sights<'b>), Memory>
         requires counted { self.now.fed + length head.now + length rest.now + 1 ≡ fed }
         requires fits { fed < 2 ^ 63 }
         requires free { All (λ b. b ≢ 10) head.now }
@@ -196,7 +198,7 @@ impl Reader {
     {
         self.first_line(head, line)?;
         let mut gathered = self.gathered();
-        let mut found = Seen::new(self.alloc);
+        let mut found = Sights::new(self.alloc);
         let ended = read_lines(
             selection,
             self.lines(),
@@ -280,12 +282,12 @@ impl Reader {
     }
 
     /// The same, as it stands in this reader.
-    pub fn see_end(&self, selection: &Selection) -> Result<Seen<'_>, Memory>
+    pub fn see_end(&self, selection: &Selection) -> Result<Sights<'_>, Memory>
         ensures { IfOk result
             (λ seen. seen.items ≡ wanted selection.now (last self.entry.now.state)) }
     {
         let mut gathered = self.gathered();
-        let mut found = Seen::new(self.alloc);
+        let mut found = Sights::new(self.alloc);
         let _ended = read_lines(
             selection,
             self.lines(),

@@ -21,7 +21,7 @@ pub struct Said<'a> {
 
 impl<'a> Model for Said<'a> {
     ghost use Rattle.std.specs.Prelude.{ℕ, List};
-    ghost use Rattle.rpsl_reader.specs.Seen.{said_in};
+    ghost use Rattle.rpsl_reader.specs.Sights.{said_in};
 
     ghost Value = { List ℕ };
 
@@ -70,7 +70,7 @@ impl<'a> Said<'a> {
 
 /// An attribute of an object, of which the text holds what it says.
 #[derive(Debug, Drop)]
-pub struct Part<'a> {
+pub struct AttributeSight<'a> {
     /// In lower case.
     pub name: Text,
     pub value: Said<'a>,
@@ -78,7 +78,7 @@ pub struct Part<'a> {
     pub line: u64,
 }
 
-impl<'a> Model for Part<'a> {
+impl<'a> Model for AttributeSight<'a> {
     ghost use Rattle.rpsl_reader.specs.declared.item.Attribute.{Attribute};
 
     ghost Value = { Attribute };
@@ -90,13 +90,13 @@ impl<'a> Model for Part<'a> {
 #[derive(Debug, Drop)]
 pub struct Sight<'s, 'a: 's> {
     pub line: u64,
-    pub parts: &'s [Part<'a>],
+    pub parts: &'s [AttributeSight<'a>],
     pub rule: Option<Rule>,
 }
 
 impl<'s, 'a: 's> Model for Sight<'s, 'a> {
     ghost use Rattle.rpsl_reader.specs.declared.item.Item.{Item};
-    ghost use Rattle.rpsl_reader.specs.Seen.{item_of};
+    ghost use Rattle.rpsl_reader.specs.Sights.{item_of};
 
     ghost Value = { Item };
 
@@ -105,7 +105,7 @@ impl<'s, 'a: 's> Model for Sight<'s, 'a> {
 
 /// The same beside others, whose parts stand in one list.
 #[derive(Clone, Copy, Debug, Drop)]
-pub(crate) struct Row {
+pub(crate) struct SightRow {
     pub line: u64,
     pub from: usize,
     pub count: usize,
@@ -114,15 +114,15 @@ pub(crate) struct Row {
 
 /// The items of a piece, as they stand in its text.
 #[derive(Debug, Drop)]
-pub struct Seen<'a> {
-    rows: Vec<Row>,
-    parts: Vec<Part<'a>>,
+pub struct Sights<'a> {
+    rows: Vec<SightRow>,
+    parts: Vec<AttributeSight<'a>>,
     // The attributes of the object that is being read.
-    pub(crate) begun: Vec<Part<'a>>,
+    pub(crate) begun: Vec<AttributeSight<'a>>,
 }
 
-impl<'a> Model for Seen<'a> {
-    ghost use Rattle.rpsl_reader.specs.Seen.{HasRows, Sightings, items_in};
+impl<'a> Model for Sights<'a> {
+    ghost use Rattle.rpsl_reader.specs.Sights.{HasRows, Sightings, items_in};
 
     ghost Value = { Sightings };
 
@@ -134,12 +134,12 @@ impl<'a> Model for Seen<'a> {
     ghost invariant = { λ s. HasRows s.rows.items s.parts.items };
 }
 
-impl<'a> Seen<'a> {
+impl<'a> Sights<'a> {
     /// Nothing yet; it takes no memory.
-    pub(crate) fn new(alloc: Global) -> Seen<'a>
+    pub(crate) fn new(alloc: Global) -> Sights<'a>
         ensures { result ≡ record { items = []; begun = [] } }
     {
-        Seen {
+        Sights {
             rows: Vec::new(alloc),
             parts: Vec::new(alloc),
             begun: Vec::new(alloc),
@@ -170,7 +170,7 @@ impl<'a> Seen<'a> {
     pub(crate) fn pass(&mut self, line: u64, rule: Rule) -> Result<(), Memory>
         ensures { OnOk result (self.new.items ≡ self.old.items ++ Passed line rule ∷ []) }
     {
-        self.rows.push(Row {
+        self.rows.push(SightRow {
             line,
             from: 0,
             count: 0,
@@ -190,7 +190,7 @@ impl<'a> Seen<'a> {
         let count = self.begun.len();
         self.parts.append(&mut self.begun)?;
         let rule = None;
-        self.rows.push(Row {
+        self.rows.push(SightRow {
             line,
             from,
             count,
@@ -226,7 +226,7 @@ fn copy_of(alloc: Global, sight: Sight) -> Result<Item, Memory>
 }
 
 // Copies of attributes.
-fn copies(alloc: Global, parts: &[Part]) -> Result<Vec<Attribute>, Memory>
+fn copies(alloc: Global, parts: &[AttributeSight]) -> Result<Vec<Attribute>, Memory>
     ensures { IfOk result (λ copies. copies.items ≡ parts.now) }
 {
     let mut copies = Vec::with_capacity(alloc, parts.len())?;
@@ -242,7 +242,10 @@ fn copies(alloc: Global, parts: &[Part]) -> Result<Vec<Attribute>, Memory>
 }
 
 /// Attributes that are held elsewhere.
-pub fn parts_of<'a>(alloc: Global, attributes: &'a [Attribute]) -> Result<Vec<Part<'a>>, Memory>
+pub fn parts_of<'a>(
+    alloc: Global,
+    attributes: &'a [Attribute],
+) -> Result<Vec<AttributeSight<'a>>, Memory>
     ensures { IfOk result (λ parts. parts.items ≡ attributes.entry.now) }
 {
     let mut parts = Vec::with_capacity(alloc, attributes.len())?;
@@ -251,7 +254,7 @@ pub fn parts_of<'a>(alloc: Global, attributes: &'a [Attribute]) -> Result<Vec<Pa
         let name = attribute.name.copied()?;
         let value = Said::of(alloc, attribute.value.as_slice());
         let line = attribute.line;
-        parts.push(Part { name, value, line })?;
+        parts.push(AttributeSight { name, value, line })?;
         left = rest;
     }
     Ok(parts)

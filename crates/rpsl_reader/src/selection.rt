@@ -1,3 +1,4 @@
+//! What a reader is asked for.
 ghost use Rattle.std.specs.Prelude.{◌≡◌, ◌∷◌, ◌++◌, [], true, false, map, IfOk, OnOk, OnErr};
 ghost use Rattle.std.specs.Prelude.{IsTrue, Some, None, if◌then◌else◌};
 ghost use Rattle.std.specs.Char.{to_ascii_lowercase};
@@ -115,7 +116,8 @@ impl Selection {
 
     // Whether a wanted name begins with the letter that a name begins with.
     fn may_want(&self, name: &[u8]) -> bool
-        ensures { result ≡ false → is_among (map to_ascii_lowercase name.now) self.now.names ≡ false }
+        ensures { result ≡ false
+            → is_among (map to_ascii_lowercase name.now) self.now.names ≡ false }
     {
         match name {
             [first, ..] => self.begins[usize::from(first.to_ascii_lowercase())],

@@ -2,6 +2,7 @@
 //! ranges cuts the address space.
 #![tactic(auto)]
 
+pub mod laws;
 mod points;
 mod split;
 mod walk;

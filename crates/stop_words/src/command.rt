@@ -61,7 +61,8 @@ pub(crate) fn command_form(word: &str) -> Option<&'static str> {
     }
 }
 
-#[tactic(auto, unfolding(command_words::specs::Commands::with_one), using(crate::proofs::CommandLemmas::commands))]
+#[tactic(auto, unfolding(command_words::specs::Commands::with_one), // each command
+using(crate::proofs::CommandLemmas::commands))]
 fn with_one(alloc: Global, word: &str, a: &str) -> Result<Option<CommandFault>, Memory>
     ensures { IfOk result (λ fault. is_none fault ≡ is_some (with_one word.now a.now)) }
 {
@@ -74,7 +75,8 @@ fn with_one(alloc: Global, word: &str, a: &str) -> Result<Option<CommandFault>, 
     Ok(Some(uncommon(word)))
 }
 
-#[tactic(auto, unfolding(command_words::specs::Commands::with_two), using(crate::proofs::CommandLemmas::commands))]
+#[tactic(auto, unfolding(command_words::specs::Commands::with_two), // each command
+using(crate::proofs::CommandLemmas::commands))]
 fn with_two(alloc: Global, word: &str, a: &str, b: &str) -> Result<Option<CommandFault>, Memory>
     ensures { IfOk result (λ fault. is_none fault ≡ is_some (with_two word.now a.now b.now)) }
 {
@@ -93,7 +95,8 @@ fn with_two(alloc: Global, word: &str, a: &str, b: &str) -> Result<Option<Comman
     Ok(Some(uncommon(word)))
 }
 
-#[tactic(auto, unfolding(command_words::specs::Commands::with_three), using(crate::proofs::CommandLemmas::commands))]
+#[tactic(auto, unfolding(command_words::specs::Commands::with_three), // each command
+using(crate::proofs::CommandLemmas::commands))]
 fn with_three(
     alloc: Global,
     word: &str,

@@ -43,6 +43,7 @@ pub enum WordFault {
     Address(AddrFault),
     #[error("is not a prefix: {0}")]
     Block(BlockFault),
-    #[error("reaches from the IPv4 addresses into the IPv6 addresses; it begins at ::1:0:0 or above")]
+    #[error("reaches from the IPv4 addresses into the IPv6 addresses; \
+it begins at ::1:0:0 or above")]
     LowBlock,
 }

@@ -299,7 +299,8 @@ fn act_words(alloc: Global, act: &Act, stopped: &Stopped<'_>) -> Result<String, 
         }
         Act::Emit { .. } => Ok(String::from_str(
             alloc,
-            "the file is too large for its format: nodes, 16 and the data section together stay below 2^32",
+            "the file is too large for its format: \
+nodes, 16 and the data section together stay below 2^32",
         )?),
         _ => source_words(alloc, act, stopped),
     }

@@ -75,8 +75,8 @@ fn form_words(alloc: Global, line: &[u8], fault: LineFault) -> Result<String, Me
         LineFault::Unknown => {
             let word = shown(alloc, nth_word(line, 0))?;
             Ok(format!(in alloc;
-                "no line begins with {}; lines begin with epoch, type, pieces, rpsl, stats, feed, overrides, drop, \
-emit, report, mark, back or compact, in lower case",
+                "no line begins with {}; lines begin with epoch, type, pieces, rpsl, stats, feed, \
+overrides, drop, emit, report, mark, back or compact, in lower case",
                 word.as_str()
             )?)
         }
@@ -126,7 +126,8 @@ fn order_words(alloc: Global, line: &[u8], fault: OrderFault) -> Result<String, 
             "a second {word}; it stands once, in the first line that says something"
         )?),
         OrderFault::Behind => Ok(format!(in alloc;
-            "{word} stands behind a line that does something; type and pieces stand before all of these"
+            "{word} stands behind a line that does something; \
+type and pieces stand before all of these"
         )?),
         OrderFault::Twice => Ok(format!(in alloc; "a second {word}; it stands once at most")?),
     }

@@ -108,7 +108,8 @@ IsNumbered-old nodes nodes' pairs id pair is_new k is added keys at =
     not-false false is = absurd (cc)
 
 -- where a position is found, the element passes
-pub found_at : {X : Type 0} (test : X → Bool) (xs : List X) (i : ℕ) (d : X) → position test xs ≡ Some i
+pub found_at : {X : Type 0} (test : X → Bool) (xs : List X) (i : ℕ) (d : X)
+    → position test xs ≡ Some i
     → (i < length xs) × (test (get_or xs i d) ≡ true)
 found_at test xs i d is = by (nat_lt (position_or_len test xs) (length xs)) refl
   where

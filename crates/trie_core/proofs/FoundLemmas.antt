@@ -118,7 +118,8 @@ module _ (pairs : List Pair) (firsts : List ℕ) (others : List Pair) (numbers :
       let within : at.0 < length numbers =
       omega (arith, slice_get_within others at.0 p at.1, found.aligned) in
       let n : ℕ = get_or numbers at.0 0 in
-      Contains-slice_get pairs n p (found.only at.0 n p at.1 (slice_get-get_or numbers at.0 0 within))
+      Contains-slice_get pairs n p (found.only at.0 n p at.1
+      (slice_get-get_or numbers at.0 0 within))
 
   -- a new pair whose number came to its later child
   push_first : (p : Pair) → slice_get firsts (later p) ≡ Some 0 → length pairs + 1 < 2 ^ 32
@@ -135,7 +136,8 @@ module _ (pairs : List Pair) (firsts : List ℕ) (others : List Pair) (numbers :
       put = set firsts (later p) (suc (length pairs))
 
       here : slice_get put (later p) ≡ Some (suc (length pairs))
-      here = set_here firsts (later p) (suc (length pairs)) (slice_get_within firsts (later p) 0 free)
+      here = set_here firsts (later p) (suc (length pairs)) (slice_get_within firsts
+          (later p) 0 free)
 
       apart : (n : ℕ) (q : Pair) → slice_get pairs n ≡ Some q
           → slice_get put (later q) ≡ slice_get firsts (later q)

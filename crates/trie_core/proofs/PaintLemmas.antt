@@ -1,7 +1,8 @@
 -- Lemmas on painting a block by its halves: the lookups, the nodes that are added,
 -- and when no node can be made.
 use Rattle.std.proofs.Common.{◌≡◌, ℕ, suc, ◌+◌, ◌^◌, ◌<◌, ◌≤◌, inl, inr, nat_eq, Bool, true, false}
-use Rattle.std.proofs.Common.{List, [], ◌∷◌, length, slice_get, Contains, Some, None, refl, sym, ◌∙◌}
+use Rattle.std.proofs.Common.{List, [], ◌∷◌, length, slice_get, Contains, Some, None, refl, sym}
+use Rattle.std.proofs.Common.{◌∙◌}
 use Rattle.std.proofs.Common.{ap, ap₂, subst, arith}
 use Rattle.std.proofs.lemmas.Bool.{cases_lt}
 use Rattle.geo_addr.specs.Bits.{number_of}

@@ -29,7 +29,7 @@ impl Store {
     ///
     /// The work follows the nodes under the roots and not the size of this store.
     /// It counts no step.
-    pub fn compact(&self, alloc: Global, roots: &[Root]) -> Result<(Store, Vec<Root>), Memory>
+    pub fn compact(&self, roots: &[Root]) -> Result<(Store, Vec<Root>), Memory>
         requires { AreRootsOf self.now roots.now }
         ensures of { IfOk result (λ made. AreRootsOf made.0 made.1.items) }
         ensures meaning { IfOk result
@@ -40,12 +40,16 @@ impl Store {
         ensures sound { IfOk result (λ made. IsSound made.0) }
     {
         let _ = &self.pairs;
+        let alloc = self.alloc;
         let mut taken = Taken::new(alloc);
         let mut made = Vec::with_capacity(alloc, roots.len())?;
         for root in roots {
             self.take_root(*root, &mut taken, &mut made)?;
         }
-        let store = Store { pairs: taken.pairs };
+        let store = Store {
+            alloc,
+            pairs: taken.pairs,
+        };
         Ok((store, made))
     }
 

@@ -1,3 +1,4 @@
+//! The faults of a store.
 use thiserror::Error;
 
 /// Why a store could not make a node.

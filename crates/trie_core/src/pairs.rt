@@ -164,8 +164,8 @@ fn first_of(pairs: &[Pair], firsts: &[u32], pair: Pair) -> Told
     Told::Unknown
 }
 
-// Notes the number of a new pair at its later child where no number stands there yet, and else among
-// the others.
+// Notes the number of a new pair at its later child where no number stands there yet, and else
+// among the others.
 fn note(
     firsts: &mut Vec<u32>,
     others: &mut IndexSet<Pair, Near>,

@@ -23,6 +23,7 @@ use std::sync::ledger::Ledger;
 /// only records and roots of this store: those that it gave, before or after whatever refusals.
 #[derive(Drop)]
 pub struct Store {
+    pub(crate) alloc: Global,
     pub(crate) pairs: Pairs,
 }
 
@@ -44,6 +45,7 @@ impl Store {
         ensures { result ≡ [] }
     {
         Store {
+            alloc,
             pairs: Pairs::new(alloc),
         }
     }

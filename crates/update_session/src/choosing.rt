@@ -24,6 +24,7 @@ pub(crate) struct Chosen {
 /// Work that asks what the sources say of the segments of a run.
 #[derive(Drop)]
 struct Choosing<'a> {
+    alloc: Global,
     sources: &'a Sources,
 }
 
@@ -32,8 +33,8 @@ impl<'a, 'b> Work<&'b [Range], Chosen> for Choosing<'a> {
 
     ghost related = { λ work run chosen. IsChosen work.sources.now run.now chosen };
 
-    fn done(&self, alloc: Global, item: &&'b [Range]) -> Result<Chosen, Memory> {
-        let chosen = chosen_in(alloc, self.sources, item)?;
+    fn done(&self, item: &&'b [Range]) -> Result<Chosen, Memory> {
+        let chosen = chosen_in(self.alloc, self.sources, item)?;
         Ok(chosen)
     }
 }
@@ -47,7 +48,11 @@ pub(crate) fn choose<R: Threads + Sync, G: Gate>(
     ensures { IfOk result (λ chosen. AllZip (λ run one. IsChosen sources.entry.now run.now one)
         runs.now chosen.items) }
 {
-    let chosen = map_pieces(forks, runs, &Choosing { sources })?;
+    let work = Choosing {
+        alloc: forks.alloc,
+        sources,
+    };
+    let chosen = map_pieces(forks.rt, forks.alloc, forks.gate, forks.pieces, runs, &work)?;
     Ok(chosen)
 }
 

@@ -10,7 +10,6 @@ use crate::marks::{all_roots, give_roots};
 use crate::session::Session;
 use geo_addr::Memory;
 use geo_terms::Places;
-use std::alloc::Global;
 use trie_core::{Root, Store};
 
 impl Session {
@@ -25,12 +24,7 @@ impl Session {
         ensures err { OnErr result (self.new ≡ self.old) }
     {
         let roots = all_roots(self.alloc, self.root, self.marks.as_slice())?;
-        let (store, roots) = without_stale(
-            self.alloc,
-            &self.store,
-            &self.places,
-            roots.as_slice(),
-        )?;
+        let (store, roots) = without_stale(&self.store, &self.places, roots.as_slice())?;
         let count = u64::from(store.len());
         let (first, others) = roots.as_slice().split_at(1);
         self.root = first[0];
@@ -42,7 +36,6 @@ impl Session {
 
 /// A store of the nodes under these roots alone, and its roots that mean what these mean.
 fn without_stale(
-    alloc: Global,
     store: &Store,
     places: &Places,
     roots: &[Root],
@@ -60,6 +53,6 @@ fn without_stale(
 {
     let _ = store.len();
     let _ = places.len();
-    let made = store.compact(alloc, roots)?;
+    let made = store.compact(roots)?;
     Ok(made)
 }

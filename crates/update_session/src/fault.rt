@@ -1,3 +1,4 @@
+//! Why no file is emitted.
 use geo_addr::Memory;
 use mmdb_file::FileFault;
 use std::alloc::{AllocError, AllocFailed};

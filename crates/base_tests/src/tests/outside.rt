@@ -3,7 +3,8 @@ use geo_addr::Memory;
 use geo_outside::{Folder, FolderErr, MemFolder, MemSink, OutErr, Sink, WholeErr, read_whole};
 use std::alloc::Global;
 
-// Each rich call stands in a function of its own that promises nothing: its facts then burden no other proof.
+// Each rich call stands in a function of its own that promises nothing: its facts then burden no
+// other proof.
 
 // A folder with the file `f`, whose read with this number fails.
 fn failing_read(alloc: Global, listed: u64) -> Result<MemFolder, Memory> {

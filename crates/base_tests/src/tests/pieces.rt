@@ -1,7 +1,7 @@
 //! The parallel map: its results, and what its gates see.
 ghost use Rattle.std.specs.Prelude.{◌<◌, ◌≤◌};
 
-use fan_work::{Forks, Work, map_pieces};
+use fan_work::{Work, map_pieces};
 use geo_addr::Memory;
 use geo_outside::{Gate, OpenGate};
 use std::alloc::Global;
@@ -19,7 +19,7 @@ impl Work<u32, u64> for AddOne {
 
     ghost related = { λ work x y. y ≡ x + 1 };
 
-    fn done(&self, _alloc: Global, item: &u32) -> Result<u64, Memory> {
+    fn done(&self, item: &u32) -> Result<u64, Memory> {
         Ok(u64::from(*item) + 1)
     }
 }
@@ -65,7 +65,7 @@ impl Work<usize, bool> for Witness<'_> {
 
     ghost related = { λ work x y. ⊤ };
 
-    fn done(&self, _alloc: Global, item: &usize) -> Result<bool, Memory> {
+    fn done(&self, item: &usize) -> Result<bool, Memory> {
         let piece = self.pieces[*item % 5];
         let came = self.gate.came.load(Ordering::SeqCst);
         Ok(came.wrapping_shr(piece) & 1 == 1)
@@ -108,13 +108,7 @@ fn added<R: Threads + Sync>(
     requires some { 0 < pieces }
     requires few { pieces ≤ 64 }
 {
-    let forks = Forks {
-        rt,
-        alloc,
-        gate: &OpenGate,
-        pieces,
-    };
-    map_pieces(&forks, items, &AddOne)
+    map_pieces(rt, alloc, &OpenGate, pieces, items, &AddOne)
 }
 
 #[test]
@@ -147,13 +141,7 @@ fn seen<R: Threads + Sync>(
         gate,
         pieces: of_items,
     };
-    let forks = Forks {
-        rt,
-        alloc,
-        gate,
-        pieces,
-    };
-    map_pieces(&forks, &[0, 1, 2, 3, 4], &work)
+    map_pieces(rt, alloc, gate, pieces, &[0, 1, 2, 3, 4], &work)
 }
 
 // Whether each piece with items enters once, before its first item.
@@ -199,16 +187,7 @@ fn two_pieces_meet(rt: HostRuntime) -> Result<(), Memory> {
         second: AtomicU64::new(0),
         met: AtomicU64::new(0),
     };
-    map_pieces(
-        &Forks {
-            rt: &rt,
-            alloc: rt.alloc(),
-            gate: &gate,
-            pieces: 2,
-        },
-        &[1, 2],
-        &AddOne,
-    )?;
+    map_pieces(&rt, rt.alloc(), &gate, 2, &[1, 2], &AddOne)?;
     assert_eq!(rt; gate.met.load(Ordering::SeqCst), 2);
     Ok(())
 }

@@ -23,7 +23,7 @@ fn push_entries(alloc: Global, text: &mut Vec<u8>, entries: &[Entry]) -> Result<
 // The line, the block and the texts of each entry, and the notes.
 fn push_feed(alloc: Global, text: &mut Vec<u8>, feed: &Feed) -> Result<(), Fail> {
     push_entries(alloc, text, feed.entries.as_slice())?;
-    push_notes(text, feed.notes.as_slice())
+    push_notes(text, b"feed u", feed.notes.as_slice())
 }
 
 /// The feed of the URL `u`, by a function that promises nothing.
@@ -166,7 +166,7 @@ fn feed_of_city(alloc: Global, count: usize) -> Result<Feed, Fail> {
 fn is_noted(alloc: Global, count: usize, wanted: &[u8]) -> Result<bool, Fail> {
     let feed = feed_of_city(alloc, count)?;
     let mut text = Vec::new(alloc);
-    push_notes(&mut text, feed.notes.as_slice())?;
+    push_notes(&mut text, b"feed u", feed.notes.as_slice())?;
     Ok(text.as_slice() == wanted)
 }
 

@@ -1,5 +1,5 @@
 //! What sources say, as texts of bytes.
-use geo_terms::{Note, Origin, Place, Said};
+use geo_terms::{LineNote, Place, Said};
 use std::test::Fail;
 
 /// Adds these parts one behind the other.
@@ -51,26 +51,16 @@ pub fn push_line(
     }
 }
 
-// The kind and the name of the source of a note.
-fn source_of(note: &Note) -> (&[u8], &[u8]) {
-    match &note.origin {
-        Origin::Feed(url) => (b"feed ", url.as_str().as_bytes()),
-        Origin::Overrides => (b"overrides ", b"-"),
-        _ => (b"", b""),
-    }
-}
-
-fn push_note(text: &mut Vec<u8>, note: &Note) -> Result<(), Fail> {
-    let (kind, name) = source_of(note);
-    push_all(text, &[kind, name, b" "])?;
+fn push_note(text: &mut Vec<u8>, source: &[u8], note: LineNote) -> Result<(), Fail> {
+    push_all(text, &[source, b" "])?;
     push_number(text, note.line)?;
     push_all(text, &[b" ", note.rule.code().as_bytes(), b"\n"])
 }
 
-/// Adds the notes as a report prints them.
-pub fn push_notes(text: &mut Vec<u8>, notes: &[Note]) -> Result<(), Fail> {
+/// Adds the notes of a source, which is named, as a report prints them.
+pub fn push_notes(text: &mut Vec<u8>, source: &[u8], notes: &[LineNote]) -> Result<(), Fail> {
     for note in notes {
-        push_note(text, note)?;
+        push_note(text, source, *note)?;
     }
     Ok(())
 }

@@ -190,8 +190,10 @@ fn has_sizes(file: &Emitted, row: &Row) -> bool {
 
 /// The marker and the metadata of the epoch 1700000000 and the type `Geofeed-City`, before and
 /// behind the number of nodes.
-static METADATA: &[u8] =
-    b"\xAB\xCD\xEFMaxMind.com\xE9\x5Bbinary_format_major_version\xA1\x02\x5Bbinary_format_minor_version\xA0\x4Bbuild_epoch\x04\x02\x65\x53\xF1\x00\x4Ddatabase_type\x4CGeofeed-City\x4Bdescription\xE1\x42en\x4CGeofeed-City\x4Aip_version\xA1\x06\x49languages\x01\x04\x42en\x4Anode_count\xC1";
+static METADATA: &[u8] = b"\xAB\xCD\xEFMaxMind.com\xE9\x5Bbinary_format_major_version\xA1\x02\
+\x5Bbinary_format_minor_version\xA0\x4Bbuild_epoch\x04\x02\x65\x53\xF1\x00\
+\x4Ddatabase_type\x4CGeofeed-City\x4Bdescription\xE1\x42en\x4CGeofeed-City\
+\x4Aip_version\xA1\x06\x49languages\x01\x04\x42en\x4Anode_count\xC1";
 
 fn metadata() -> &'static [u8] {
     METADATA

@@ -1,7 +1,7 @@
 //! What objects of dumps say of feeds.
 use feed_refs::{UrlRead, What, read_url, reference_of};
 use geo_addr::{Bytes, List, Text, range_text};
-use geo_terms::{Note, Reference, note_text};
+use geo_terms::{LineNote, Reference};
 use rpsl_reader::{Attribute, Object};
 use std::alloc::Global;
 
@@ -16,10 +16,12 @@ pub fn push_reference(alloc: Global, reference: &Reference, text: &mut String) -
     text.push_str(line.as_str()).ok()
 }
 
-/// Pushes notes as a report prints them.
-pub fn push_notes(alloc: Global, notes: &[Note], text: &mut String) -> Option<()> {
+/// Pushes notes of the dump in slot `x` as a report prints them.
+pub fn push_notes(alloc: Global, notes: &[LineNote], text: &mut String) -> Option<()> {
     for note in notes {
-        let line = note_text(alloc, note).ok()?;
+        let line = note.line;
+        let code = note.rule.code();
+        let line = format!(in alloc; "rpsl x {line} {code}\n").ok()?;
         text.push_str(line.as_str()).ok()?;
     }
     Some(())

@@ -5,25 +5,25 @@ use std::alloc::Global;
 use std::test::Fail;
 
 // An attribute: its line, its name and its value.
-type Part = (u64, &'static [u8], &'static [u8]);
+type Pair = (u64, &'static [u8], &'static [u8]);
 
 // What comes of a text.
 enum Wanted {
     // An object: its line and its attributes.
-    Object(u64, &'static [Part]),
+    Object(u64, &'static [Pair]),
     // A line that is passed over.
     Passed(u64),
 }
 
 use Wanted::{Object, Passed};
 
-fn is_part(part: &Attribute, wanted: &Part) -> bool {
+fn is_part(part: &Attribute, wanted: &Pair) -> bool {
     part.line == wanted.0
         && part.name.as_str().as_bytes() == wanted.1
         && part.value.as_slice() == wanted.2
 }
 
-fn are_parts(parts: &[Attribute], wanted: &[Part]) -> bool {
+fn are_parts(parts: &[Attribute], wanted: &[Pair]) -> bool {
     for (at, part) in parts.iter().enumerate() {
         let Some(wanted) = wanted.get(at) else {
             return false;

@@ -3,7 +3,7 @@ use fan_work::Forks;
 use geo_addr::Addr;
 use geo_outside::OpenGate;
 use geo_terms::plain::{AllSources, spoken_at};
-use geo_terms::{Delegation, Note, Origin, Stats};
+use geo_terms::{Delegation, LineNote, Stats};
 use nro_stats::{read_stats, read_stats_by_parts};
 use std::alloc::Global;
 use std::test::Fail;
@@ -149,21 +149,10 @@ fn rules() -> &'static [RuleRow] {
     &RULES
 }
 
-fn is_of_the_slot(origin: &Origin) -> bool {
-    match origin {
-        Origin::Stats(slot) => slot.as_str().as_bytes() == b"x".as_slice(),
-        _ => false,
-    }
-}
-
 // Whether this is the only note.
-fn are_noted(notes: &[Note], row: &RuleRow) -> bool {
+fn are_noted(notes: &[LineNote], row: &RuleRow) -> bool {
     match notes {
-        [note] => {
-            is_of_the_slot(&note.origin)
-                && note.line == row.1
-                && note.rule.code().as_bytes() == row.2
-        }
+        [note] => note.line == row.1 && note.rule.code().as_bytes() == row.2,
         _ => false,
     }
 }
@@ -240,7 +229,7 @@ fn count_of_rows(rows: &[Delegation]) -> (usize, u64) {
     }
 }
 
-fn count_of_notes(notes: &[Note]) -> (usize, u64) {
+fn count_of_notes(notes: &[LineNote]) -> (usize, u64) {
     match notes.last() {
         Some(note) => (notes.len(), note.line),
         None => (0, 0),

@@ -12,7 +12,6 @@ use trie_core::{Root, Store};
 /// The length and the root of the store that is made compact after these parts were painted on it.
 fn compact_of<L: Ledger>(
     rt: &impl Abort,
-    alloc: Global,
     store: &mut Store,
     parts: &[Painted],
     steps: &mut Steps<L>,
@@ -20,7 +19,7 @@ fn compact_of<L: Ledger>(
     let Ok(root) = painted(rt, store, parts, steps) else {
         return None;
     };
-    match store.compact(alloc, &[root]) {
+    match store.compact(&[root]) {
         Ok((compact, roots)) => Some((compact.len(), roots.first().copied()?)),
         Err(_) => None,
     }
@@ -38,7 +37,7 @@ fn compacted<L: Ledger>(
 {
     let mut steps: Steps<L> = Steps::new(blank);
     let mut store = Store::new(alloc);
-    compact_of(rt, alloc, &mut store, parts, &mut steps)
+    compact_of(rt, &mut store, parts, &mut steps)
 }
 
 // 128 addresses each from 192.0.2.0, which are painted over with leaf 0 at last, 10.0.0.0 and

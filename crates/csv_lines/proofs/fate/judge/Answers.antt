@@ -1,7 +1,7 @@
 -- Where the ranges rise, no two lines have the same.
 use Rattle.std.proofs.Common.{sym, ap, rules, List}
 use Rattle.csv_lines.specs.Repeats.{merged}
-use Rattle.csv_lines.specs.declared.fault.Fault.{Fault}
+use Rattle.geo_terms.specs.declared.note.LineNote.{LineNote}
 use Rattle.csv_lines.proofs.FateLemmas.{all_kept, none_repeats}
 use Rattle.csv_lines.proofs.fate.judge.Goals as goal
 
@@ -14,6 +14,6 @@ returns-then-rises-clause-rows g c =
 pub returns-then-rises-clause-faults : goal.returns-then-rises-clause-faults
 returns-then-rises-clause-faults g c =
     let up = c.rises.ensures (search rules) in
-    ap (λ (t : List Fault). merged t c.args.faults.items)
+    ap (λ (t : List LineNote). merged t c.args.faults.items)
     (sym (none_repeats g.T.Accepted.line g.T.Accepted.range g.T.Accepted.said c.args.rules
     c.args.rows.items (rw c.as_slice.ensures.value at up)))

@@ -1,4 +1,5 @@
--- What was passed is of the word: the count of all is what was passed and the count of what is left.
+-- What was passed is of the word: the count of all is what was passed and the count of what is
+-- left.
 use Rattle.std.proofs.Common.{◌≡◌, ◌+◌, drop}
 use Rattle.std.specs.List.{prefix_len}
 use Rattle.csv_lines.specs.Tails.{is_word}

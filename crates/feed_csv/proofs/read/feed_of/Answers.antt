@@ -1,9 +1,9 @@
 -- The lists are those of the file, which are in form.
 use Rattle.std.proofs.Common.{◌∙◌, ap, sym, subst, map, List}
+use Rattle.geo_terms.specs.declared.note.LineNote.{LineNote}
 use Rattle.geo_terms.specs.declared.statement.Entry.{Entry}
 use Rattle.csv_lines.specs.Repeats.{Rises, kept, merged, repeat_faults}
-use Rattle.csv_lines.specs.declared.fault.Fault.{Fault}
-use Rattle.feed_csv.specs.File.{AreClean, accepted, entry_line, entry_range, entry_said, note_of}
+use Rattle.feed_csv.specs.File.{AreClean, accepted, entry_line, entry_range, entry_said}
 use Rattle.feed_csv.specs.File.{repeat_rules}
 use Rattle.feed_csv.proofs.CleanLemmas.{entries_clean}
 use Rattle.feed_csv.proofs.FileLemmas.{all_rise, faults_are, feed_in_form}
@@ -19,17 +19,13 @@ invariant_of-result c =
     let (file, said) = c.requires in
     let entries = c.of-2.ensures ∙ c.in_ok-judged.ensures.rows ∙ ap (λ (es : List Entry).
     kept entry_line entry_range entry_said es) said.0 in
-    let faults =
-    c.as_slice.ensures.value ∙ c.in_ok-judged.ensures.faults
+    let notes =
+    c.of-3.ensures ∙ c.in_ok-judged.ensures.faults
     ∙ ap (λ (es : List Entry). merged (repeat_faults entry_line entry_range entry_said repeat_rules
     es) c.args.found.faults.items) said.0
-    ∙ ap (λ (fs : List Fault). merged (repeat_faults entry_line entry_range entry_said repeat_rules
-    (accepted file)) fs) said.1
+    ∙ ap (λ (fs : List LineNote). merged (repeat_faults entry_line entry_range entry_said
+    repeat_rules (accepted file)) fs) said.1
     ∙ faults_are file in
-    let notes =
-    c.of-3.ensures ∙ c.in_ok-notes.ensures
-    ∙ ap (λ u. map (note_of u) c.as_slice.result.now) c.in_ok-url.ensures
-    ∙ ap (λ (fs : List Fault). map (note_of c.args.url.now) fs) faults in
     feed_in_form file c.args.url.now _ _ _ c.in_ok-url.ensures entries notes
 
 pub returns-clause-read : goal.returns-clause-read
@@ -37,17 +33,13 @@ returns-clause-read c file said =
     let url = c.in_ok-url.ensures in
     let entries = c.of-2.ensures ∙ c.in_ok-judged.ensures.rows ∙ ap (λ (es : List Entry).
     kept entry_line entry_range entry_said es) said.0 in
-    let faults =
-    c.as_slice.ensures.value ∙ c.in_ok-judged.ensures.faults
+    let notes =
+    c.of-3.ensures ∙ c.in_ok-judged.ensures.faults
     ∙ ap (λ (es : List Entry). merged (repeat_faults entry_line entry_range entry_said repeat_rules
     es) c.args.found.faults.items) said.0
-    ∙ ap (λ (fs : List Fault). merged (repeat_faults entry_line entry_range entry_said repeat_rules
-    (accepted file)) fs) said.1
+    ∙ ap (λ (fs : List LineNote). merged (repeat_faults entry_line entry_range entry_said
+    repeat_rules (accepted file)) fs) said.1
     ∙ faults_are file in
-    let notes =
-    c.of-3.ensures ∙ c.in_ok-notes.ensures
-    ∙ ap (λ u. map (note_of u) c.as_slice.result.now) c.in_ok-url.ensures
-    ∙ ap (λ (fs : List Fault). map (note_of c.args.url.now) fs) faults in
     λ i. record { url = url i; entries = entries i; notes = notes i }
 
 pub returns-clause-clean : goal.returns-clause-clean

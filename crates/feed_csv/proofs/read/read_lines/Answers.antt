@@ -1,6 +1,6 @@
 -- The reader stands before the first line, and each line takes what it handed over.
 use Rattle.std.proofs.Common.{◌∷◌, ◌++◌, ◌∙◌, Bor, List, ℕ, Some, ap, sym, subst, filter_map, arith}
-use Rattle.csv_lines.specs.Rests.{Stands, all_handed, handed}
+use Rattle.csv_lines.specs.Rests.{StandsIf, all_handed, handed}
 use Rattle.csv_lines.proofs.OrderLemmas.{one_more}
 use Rattle.line_parts.proofs.GatherLemmas.{of_text}
 use Rattle.feed_csv.specs.File.{entry_of, fault_of}
@@ -48,6 +48,6 @@ loop-line-preserved c =
       few = taken.within;
       stands =
           taken.stands (all_handed c.next.new.self)
-          (subst (λ (lines : List (ℕ × List ℕ)). Stands (λ (s : Bor (List ℕ)). Some s.now)
+          (subst (λ (lines : List (ℕ × List ℕ)). StandsIf (λ (s : Bor (List ℕ)). Some s.now)
           c.loop-line.reader (all_handed lines)) step inv.stands);
     }

@@ -1,7 +1,7 @@
 -- What was found and what the lines that are left give is what the whole part gives;
 -- the reader stands before the next of them.
 use Rattle.std.proofs.Common.{◌≡◌, ◌≤◌, ◌++◌, length, filter_map, Some}
-use Rattle.csv_lines.specs.Rests.{Stands, all_handed}
+use Rattle.csv_lines.specs.Rests.{StandsIf, all_handed}
 use Rattle.feed_csv.specs.File.{entry_of, fault_of}
 use Rattle.feed_csv.specs.Parts.{accepted_in, refused_in}
 use Rattle.feed_csv.proofs.read.read_lines.Given as goal
@@ -13,5 +13,5 @@ invariant-loop-line l = record {
   entries : l.found.entries.items ++ filter_map entry_of l.line-iterator ≡ accepted_in l.part;
   faults : l.found.faults.items ++ filter_map fault_of l.line-iterator ≡ refused_in l.part;
   few : length l.found.entries.items ≤ l.limit;
-  stands : Stands (λ s. Some s.now) l.reader (all_handed l.line-iterator);
+  stands : StandsIf (λ s. Some s.now) l.reader (all_handed l.line-iterator);
 }

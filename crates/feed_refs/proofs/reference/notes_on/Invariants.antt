@@ -5,5 +5,5 @@ use Rattle.feed_refs.proofs.reference.notes_on.Given as goal
 
 abbrev pub invariant-loop-attribute : goal.invariant-loop-attribute
 invariant-loop-attribute l =
-    l.notes.items ++ notes_from l.slot l.kind l.used l.seen (drop l.attribute-index l.parts) ≡
-    notes_from l.slot l.kind l.used false l.parts
+    l.notes.items ++ notes_from l.kind l.used l.seen (drop l.attribute-index l.parts) ≡
+    notes_from l.kind l.used false l.parts

@@ -1,11 +1,12 @@
 -- One part more.
 use Rattle.std.proofs.Common.{◌≡◌, ◌∷◌, ◌++◌, [], List, All, arith, ap, eqb, length, rules}
-use Rattle.std.proofs.Common.{subst, sym}
+use Rattle.std.proofs.Common.{◌∙◌, refl, subst, sym}
 use Rattle.std.proofs.lemmas.List.{length-append}
 use Rattle.std.proofs.lemmas.List.Elements.{All-nil, All-push}
 use Rattle.std.proofs.lemmas.List.Sums.{count_by-le-length}
-use Rattle.line_parts.specs.Parts.{EndsBehind}
+use Rattle.line_parts.specs.Parts.{AreCut, EndsBehind}
 use Rattle.line_parts.specs.declared.part.LinePart.{LinePart}
+use Rattle.line_parts.proofs.CutLemmas.{AreCut-more}
 use Rattle.line_parts.proofs.PartLemmas.{behind_none, one_part}
 use Rattle.line_parts.proofs.cut.parts_of.Goals as goal
 use Rattle.geo_addr.specs.Lines.{numbered_lines}
@@ -13,6 +14,7 @@ use Rattle.geo_addr.specs.Lines.{numbered_lines}
 pub loop-left-init : goal.loop-left-init
 loop-left-init c = record {
   lines = rw c.new-parts.ensures.items (behind_none (numbered_lines c.args.file.now));
+  cut = rw c.new-parts.ensures.items refl;
   short =
       rw c.new-parts.ensures.items (All-nil (λ (p : LinePart). EndsBehind c.args.size p.text.now));
   within = omega arith;
@@ -32,8 +34,14 @@ loop-left-preserved c =
           c.count_feeds-before.result text after c.loop-left.left.now _ pushed part.ensures.before
           part.ensures.text c.count_feeds-before.ensures c.cut_behind.ensures.joined
           c.cut_behind.ensures.end c.cut_behind.ensures.unmarked inv.lines;
+      cut =
+          subst (λ (ps : List LinePart). AreCut c.args.size c.args.file.now ps after) (sym pushed)
+          (AreCut-more c.args.size c.args.file.now c.loop-left.parts.items c.loop-left.left.now
+          part.result after inv.cut (search rules)
+          (part.ensures.text ∙ c.cut_behind.ensures.first) c.cut_behind.ensures.rest);
       short =
-          subst (λ (ps : List LinePart). All (λ (p : LinePart). EndsBehind c.args.size p.text.now) ps)
+          subst
+          (λ (ps : List LinePart). All (λ (p : LinePart). EndsBehind c.args.size p.text.now) ps)
           (sym pushed) (All-push (λ (p : LinePart). EndsBehind c.args.size p.text.now)
           c.loop-left.parts.items part.result inv.short
           (subst (EndsBehind c.args.size) (sym part.ensures.text) c.cut_behind.ensures.short));

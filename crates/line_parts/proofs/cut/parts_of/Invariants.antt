@@ -2,13 +2,14 @@
 use Rattle.std.proofs.Common.{◌≡◌, ◌+◌, ◌++◌, ◌≤◌, All, length}
 use Rattle.std.specs.List.{flat_map}
 use Rattle.geo_addr.specs.Lines.{numbered_lines}
-use Rattle.line_parts.specs.Parts.{EndsBehind, behind, lines_in}
+use Rattle.line_parts.specs.Parts.{AreCut, EndsBehind, behind, lines_in}
 use Rattle.line_parts.proofs.cut.parts_of.Given as goal
 
 abbrev pub invariant-loop-left : goal.invariant-loop-left
 invariant-loop-left l = record {
   lines : flat_map lines_in l.parts.items ++ behind l.before (numbered_lines l.left)
       ≡ numbered_lines l.file;
+  cut : AreCut l.size l.file l.parts.items l.left;
   short : All (λ p. EndsBehind l.size p.text.now) l.parts.items;
   within : l.before + length l.left ≤ length l.file;
 }

@@ -1,5 +1,5 @@
 -- The lists of the parts are those of the file, which are in form.
-use Rattle.std.proofs.Common.{◌≡◌, ◌<◌, ◌∙◌, List, length, rules, subst}
+use Rattle.std.proofs.Common.{◌<◌, ◌∙◌, List, length, rules, subst}
 use Rattle.geo_terms.specs.DelegationForm.{DelegationParts}
 use Rattle.std.specs.List.{AllZip}
 use Rattle.line_parts.specs.declared.part.LinePart.{LinePart}

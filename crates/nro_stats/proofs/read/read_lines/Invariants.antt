@@ -9,5 +9,5 @@ invariant-loop-line l =
     (goal.iterator-loop-line).can_next l.line-iterator
     × (goal.iterator-loop-line).is_finite l.line-iterator
     × (l.found.rows.items ++ filter_map (row_of l.slot) l.line-iterator ≡ rows_in l.slot l.part)
-    × (l.found.notes.items ++ filter_map (note_of l.slot) l.line-iterator ≡ notes_in l.slot l.part)
+    × (l.found.notes.items ++ filter_map note_of l.line-iterator ≡ notes_in l.part)
     × (length l.found.rows.items ≤ l.limit)

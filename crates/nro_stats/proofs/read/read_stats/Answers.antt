@@ -1,6 +1,6 @@
 -- The lists are those of the file, which are in form.
 use Rattle.std.proofs.Common.{◌∙◌, ap, filter_map}
-use Rattle.nro_stats.specs.File.{note_of, notes, row_of, rows}
+use Rattle.nro_stats.specs.File.{note_of, row_of, rows}
 use Rattle.nro_stats.proofs.FileLemmas.{stats_in_form}
 use Rattle.nro_stats.proofs.read.read_stats.Goals as goal
 
@@ -11,5 +11,4 @@ invariant_of-result c =
     ∙ ap (filter_map (row_of c.in_ok-slot.slot)) c.whole.ensures
     ∙ ap (λ slot. rows slot c.args.bytes.now) c.in_ok-slot.ensures)
     (c.of-3.ensures ∙ c.in_ok-found.ensures.notes
-    ∙ ap (filter_map (note_of c.in_ok-slot.slot)) c.whole.ensures
-    ∙ ap (λ slot. notes slot c.args.bytes.now) c.in_ok-slot.ensures)
+    ∙ ap (filter_map note_of) c.whole.ensures)

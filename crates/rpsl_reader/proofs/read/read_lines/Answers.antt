@@ -10,8 +10,8 @@ returns-in_default-clause-found c =
     (open_group c.each.gathered)
     (open_group c.take.new.self) c.each.left.now c.each.found.items c.take.new.found.items
     c.text_of.ensures c.in_ok-take.ensures.group c.in_ok-take.ensures.found
-    (all_before c.each.left.now c.cut_line.result.0.now c.cut_line.result.1 10 c.cut_line.ensures.joined
-    c.in_default.is c.cut_line.ensures.free)
+    (all_before c.each.left.now c.cut_line.result.0.now c.cut_line.result.1 10
+    c.cut_line.ensures.joined c.in_default.is c.cut_line.ensures.free)
     ∙ c.each.invariant.found
 
 pub returns-in_default-clause-state : goal.returns-in_default-clause-state
@@ -19,8 +19,8 @@ returns-in_default-clause-state c =
     sym c.each.invariant.state
     ∙ end_state c.each.lines c.each.line.now c.text_of.result.now (open_group c.each.gathered)
     (open_group c.take.new.self) c.each.left.now c.text_of.ensures c.in_ok-take.ensures.group
-    (all_before c.each.left.now c.cut_line.result.0.now c.cut_line.result.1 10 c.cut_line.ensures.joined
-    c.in_default.is c.cut_line.ensures.free)
+    (all_before c.each.left.now c.cut_line.result.0.now c.cut_line.result.1 10
+    c.cut_line.ensures.joined c.in_default.is c.cut_line.ensures.free)
 
 pub each-preserved : goal.each-preserved
 each-preserved c =

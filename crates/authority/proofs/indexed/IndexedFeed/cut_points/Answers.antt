@@ -3,7 +3,7 @@ use Rattle.std.proofs.Common.{◌-◌, ◌^◌, ◌↔◌, List, map, subst}
 use Rattle.std.specs.Prelude.{Contains}
 use Rattle.geo_addr.specs.Ranges.{IsCut, IsWithin, range_of_block}
 use Rattle.geo_terms.specs.SourceForm.{FeedParts}
-use Rattle.geo_terms.specs.declared.boundaries.Boundary.{Boundary}
+use Rattle.geo_terms.specs.declared.firsts.boundaries.Boundary.{Boundary}
 use Rattle.geo_terms.specs.declared.statement.Entry.{Entry}
 use Rattle.authority.proofs.indexed.IndexedFeed.cut_points.Goals as goal
 
@@ -11,7 +11,8 @@ pub returns-clause-exact : goal.returns-clause-exact
 returns-clause-exact c k =
     let stand = c.self.invariant.cuts k in
     let same : Contains c.in_ok-points.points.items k
-    ↔ Contains (map (λ (b : Boundary). b.at) c.deref.result.now) k = c.in_ok-points.ensures.same k in
+    ↔ Contains (map (λ (b : Boundary). b.at) c.deref.result.now) k =
+    c.in_ok-points.ensures.same k in
     let here =
     subst (λ (bs : List Boundary). Contains c.in_ok-points.points.items k
     ↔ Contains (map (λ (b : Boundary). b.at) bs) k) c.deref.ensures same in

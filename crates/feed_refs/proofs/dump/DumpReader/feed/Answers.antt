@@ -4,9 +4,11 @@ use Rattle.geo_terms.specs.declared.source.SourceFault.TheVariants.{TooLong, Too
 use Rattle.rpsl_reader.specs.Reading.{Fed, given}
 use Rattle.feed_refs.specs.Dumps.{longest, most}
 use Rattle.feed_refs.specs.Readings.{Kept}
-use Rattle.feed_refs.proofs.FeedLemmas.{cut_is, fault_found, fault_held, fault_read, fed-le-longest}
+use Rattle.feed_refs.proofs.FeedLemmas.{behind_fault, cut_is, fault_found, fault_held}
+use Rattle.feed_refs.proofs.FeedLemmas.{fault_read, fed-le-longest}
 use Rattle.feed_refs.proofs.FeedLemmas.{held_on, is_faulty, is_whole, leads_long, leads_many}
-use Rattle.feed_refs.proofs.FeedLemmas.{leads_on, length-cut-le, notes_are, read_on, refs_are}
+use Rattle.feed_refs.proofs.FeedLemmas.{leads_on, length-cut-le, no_fault, notes_are}
+use Rattle.feed_refs.proofs.FeedLemmas.{read_on, refs_are}
 use Rattle.feed_refs.proofs.dump.DumpReader.feed.Goals as goal
 
 pub returns-in-Some-clause-read : goal.returns-in-Some-clause-read
@@ -32,6 +34,18 @@ returns-in-Some-clause-answer c = λ ne text h.
     (fault_read c.self.inside.slot c.in-Some.fault c.args.self.now
     (is_faulty c.self.inside.slot k c.self.inside.fault c.in-Some.fault c.in-Some.is c.args.self.now
     c.self.view_is) text c.args.piece.now h).1
+
+pub returns-in-Some-clause-refused : goal.returns-in-Some-clause-refused
+returns-in-Some-clause-refused c =
+    let k : Kept =
+    record {
+      reader = c.self.inside.reader;
+      refs = c.self.inside.found.refs.items;
+      notes = c.self.inside.found.notes.items;
+    } in
+    behind_fault c.self.inside.slot c.in-Some.fault c.args.self.now
+    (is_faulty c.self.inside.slot k c.self.inside.fault c.in-Some.fault c.in-Some.is c.args.self.now
+    c.self.view_is) _ (refl, refl)
 
 pub see-requires : goal.see-requires
 see-requires c =
@@ -392,3 +406,36 @@ returns-clause-answer c = λ ne text h.
     (c.join.ensures.notes ∙ ap (λ t. t ++ c.in_ok-more.more.notes.items) c.reserve.ensures.notes) in
     (read_on c.self.inside.slot k c.self.inside.fault c.in_default.is c.args.piece.now next leads
     c.args.self.now c.self.view_is text h).1
+
+pub returns-then-len-gt-MOST-clause-refused : goal.returns-then-len-gt-MOST-clause-refused
+returns-then-len-gt-MOST-clause-refused c =
+    let k : Kept =
+    record {
+      reader = c.self.inside.reader;
+      refs = c.self.inside.found.refs.items;
+      notes = c.self.inside.found.notes.items;
+    } in
+    no_fault c.self.inside.slot k c.self.inside.fault c.in_default.is c.args.self.now
+    c.self.view_is _
+
+pub returns-then-within-piece-clause-refused : goal.returns-then-within-piece-clause-refused
+returns-then-within-piece-clause-refused c =
+    let k : Kept =
+    record {
+      reader = c.self.inside.reader;
+      refs = c.self.inside.found.refs.items;
+      notes = c.self.inside.found.notes.items;
+    } in
+    no_fault c.self.inside.slot k c.self.inside.fault c.in_default.is c.args.self.now
+    c.self.view_is _
+
+pub returns-clause-refused : goal.returns-clause-refused
+returns-clause-refused c =
+    let k : Kept =
+    record {
+      reader = c.self.inside.reader;
+      refs = c.self.inside.found.refs.items;
+      notes = c.self.inside.found.notes.items;
+    } in
+    no_fault c.self.inside.slot k c.self.inside.fault c.in_default.is c.args.self.now
+    c.self.view_is _

@@ -5,23 +5,35 @@ use Rattle.geo_terms.specs.SourceForm.{DumpParts}
 use Rattle.rpsl_reader.specs.Reading.{last}
 use Rattle.rpsl_reader.specs.Selections.{wanted}
 use Rattle.feed_refs.specs.Readings.{Kept}
-use Rattle.feed_refs.proofs.FeedLemmas.{ends_in_form, ends_many, ends_ok, ends_read, fault_dump}
-use Rattle.feed_refs.proofs.FeedLemmas.{is_faulty, notes_are, refs_are}
+use Rattle.feed_refs.proofs.FeedLemmas.{behind_fault, ends_in_form, ends_many, ends_ok}
+use Rattle.feed_refs.proofs.FeedLemmas.{ends_read, fault_dump}
+use Rattle.feed_refs.proofs.FeedLemmas.{is_faulty, no_fault, notes_are, refs_are}
 use Rattle.feed_refs.proofs.dump.DumpReader.finish.Goals as goal
 
-pub returns-in-Some : goal.returns-in-Some
-returns-in-Some c = λ ne text h.
+pub returns-in-Some-clause-answer : goal.returns-in-Some-clause-answer
+returns-in-Some-clause-answer c = λ ne text h.
     let k : Kept =
     record {
       reader = c.self.inside.reader;
       refs = c.self.inside.found.refs.items;
       notes = c.self.inside.found.notes.items;
     } in
-    fault_dump c.self.inside.slot c.in-Some.fault c.args.self (is_faulty c.self.inside.slot k
-    c.self.inside.fault c.in-Some.fault c.in-Some.is c.args.self c.self.view_is) text h
+    fault_dump c.self.inside.slot c.in-Some.refusal c.args.self (is_faulty c.self.inside.slot k
+    c.self.inside.fault c.in-Some.refusal c.in-Some.is c.args.self c.self.view_is) text h
 
-pub returns-in_err-whole : goal.returns-in_err-whole
-returns-in_err-whole c = λ ne text h.
+pub returns-in-Some-clause-refused : goal.returns-in-Some-clause-refused
+returns-in-Some-clause-refused c =
+    let k : Kept =
+    record {
+      reader = c.self.inside.reader;
+      refs = c.self.inside.found.refs.items;
+      notes = c.self.inside.found.notes.items;
+    } in
+    behind_fault c.self.inside.slot c.in-Some.refusal c.args.self (is_faulty c.self.inside.slot k
+    c.self.inside.fault c.in-Some.refusal c.in-Some.is c.args.self c.self.view_is) _ refl
+
+pub returns-in_err-whole-clause-answer : goal.returns-in_err-whole-clause-answer
+returns-in_err-whole-clause-answer c = λ ne text h.
     let k : Kept =
     record {
       reader = c.self.inside.reader;
@@ -65,8 +77,8 @@ invariant_of-result c =
     c.self.inside.fault c.in_default.is c.self.invariant.fed d refl
     (c.of.ensures ∙ c.in_ok-whole.ensures.refs) c.of-2.ensures
 
-pub returns : goal.returns
-returns c = λ ne text h.
+pub returns-clause-answer : goal.returns-clause-answer
+returns-clause-answer c = λ ne text h.
     let k : Kept =
     record {
       reader = c.self.inside.reader;
@@ -89,3 +101,25 @@ returns c = λ ne text h.
     c.in_ok-whole.whole.notes.items (ap (λ t. k.notes ++ t) told) c.in_ok-whole.ensures.notes
     c.in_ok-whole.ensures.few d refl (c.of.ensures ∙ c.in_ok-whole.ensures.refs) c.of-2.ensures)
     text h
+
+pub returns-in_err-whole-clause-refused : goal.returns-in_err-whole-clause-refused
+returns-in_err-whole-clause-refused c =
+    let k : Kept =
+    record {
+      reader = c.self.inside.reader;
+      refs = c.self.inside.found.refs.items;
+      notes = c.self.inside.found.notes.items;
+    } in
+    no_fault c.self.inside.slot k c.self.inside.fault c.in_default.is c.args.self
+    c.self.view_is _
+
+pub returns-clause-refused : goal.returns-clause-refused
+returns-clause-refused c =
+    let k : Kept =
+    record {
+      reader = c.self.inside.reader;
+      refs = c.self.inside.found.refs.items;
+      notes = c.self.inside.found.notes.items;
+    } in
+    no_fault c.self.inside.slot k c.self.inside.fault c.in_default.is c.args.self
+    c.self.view_is _

@@ -1,9 +1,7 @@
-use Rattle.std.proofs.Common.{ℕ, List, length, take, map as map_list, refl, sym, ap, ◌∙◌}
-use Rattle.std.specs.Global.{Vec}
-use Rattle.std.proofs.lemmas.List.{length-map}
+use Rattle.std.proofs.Common.{ℕ, List, length, take, ap, ◌∙◌}
 use Rattle.mmdb_data.specs.View.{value_tree}
 use Rattle.mmdb_data.specs.Packing.{Packed, in_full}
-use Rattle.mmdb_data.specs.Section.{entry_view, packed_of}
+use Rattle.mmdb_data.specs.Section.{packed_of}
 use Rattle.mmdb_data.proofs.Appending.{packed_is, cut_back, put_reads}
 use Rattle.mmdb_data.proofs.packer.Packer.put.Goals as goal
 
@@ -22,11 +20,7 @@ returns-in-Err-clause-refused c =
     let new : Packed = packed_of c.append_top.new.section in
     let len = c.len-len.result in
     let count = c.len-count.result in
-    let back = cut_back old new c.append_top.new.section.full.entries len count
-    c.in-Err.ensures.kept refl (c.len-len.ensures ∙ c.self.inside.section.bytes.ok.0)
-    (c.len-count.ensures.len ∙ sym (length-map c.self.inside.section.full.entries entry_view)) in
-    ap (λ (x : List ℕ). packed_is x (map_list entry_view c.truncate-in-Err.new.self.entries))
-    c.truncate.ensures.items
-    ∙ ap (λ (es : List (Vec ℕ × ℕ)). packed_is (take len new.bytes) (map_list entry_view es))
-    c.truncate-in-Err.ensures.entries
-    ∙ back ∙ c.self.view_is
+    let back = cut_back old new len count c.in-Err.ensures.kept
+    (c.len-len.ensures ∙ c.self.inside.section.bytes.ok.0) c.len-count.ensures in
+    ap (λ (x : List ℕ). packed_is x c.truncate-in-Err.new.self) c.truncate.ensures.items
+    ∙ ap (packed_is (take len new.bytes)) c.truncate-in-Err.ensures ∙ back ∙ c.self.view_is

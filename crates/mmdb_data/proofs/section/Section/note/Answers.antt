@@ -2,5 +2,6 @@ use Rattle.mmdb_data.proofs.Appending.{noted_is}
 use Rattle.mmdb_data.proofs.section.Section.note.Goals as goal
 
 pub returns-clause-noted : goal.returns-clause-noted
-returns-clause-noted c = noted_is _ c.args.self.now.full.entries _ c.args.spelled c.args.at
-    c.requires c.in_ok-insert.ensures.entries
+returns-clause-noted c =
+    noted_is _ c.args.self.now.full _ c.args.spelled.items c.args.at c.requires
+    c.in_ok-push.ensures.pushed
