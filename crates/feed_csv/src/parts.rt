@@ -3,6 +3,7 @@ ghost use Rattle.std.specs.Prelude.{◌≡◌, ◌<◌, ◌≤◌, ◌↔◌, �
 ghost use Rattle.std.specs.List.{flat_map};
 ghost use Rattle.feed_csv.specs.File.{AreClean, accepted, feed, longest, most};
 ghost use Rattle.feed_csv.specs.Parts.{found_entries, found_faults};
+ghost use Rattle.feed_csv.specs.declared.parts.TheConstants.{FEED_PART, LONGEST_PART};
 
 use crate::read::{Found, LONGEST_FEED, MOST, feed_of, read_lines};
 use fan_work::{Forks, Work, map_pieces};
@@ -16,6 +17,10 @@ use std::thread::Threads;
 
 /// The least bytes of a part before others: a feed of at most so many is one part.
 pub const FEED_PART: usize = 262_144;
+
+/// The most bytes after which a part ends with its line: when what was found in all parts is put
+/// together, what was found in one stands there twice.
+const LONGEST_PART: usize = 4_194_304;
 
 /// Work that reads the lines of a part of a feed, which has `size` bytes.
 #[derive(Drop)]
@@ -45,8 +50,8 @@ impl<'a> Work<LinePart<'a>, Found> for PartReading {
 
 /// Reads a geofeed as `read_feed` does, by parts of it side by side.
 ///
-/// Each part but the last has at least `FEED_PART` bytes. Whether too many lines pass the line
-/// rules is asked once all are read.
+/// Each part but the last has at least `FEED_PART` bytes, and a long feed has more parts than there
+/// are pieces. Whether too many lines pass the line rules is asked once all are read.
 pub fn read_feed_by_parts<R: Threads + Sync, G: Gate>(
     forks: &Forks<R, G>,
     url: &str,
@@ -61,7 +66,7 @@ pub fn read_feed_by_parts<R: Threads + Sync, G: Gate>(
     if bytes.len() > LONGEST_FEED {
         return Err(SourceFault::TooLong);
     }
-    let size = (bytes.len() / forks.pieces as usize).max(FEED_PART);
+    let size = part_size(bytes.len(), forks.pieces as usize);
     let parts = parts_of(forks.alloc, bytes, size)?;
     let work = PartReading {
         alloc: forks.alloc,
@@ -81,6 +86,16 @@ pub fn read_feed_by_parts<R: Threads + Sync, G: Gate>(
     }
     let feed = feed_of(forks.alloc, url, all)?;
     Ok(feed)
+}
+
+// After how many bytes a part of a feed of `size` bytes ends, so that each piece has as many parts.
+fn part_size(size: usize, pieces: usize) -> usize
+    requires { 0 < pieces }
+    ensures { (FEED_PART ≤ result) × (result ≤ LONGEST_PART) }
+{
+    let share = size / pieces;
+    let rounds = share / LONGEST_PART + 1;
+    (share / rounds).clamp(FEED_PART, LONGEST_PART)
 }
 
 // What was found in all parts.
