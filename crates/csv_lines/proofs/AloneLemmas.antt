@@ -18,8 +18,8 @@ use Rattle.geo_addr.specs.Ranges.{Ends}
 use Rattle.geo_terms.specs.Report.{same_ends}
 use Rattle.geo_terms.specs.declared.place.Said.{Said}
 use Rattle.csv_lines.specs.Repeats.{Rises, fate, same_range, same_said}
-use Rattle.csv_lines.specs.Seen.{IsAlone, IsSeen, Shown, ends_cmp, fate_by, held, shown}
-use Rattle.csv_lines.specs.Seen.{with_row}
+use Rattle.csv_lines.specs.Doubled.{IsAlone, IsHeld, Shown, ends_cmp, fate_by, held, shown}
+use Rattle.csv_lines.specs.Doubled.{with_row}
 use Rattle.csv_lines.specs.declared.fate.Fate.TheVariants.{Kept}
 use Rattle.csv_lines.proofs.FateLemmas.{both, ends_itself, ends_same, fate_told, get_or_same}
 use Rattle.csv_lines.proofs.FateLemmas.{member_at, said_itself}
@@ -157,7 +157,7 @@ module _ {X : Type 0} (line : X → ℕ) (range : X → Ends) (said : X → Said
 
   -- what is held of a line's range tells its fate
   pub fate_seen : (all : List X) (x : X) (i : ℕ) (s : Option Shown) → Rises 0 (map line all)
-      → i < length all → x ≡ get_or all i x → IsSeen line range said all (range x) s
+      → i < length all → x ≡ get_or all i x → IsHeld line range said all (range x) s
       → fate_by s (line x) ≡ fate line range said all x
   fate_seen all x i s up l is (inl held) =
       ap (λ t. fate_by t (line x)) held
@@ -189,6 +189,6 @@ module _ {X : Type 0} (line : X → ℕ) (range : X → Ends) (said : X → Said
   -- what is held in the end
   pub seen_all : (b : Bool) (old : Option Shown) (all : List X) (k : Ends)
       → old ≡ held b (shown line range said all k) → (b ≡ false → IsAlone k (map range all))
-      → IsSeen line range said all k old
+      → IsHeld line range said all k old
   seen_all true old all k is alone = inl is
   seen_all false old all k is alone = inr (is, alone refl)

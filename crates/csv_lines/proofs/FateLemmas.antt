@@ -27,7 +27,7 @@ use Rattle.csv_lines.specs.Repeats.{Rises, fate, fault_by, is_kept_by, kept, is_
 use Rattle.csv_lines.specs.Repeats.{is_repetition, repeat_faults, same_range, same_said}
 use Rattle.std.specs.Ordering.{is_eq}
 use Rattle.std.proofs.lemmas.Bool.Decides.{nat_tests}
-use Rattle.csv_lines.specs.Seen.{IsBelow, Shown, ends_cmp, fate_by, more, shown, with_row}
+use Rattle.csv_lines.specs.Doubled.{IsBelow, Shown, ends_cmp, fate_by, more, shown, with_row}
 use Rattle.csv_lines.specs.declared.fate.Fate.{Fate}
 use Rattle.csv_lines.specs.declared.fate.RepeatRules.{RepeatRules}
 use Rattle.csv_lines.specs.declared.fate.Fate.TheVariants.{Kept, Repeats, Differs}

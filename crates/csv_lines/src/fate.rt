@@ -11,8 +11,8 @@ ghost use Rattle.std.specs.BTreeMap.{get};
 ghost use Rattle.std.specs.BTreeSet.{contains};
 ghost use Rattle.csv_lines.specs.Repeats.{Rises, fate, fault_by, is_kept_by, kept, merged};
 ghost use Rattle.csv_lines.specs.Repeats.{repeat_faults, same_said};
-ghost use Rattle.csv_lines.specs.Seen.{IsAlone, IsBelow, IsSeen, Shown, ends_cmp, fate_by, held};
-ghost use Rattle.csv_lines.specs.Seen.{with_row};
+ghost use Rattle.csv_lines.specs.Doubled.{IsAlone, IsBelow, IsHeld, Shown, ends_cmp, fate_by, held};
+ghost use Rattle.csv_lines.specs.Doubled.{with_row};
 ghost use Rattle.csv_lines.specs.declared.fate.Fate.{Fate};
 
 use crate::fault::merged;
@@ -186,16 +186,17 @@ fn fates<T: Accepted>(alloc: Global, rows: &[T]) -> Result<Vec<Fate>, Memory>
     Ok(fates)
 }
 
-// The first line of a range, and whether a later one differs from it.
+// What is held of a range that more than one line has: its first line, what that says, and whether
+// a later one differs.
 #[derive(Debug, Drop)]
-struct Seen<'a> {
+struct Doubled<'a> {
     line: u64,
     said: &'a Said,
     differs: bool,
 }
 
-impl<'a> Model for Seen<'a> {
-    ghost use Rattle.csv_lines.specs.Seen.{Shown};
+impl<'a> Model for Doubled<'a> {
+    ghost use Rattle.csv_lines.specs.Doubled.{Shown};
 
     ghost Value = { Shown };
 
@@ -205,12 +206,12 @@ impl<'a> Model for Seen<'a> {
 // What the lines show, by their ranges, of the ranges that more than one line has.
 //
 // Few files have any, and a sort finds them in less time than a map of all ranges takes.
-fn seen_in<T: Accepted>(alloc: Global, rows: &[T]) -> Result<BTreeMap<Range, Seen<'_>>, Memory>
+fn seen_in<T: Accepted>(alloc: Global, rows: &[T]) -> Result<BTreeMap<Range, Doubled<'_>>, Memory>
     ensures { IfOk result (λ seen. (k : Ends)
-        → IsSeen T.line T.range T.said rows.now k (get ends_cmp seen k)) }
+        → IsHeld T.line T.range T.said rows.now k (get ends_cmp seen k)) }
 {
     let doubled = doubled_in(alloc, rows)?;
-    let mut seen: BTreeMap<Range, Seen<'_>> = BTreeMap::new(alloc);
+    let mut seen: BTreeMap<Range, Doubled<'_>> = BTreeMap::new(alloc);
     for row in rows {
         see_doubled(&doubled, &mut seen, row)?;
     }
@@ -220,7 +221,7 @@ fn seen_in<T: Accepted>(alloc: Global, rows: &[T]) -> Result<BTreeMap<Range, See
 // Takes one more line, if its range is one of these.
 fn see_doubled<'a, T: Accepted>(
     doubled: &BTreeSet<Range>,
-    seen: &mut BTreeMap<Range, Seen<'a>>,
+    seen: &mut BTreeMap<Range, Doubled<'a>>,
     row: &'a T,
 ) -> Result<(), Memory>
     ensures { (k : Ends) (s : Option Shown)
@@ -288,7 +289,7 @@ fn add(doubled: &mut BTreeSet<Range>, range: Range) -> Result<(), Memory>
 }
 
 // Takes one more line.
-fn see<'a, T: Accepted>(seen: &mut BTreeMap<Range, Seen<'a>>, row: &'a T) -> Result<(), Memory>
+fn see<'a, T: Accepted>(seen: &mut BTreeMap<Range, Doubled<'a>>, row: &'a T) -> Result<(), Memory>
     ensures { (k : Ends) → OnOk result (get ends_cmp seen.new k
         ≡ with_row T.line T.range T.said (get ends_cmp seen.old k) row.now k) }
 {
@@ -299,7 +300,7 @@ fn see<'a, T: Accepted>(seen: &mut BTreeMap<Range, Seen<'a>>, row: &'a T) -> Res
         }
         return Ok(());
     }
-    let first = Seen {
+    let first = Doubled {
         line: row.line(),
         said: row.said(),
         differs: false,
@@ -325,13 +326,13 @@ fn says_same(one: &Said, other: &Said) -> bool
     }
 }
 
-fn fate_in<T: Accepted>(seen: &BTreeMap<Range, Seen<'_>>, row: &T) -> Fate
+fn fate_in<T: Accepted>(seen: &BTreeMap<Range, Doubled<'_>>, row: &T) -> Fate
     ensures { result ≡ fate_by (get ends_cmp seen.now (T.range row.now)) (T.line row.now) }
 {
     fate_of(seen.get(&row.range()), row.line())
 }
 
-fn fate_of(seen: Option<&Seen<'_>>, line: u64) -> Fate
+fn fate_of(seen: Option<&Doubled<'_>>, line: u64) -> Fate
     ensures { result ≡ fate_by (option_copied seen.entry) line }
 {
     let Some(seen) = seen else {

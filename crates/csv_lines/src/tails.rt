@@ -4,7 +4,7 @@ ghost use Rattle.std.specs.List.{prefix_len};
 ghost use Rattle.csv_lines.specs.Tails.{IsCut, IsTail, SaysBare, is_word};
 
 use geo_addr::{Memory, trim_blanks};
-use geo_terms::Place;
+use geo_terms::{Place, mixed};
 use std::alloc::Global;
 use std::marker::Model;
 use std::mem;
@@ -217,10 +217,4 @@ fn last_word(text: &[u8]) -> u64 {
         word = word << 8 | u64::from(*byte);
     }
     word
-}
-
-// The halves of the product, one over the other.
-fn mixed(mark: u64) -> u64 {
-    let product = u128::from(mark) * 0x9e37_79b9_7f4a_7c15;
-    (product & 0xffff_ffff_ffff_ffff) as u64 ^ (product >> 64) as u64
 }

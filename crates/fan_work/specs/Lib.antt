@@ -1,2 +1,2 @@
-pub mod Parts
 pub mod Pieces
+pub mod Stretches

@@ -4,9 +4,9 @@
 
 mod forks;
 mod map;
-mod part;
+mod stretch;
 mod work;
 
-pub use forks::Forks;
+pub use forks::{Forks, MOST_PIECES};
 pub use map::map_pieces;
 pub use work::Work;

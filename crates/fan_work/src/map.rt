@@ -2,10 +2,11 @@
 ghost use Rattle.std.specs.Prelude.{◌≡◌, ◌≤◌, ◌<◌, map, length, ℕ, IfOk, OnOk};
 ghost use Rattle.std.specs.List.{AllZip};
 ghost use Rattle.std.specs.Thread.{IsSync, IsSend};
-ghost use Rattle.fan_work.specs.Parts.{HaveEntered, IsPart};
+ghost use Rattle.fan_work.specs.Stretches.{HaveEntered, IsStretch};
 ghost use Rattle.fan_work.specs.Pieces.{AllowsOnly, HasItems};
+ghost use Rattle.fan_work.specs.declared.forks.TheConstants.{MOST_PIECES};
 
-use crate::part::{Part, halves};
+use crate::stretch::{Stretch, halves};
 use crate::work::Work;
 use geo_addr::Memory;
 use geo_outside::Gate;
@@ -13,10 +14,10 @@ use std::alloc::Global;
 use std::marker::{Send, Sync};
 use std::thread::{Threads, join};
 
-/// The result of the work for each item, in the items' order. The items are cut into 1 to 64 pieces
-/// of equal numbers of items as far as may be: piece j has the items from `j * n / pieces` up to
-/// but not including `(j + 1) * n / pieces`, of n. Each piece that has items enters the gate before
-/// its first one, and runs on a thread of its own where one can be had.
+/// The result of the work for each item, in the items' order. The items are cut into pieces of
+/// equal numbers of items as far as may be: piece j has the items from `j * n / pieces` up to but
+/// not including `(j + 1) * n / pieces`, of n. Each piece that has items enters the gate before its
+/// first one, and runs on a thread of its own where one can be had.
 pub fn map_pieces<R: Threads + Sync, A: Sync, B: Send + Drop, W: Work<A, B>, G: Gate>(
     rt: &R,
     alloc: Global,
@@ -26,7 +27,7 @@ pub fn map_pieces<R: Threads + Sync, A: Sync, B: Send + Drop, W: Work<A, B>, G: 
     work: &W,
 ) -> Result<Vec<B>, Memory>
     requires some { 0 < pieces }
-    requires few { pieces ≤ 64 }
+    requires few { pieces ≤ MOST_PIECES }
     ensures related { IfOk result (λ v. AllZip (W.related work.now) items.now v.items) }
     // Where the relation leaves no choice, nothing tells the answer from that of one thread.
     ensures one_thread { (f : A → B) → AllowsOnly (W.related work.now) f
@@ -34,48 +35,48 @@ pub fn map_pieces<R: Threads + Sync, A: Sync, B: Send + Drop, W: Work<A, B>, G: 
     ensures entered { OnOk result ((j : ℕ) → HasItems pieces (length items.now) j
         → G.entered gate.now j) }
 {
-    let whole = Part {
+    let whole = Stretch {
         pieces,
         count: items.len(),
         from: 0,
         to: pieces,
     };
-    map_part(rt, alloc, gate, whole, items, work)
+    map_some(rt, alloc, gate, whole, items, work)
 }
 
-// The results of the items of a part: by its halves side by side, down to single pieces.
-fn map_part<R: Threads + Sync, A: Sync, B: Send + Drop, W: Work<A, B>, G: Gate>(
+// The results of the items of a stretch: by its halves side by side, down to single pieces.
+fn map_some<R: Threads + Sync, A: Sync, B: Send + Drop, W: Work<A, B>, G: Gate>(
     rt: &R,
     alloc: Global,
     gate: &G,
-    part: Part,
+    stretch: Stretch,
     items: &[A],
     work: &W,
 ) -> Result<Vec<B>, Memory>
-    requires { IsPart part (length items.now) }
+    requires { IsStretch stretch (length items.now) }
     ensures related { IfOk result (λ v. AllZip (W.related work.now) items.now v.items) }
-    ensures entered { OnOk result (HaveEntered (G.entered gate.now) part) }
+    ensures entered { OnOk result (HaveEntered (G.entered gate.now) stretch) }
 {
-    if items.is_empty() || part.to - part.from == 1 {
-        return map_piece(alloc, gate, part.from, items, work);
+    if items.is_empty() || stretch.to - stretch.from == 1 {
+        return map_piece(alloc, gate, stretch.from, items, work);
     }
-    let ((left_part, left_items), (right_part, right_items)) = halves(part, items);
+    let ((left_stretch, left_items), (right_stretch, right_items)) = halves(stretch, items);
     let (left, right) = join(
         rt,
         || -> Result<Vec<B>, Memory>
             requires { IsSync R.row × IsSync A.row × IsSync W.row × IsSync G.row × IsSend B.row
-                × IsPart left_part (length left_items.now) }
+                × IsStretch left_stretch (length left_items.now) }
             ensures related { IfOk result
                 (λ v. AllZip (W.related work.entry.now) left_items.entry.now v.items) }
-            ensures entered { OnOk result (HaveEntered (G.entered gate.entry.now) left_part) }
-        { map_part(rt, alloc, gate, left_part, left_items, work) },
+            ensures entered { OnOk result (HaveEntered (G.entered gate.entry.now) left_stretch) }
+        { map_some(rt, alloc, gate, left_stretch, left_items, work) },
         || -> Result<Vec<B>, Memory>
             requires { IsSync R.row × IsSync A.row × IsSync W.row × IsSync G.row × IsSend B.row
-                × IsPart right_part (length right_items.now) }
+                × IsStretch right_stretch (length right_items.now) }
             ensures related { IfOk result
                 (λ v. AllZip (W.related work.entry.now) right_items.entry.now v.items) }
-            ensures entered { OnOk result (HaveEntered (G.entered gate.entry.now) right_part) }
-        { map_part(rt, alloc, gate, right_part, right_items, work) },
+            ensures entered { OnOk result (HaveEntered (G.entered gate.entry.now) right_stretch) }
+        { map_some(rt, alloc, gate, right_stretch, right_items, work) },
     );
     let mut results = left?;
     let mut rest = right?;

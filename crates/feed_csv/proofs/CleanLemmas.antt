@@ -20,8 +20,8 @@ use Rattle.csv_lines.proofs.OrderLemmas.{all_members, kept_from, member_filter}
 use Rattle.csv_lines.proofs.TextLemmas.{fields_are_texts}
 use Rattle.feed_csv.specs.File.{AreClean, accepted, entries, entry_by, entry_line, entry_of}
 use Rattle.feed_csv.specs.File.{entry_range, entry_said}
-use Rattle.feed_csv.specs.Verdicts.{accepted_at, located_at, verdict, verdict_by}
-use Rattle.feed_csv.specs.declared.verdict.Verdict.TheVariants.{Broken}
+use Rattle.feed_csv.specs.Outcomes.{accepted_at, located_at, outcome, outcome_by}
+use Rattle.feed_csv.specs.declared.outcome.LineOutcome.TheVariants.{Broken}
 
 accepted_clean : (at : Prefix) (r : Result Said PlaceFault) (n : ℕ) (e : Entry)
     → ((said : Said) → r ≡ Ok said → IsCleanSaid said) → entry_by n (accepted_at at r) ≡ Some e
@@ -45,7 +45,7 @@ row_clean true row n e texts h = absurd cc
 row_clean false row n e texts h = located_clean (block_in (column 0 row)) row n e texts h
 
 content_clean : (c : Content) (line : List ℕ) (n : ℕ) (e : Entry)
-    → content_of (rest_of line) ≡ c → entry_by n (verdict_by c (row_of (rest_of line))) ≡ Some e
+    → content_of (rest_of line) ≡ c → entry_by n (outcome_by c (row_of (rest_of line))) ≡ Some e
     → IsCleanSaid e.said
 content_clean Blank line n e is h = absurd cc
 content_clean NotText line n e is h = absurd cc
@@ -55,7 +55,7 @@ content_clean Fields line n e is h =
     row_clean (is_empty (column 0 row)) row n e (fields_are_texts line is) h
 
 entry_clean : (p : ℕ × List ℕ) (e : Entry) → entry_of p ≡ Some e → IsCleanSaid e.said
-unfolding verdict
+unfolding outcome
 entry_clean p e h = content_clean (content_of (rest_of p.1)) p.1 p.0 e refl h
 
 pub entries_clean : (file : List ℕ) → AreClean (entries file)

@@ -7,9 +7,9 @@ use Rattle.line_parts.specs.declared.part.LinePart.{LinePart}
 use Rattle.line_parts.proofs.GatherLemmas.{gathered}
 use Rattle.feed_csv.specs.File.{accepted, entry_of, fault_of, refused}
 use Rattle.feed_csv.specs.Parts.{IsPartRead, found_entries, found_faults}
-use Rattle.feed_csv.specs.declared.read.Found.{Found}
+use Rattle.feed_csv.specs.declared.read.Gathered.{Gathered}
 
-module _ (file : List ℕ) (parts : List LinePart) (found : List Found)
+module _ (file : List ℕ) (parts : List LinePart) (found : List Gathered)
     (cut : flat_map lines_in parts ≡ numbered_lines file)
     (read : AllZip IsPartRead parts found) where
   pub accepted_by_parts : flat_map found_entries found ≡ accepted file

@@ -10,19 +10,19 @@ use Rattle.geo_terms.specs.declared.place.Said.TheVariants.{At}
 use Rattle.csv_lines.specs.Rests.{column, rest_of, row_of}
 use Rattle.csv_lines.specs.Tails.{IsCut, SaysBehind}
 use Rattle.csv_lines.specs.declared.rest.Content.{Content}
-use Rattle.feed_csv.specs.Verdicts.{accepted_at, located_at, verdict, verdict_by}
-use Rattle.feed_csv.specs.declared.verdict.Verdict.TheVariants.{Broken, Accepted}
+use Rattle.feed_csv.specs.Outcomes.{accepted_at, located_at, outcome, outcome_by}
+use Rattle.feed_csv.specs.declared.outcome.LineOutcome.TheVariants.{Broken, Accepted}
 
 -- a line with this tail and this block in front is accepted
-pub tail_verdict : (line first tail : List ℕ) (block : Prefix) (place : PlaceParts)
+pub tail_outcome : (line first tail : List ℕ) (block : Prefix) (place : PlaceParts)
     → IsCut line first tail → SaysBehind line first place → block_in first ≡ Ok block
-    → verdict line ≡ Accepted block (At place)
-unfolding verdict
-tail_verdict line first tail block place cut says is =
+    → outcome line ≡ Accepted block (At place)
+unfolding outcome
+tail_outcome line first tail block place cut says is =
     let row = row_of (rest_of line) in
     let some : is_empty (column 0 row) ≡ false = ap is_empty says.word ∙ cut.some in
     let at : block_in (column 0 row) ≡ Ok block = ap block_in says.word ∙ is in
-    ap (λ (c : Content). verdict_by c row) says.content
+    ap (λ (c : Content). outcome_by c row) says.content
     ∙ ap (λ (x : Bool). cond x (Broken F03) (located_at (block_in (column 0 row)) row)) some
     ∙ ap (λ (b : Result Prefix BlockFault). located_at b row) at
     ∙ ap (accepted_at block) says.said

@@ -11,9 +11,9 @@ use Rattle.csv_lines.specs.Clean.{IsCleanSaid}
 use Rattle.csv_lines.specs.Repeats.{fate, fault_by, kept}
 use Rattle.csv_lines.specs.declared.fate.RepeatRules.{RepeatRules}
 use Rattle.feed_csv.specs.declared.read.TheConstants.{LONGEST_FEED, MOST}
-use Rattle.feed_csv.specs.declared.verdict.Verdict.{Verdict}
-use Rattle.feed_csv.specs.declared.verdict.Verdict.TheVariants.{Silent, Broken, Accepted}
-use Rattle.feed_csv.specs.Verdicts.{verdict}
+use Rattle.feed_csv.specs.declared.outcome.LineOutcome.{LineOutcome}
+use Rattle.feed_csv.specs.declared.outcome.LineOutcome.TheVariants.{Silent, Broken, Accepted}
+use Rattle.feed_csv.specs.Outcomes.{outcome}
 
 abbrev pub entry_line : Entry → ℕ
 entry_line e = e.line
@@ -25,22 +25,22 @@ abbrev pub entry_said : Entry → Said
 entry_said e = e.said
 
 -- the entry of a line that passes the line rules
-abbrev pub entry_by : ℕ → Verdict → Option Entry
+abbrev pub entry_by : ℕ → LineOutcome → Option Entry
 entry_by line Silent = None
 entry_by line (Broken rule) = None
 entry_by line (Accepted block said) = Some (record { line = line; block = block; said = said })
 
 -- the fault of a line that breaks one of them
-abbrev pub fault_alone : ℕ → Verdict → Option LineNote
+abbrev pub fault_alone : ℕ → LineOutcome → Option LineNote
 fault_alone line Silent = None
 fault_alone line (Broken rule) = Some (record { line = line; rule = rule })
 fault_alone line (Accepted block said) = None
 
 abbrev pub entry_of : (ℕ × List ℕ) → Option Entry
-entry_of line = entry_by line.0 (verdict line.1)
+entry_of line = entry_by line.0 (outcome line.1)
 
 abbrev pub fault_of : (ℕ × List ℕ) → Option LineNote
-fault_of line = fault_alone line.0 (verdict line.1)
+fault_of line = fault_alone line.0 (outcome line.1)
 
 -- the lines of a file that pass the line rules
 abbrev pub accepted : List ℕ → List Entry
@@ -55,7 +55,7 @@ abbrev pub repeat_rules : RepeatRules
 repeat_rules = record { repeats = F07; differs = F08 }
 
 -- the fault of a line among the accepted ones
-abbrev pub fault_among : List Entry → ℕ → Verdict → Option LineNote
+abbrev pub fault_among : List Entry → ℕ → LineOutcome → Option LineNote
 fault_among all line Silent = None
 fault_among all line (Broken rule) = Some (record { line = line; rule = rule })
 fault_among all line (Accepted block said) =
@@ -64,7 +64,7 @@ fault_among all line (Accepted block said) =
 
 abbrev pub faults : List ℕ → List LineNote
 faults file =
-    filter_map (λ line. fault_among (accepted file) line.0 (verdict line.1)) (numbered_lines file)
+    filter_map (λ line. fault_among (accepted file) line.0 (outcome line.1)) (numbered_lines file)
 
 -- the entries of a file, in line order
 abbrev pub entries : List ℕ → List Entry

@@ -1,3 +1,3 @@
 pub mod File
+pub mod Outcomes
 pub mod Parts
-pub mod Verdicts

@@ -5,7 +5,7 @@ use Rattle.geo_terms.specs.declared.note.LineNote.{LineNote}
 use Rattle.line_parts.specs.Parts.{lines_in}
 use Rattle.line_parts.specs.declared.part.LinePart.{LinePart}
 use Rattle.feed_csv.specs.File.{accepted, entry_of, fault_of, refused}
-use Rattle.feed_csv.specs.declared.read.Found.{Found}
+use Rattle.feed_csv.specs.declared.read.Gathered.{Gathered}
 
 -- the lines of a part that pass the line rules, and the faults of the others
 abbrev pub accepted_in : LinePart → List Entry
@@ -15,18 +15,18 @@ abbrev pub refused_in : LinePart → List LineNote
 refused_in part = filter_map fault_of (lines_in part)
 
 -- what was found is what the lines of a part say by themselves
-abbrev pub IsPartRead : LinePart → Found → Type 0
+abbrev pub IsPartRead : LinePart → Gathered → Type 0
 IsPartRead part found =
     (found.entries.items ≡ accepted_in part) × (found.faults.items ≡ refused_in part)
 
 -- what was found is what the lines of a file say by themselves
-abbrev pub IsFileRead : List ℕ → Found → Type 0
+abbrev pub IsFileRead : List ℕ → Gathered → Type 0
 IsFileRead file found =
     (found.entries.items ≡ accepted file) × (found.faults.items ≡ refused file)
 
 -- what was found, as lists
-abbrev pub found_entries : Found → List Entry
+abbrev pub found_entries : Gathered → List Entry
 found_entries found = found.entries.items
 
-abbrev pub found_faults : Found → List LineNote
+abbrev pub found_faults : Gathered → List LineNote
 found_faults found = found.faults.items

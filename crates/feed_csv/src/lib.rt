@@ -1,9 +1,9 @@
 //! Reads geofeeds (RFC 8805).
 #![tactic(auto)]
 
+mod outcome;
 mod parts;
 mod read;
-mod verdict;
 
 pub use parts::{FEED_PART, read_feed_by_parts};
 pub use read::{LONGEST_FEED, read_feed};

@@ -5,18 +5,18 @@ ghost use Rattle.feed_csv.specs.File.{AreClean, accepted, feed, longest, most};
 ghost use Rattle.feed_csv.specs.Parts.{found_entries, found_faults};
 ghost use Rattle.feed_csv.specs.declared.parts.TheConstants.{FEED_PART, LONGEST_PART};
 
-use crate::read::{Found, LONGEST_FEED, MOST, feed_of, read_lines};
+use crate::read::{Gathered, LONGEST_FEED, MOST, feed_of, read_lines};
 use fan_work::{Forks, Work, map_pieces};
 use geo_addr::Memory;
 use geo_outside::Gate;
 use geo_terms::{Feed, SourceFault};
-use line_parts::{LinePart, parts_of};
+use line_parts::{LEAST_PART, LinePart, parts_of};
 use std::alloc::Global;
 use std::marker::Sync;
 use std::thread::Threads;
 
 /// The least bytes of a part before others: a feed of at most so many is one part.
-pub const FEED_PART: usize = 262_144;
+pub const FEED_PART: usize = LEAST_PART;
 
 /// The most bytes after which a part ends with its line: when what was found in all parts is put
 /// together, what was found in one stands there twice.
@@ -29,12 +29,12 @@ struct PartReading {
     size: usize,
 }
 
-impl<'a> Work<LinePart<'a>, Found> for PartReading {
+impl<'a> Work<LinePart<'a>, Gathered> for PartReading {
     ghost use Rattle.feed_csv.specs.Parts.{IsPartRead};
 
     ghost related = { λ work part found. IsPartRead part found };
 
-    fn done(&self, item: &LinePart<'a>) -> Result<Found, Memory> {
+    fn done(&self, item: &LinePart<'a>) -> Result<Gathered, Memory> {
         // The entries of the other parts come to stand behind those of the first.
         let room = if item.before == 0 {
             self.size
@@ -99,11 +99,11 @@ fn part_size(size: usize, pieces: usize) -> usize
 }
 
 // What was found in all parts.
-fn joined(alloc: Global, parts: Vec<Found>) -> Result<Found, Memory>
+fn joined(alloc: Global, parts: Vec<Gathered>) -> Result<Gathered, Memory>
     ensures entries { IfOk result (λ all. all.entries.items ≡ flat_map found_entries parts.items) }
     ensures faults { IfOk result (λ all. all.faults.items ≡ flat_map found_faults parts.items) }
 {
-    let mut all = Found {
+    let mut all = Gathered {
         entries: Vec::new(alloc),
         faults: Vec::new(alloc),
     };
@@ -114,7 +114,7 @@ fn joined(alloc: Global, parts: Vec<Found>) -> Result<Found, Memory>
 }
 
 // What was found in two parts, in the room of the first where that has any.
-fn joined_two(first: Found, second: Found) -> Result<Found, Memory>
+fn joined_two(first: Gathered, second: Gathered) -> Result<Gathered, Memory>
     ensures entries { IfOk result
         (λ all. all.entries.items ≡ first.entries.items ++ second.entries.items) }
     ensures faults { IfOk result

@@ -6,7 +6,7 @@ ghost use Rattle.feed_csv.specs.File.{AreClean, accepted, entry_of, fault_of, fe
 ghost use Rattle.feed_csv.specs.File.{most};
 ghost use Rattle.feed_csv.specs.Parts.{IsFileRead, accepted_in, refused_in};
 
-use crate::verdict::{Verdict, read_line};
+use crate::outcome::{LineOutcome, read_line};
 use csv::{ByteRecord, Reader};
 use csv_lines::{RepeatRules, Tails, all_handed, judge, reader_of};
 use geo_addr::{Line, List, Memory, Text};
@@ -26,8 +26,8 @@ const SHORT_LINE: usize = 32;
 
 /// Reads a geofeed (RFC 8805): the entries and the notes of its lines.
 ///
-/// A file is too long over 67,108,864 bytes, and has too many statements where over 2,097,152 lines
-/// pass the rules of a line by itself.
+/// A file is too long over `LONGEST_FEED` bytes, and has too many statements where over `MOST`
+/// lines pass the rules of a line by itself.
 pub fn read_feed(alloc: Global, url: &str, bytes: &[u8]) -> Result<Feed, SourceFault>
     ensures read { IfOk result (λ found. found ≡ feed url.now bytes.now) }
     ensures clean { IfOk result (λ found. AreClean found.entries) }
@@ -44,7 +44,7 @@ pub fn read_feed(alloc: Global, url: &str, bytes: &[u8]) -> Result<Feed, SourceF
 }
 
 /// The feed under this URL of what was found in a file.
-pub(crate) fn feed_of(alloc: Global, url: &str, found: Found) -> Result<Feed, Memory>
+pub(crate) fn feed_of(alloc: Global, url: &str, found: Gathered) -> Result<Feed, Memory>
     requires { (file : List ℕ) × IsFileRead file found }
     ensures read { (file : List ℕ) → IsFileRead file found
         → IfOk result (λ said. said ≡ feed url.now file) }
@@ -65,7 +65,7 @@ pub(crate) fn feed_of(alloc: Global, url: &str, found: Found) -> Result<Feed, Me
 
 /// What the lines of a part say by themselves.
 #[derive(Drop)]
-pub(crate) struct Found {
+pub(crate) struct Gathered {
     pub entries: Vec<Entry>,
     pub faults: Vec<LineNote>,
 }
@@ -87,7 +87,7 @@ pub(crate) fn read_lines(
     part: LinePart,
     size: usize,
     limit: usize,
-) -> Result<Found, SourceFault>
+) -> Result<Gathered, SourceFault>
     ensures entries { IfOk result (λ found. found.entries.items ≡ accepted_in part.entry) }
     ensures faults { IfOk result (λ found. found.faults.items ≡ refused_in part.entry) }
     ensures within { IfOk result (λ found. length found.entries.items ≤ limit) }
@@ -108,7 +108,7 @@ pub(crate) fn read_lines(
     for line in part.lines() {
         take_line(line, limit, &mut reader, &mut found)?;
     }
-    Ok(Found {
+    Ok(Gathered {
         entries: found.entries,
         faults: found.faults,
     })
@@ -152,15 +152,15 @@ fn take_line<'a>(
         &mut found.texts,
         &mut found.tails,
     )? {
-        Verdict::Silent => {}
-        Verdict::Broken(rule) => {
+        LineOutcome::Silent => {}
+        LineOutcome::Broken(rule) => {
             let fault = LineNote {
                 line: line.number,
                 rule,
             };
             found.faults.push(fault).map_err(Memory::from)?;
         }
-        Verdict::Accepted(block, said) => {
+        LineOutcome::Accepted(block, said) => {
             if found.entries.len() == limit {
                 return Err(SourceFault::TooMany);
             }

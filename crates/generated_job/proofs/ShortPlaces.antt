@@ -28,7 +28,7 @@ use Rattle.csv_lines.specs.declared.rest.Content.{Content}
 use Rattle.csv_lines.specs.declared.rest.Content.TheVariants.{Blank, NotText, NoFields, Fields}
 use Rattle.feed_csv.specs.File.{accepted, entries, entry_by, entry_line, entry_of, entry_range}
 use Rattle.feed_csv.specs.File.{entry_said}
-use Rattle.feed_csv.specs.Verdicts.{accepted_at, located_at, row_verdict, verdict, verdict_by}
+use Rattle.feed_csv.specs.Outcomes.{accepted_at, located_at, outcome, outcome_by, row_outcome}
 use Rattle.generated_job.proofs.RecordPeers.{said, unfiltered}
 
 -- a place of short texts
@@ -158,22 +158,22 @@ located_ok : (line : ℕ) (at : Result Prefix BlockFault) (row : List (List ℕ)
 located_ok line (Err fault) row = tt
 located_ok line (Ok block) row = said_ok line block row
 
-row_ok : (line : ℕ) (row : List (List ℕ)) → EntryShort (entry_by line (row_verdict row))
+row_ok : (line : ℕ) (row : List (List ℕ)) → EntryShort (entry_by line (row_outcome row))
 row_ok line row = by (is_empty (column 0 row)) refl
   where
-    by : (b : Bool) → is_empty (column 0 row) ≡ b → EntryShort (entry_by line (row_verdict row))
+    by : (b : Bool) → is_empty (column 0 row) ≡ b → EntryShort (entry_by line (row_outcome row))
     by true is = rw is tt
     by false is = rw is (located_ok line (block_in (column 0 row)) row)
 
 content_ok : (line : ℕ) (content : Content) (row : List (List ℕ))
-    → EntryShort (entry_by line (verdict_by content row))
+    → EntryShort (entry_by line (outcome_by content row))
 content_ok line Blank row = tt
 content_ok line NotText row = tt
 content_ok line NoFields row = tt
 content_ok line Fields row = row_ok line row
 
 entry_ok : (line : ℕ × List ℕ) → EntryShort (entry_of line)
-unfolding verdict
+unfolding outcome
 entry_ok line = content_ok line.0 (content_of (rest_of line.1)) (row_of (rest_of line.1))
 
 entry_short : (line : ℕ × List ℕ) (e : Entry) → entry_of line ≡ Some e → SaysShort e.said

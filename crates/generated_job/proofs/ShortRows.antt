@@ -14,8 +14,8 @@ use Rattle.geo_terms.specs.declared.note.Rule.{Rule}
 use Rattle.geo_terms.specs.declared.statement.Entry.{Entry}
 use Rattle.geo_terms.proofs.Members.{Among}
 use Rattle.nro_stats.specs.File.{row_by, row_of}
-use Rattle.nro_stats.specs.Verdicts.{fields_verdict, is_kind, is_silent, is_status, judged, placed}
-use Rattle.nro_stats.specs.Verdicts.{placed_in, range_in, record_verdict, verdict}
+use Rattle.nro_stats.specs.Outcomes.{fields_outcome, is_kind, is_silent, is_status, judged, placed}
+use Rattle.nro_stats.specs.Outcomes.{outcome, placed_in, range_in, record_outcome}
 use Rattle.nro_stats.specs.Fields.{fields, is_skipped, is_summary_line, is_version_line}
 use Rattle.generated_job.proofs.RecordPeers.{peers, said}
 use Rattle.generated_job.proofs.ShortPlaces.{IsShort, SaysShort, raised, said_short, two}
@@ -66,7 +66,7 @@ judged_short slot line country kind start value status =
     by false b c p q r = rw p tt
 
 record_short : (slot : List ℕ) (line : ℕ) (fs : List (List ℕ))
-    → RowShort (row_by slot line (record_verdict fs))
+    → RowShort (row_by slot line (record_outcome fs))
 record_short slot line [] = tt
 record_short slot line (a ∷ []) = tt
 record_short slot line (a ∷ b ∷ []) = tt
@@ -78,16 +78,16 @@ record_short slot line (registry ∷ country ∷ kind ∷ start ∷ value ∷ da
     judged_short slot line country kind start value status
 
 fields_short : (slot : List ℕ) (line : ℕ) (fs : List (List ℕ))
-    → RowShort (row_by slot line (fields_verdict fs))
+    → RowShort (row_by slot line (fields_outcome fs))
 fields_short slot line fs = by (is_version_line fs || is_summary_line fs) refl
   where
     by : (b : Bool) → is_version_line fs || is_summary_line fs ≡ b
-        → RowShort (row_by slot line (fields_verdict fs))
+        → RowShort (row_by slot line (fields_outcome fs))
     by true is = rw is tt
     by false is = rw is (record_short slot line fs)
 
 row_ok : (slot : List ℕ) (line : ℕ × List ℕ) → RowShort (row_of slot line)
-unfolding verdict
+unfolding outcome
 row_ok slot line = by (is_skipped line.1) refl
   where
     by : (b : Bool) → is_skipped line.1 ≡ b → RowShort (row_of slot line)

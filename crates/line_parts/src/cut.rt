@@ -6,6 +6,7 @@ ghost use Rattle.std.specs.Simd.Lanes.{mask_l};
 ghost use Rattle.geo_addr.specs.Lines.{byte_order_mark, numbered_lines, without_mark};
 ghost use Rattle.line_parts.specs.Parts.{AreCut, EndsBehind, EndsWithFeed, feeds, lines_in};
 ghost use Rattle.line_parts.specs.Parts.{part_end};
+ghost use Rattle.line_parts.specs.declared.cut.TheConstants.{TOGETHER};
 
 use crate::part::LinePart;
 use geo_addr::{Memory, cut_at, skip_mark};
@@ -93,9 +94,9 @@ fn count_feeds(text: &[u8]) -> u64
     count + u64::from(count_few(left))
 }
 
-// How many line feeds a text of 64 bytes has.
+// How many line feeds a text of `TOGETHER` bytes has.
 fn count_together(text: &[u8]) -> u32
-    requires { length text.now ≡ 64 }
+    requires { length text.now ≡ TOGETHER }
     ensures { result ≡ feeds text.now }
 {
     feeds_among(u8x64::from_slice(text)).count_ones()

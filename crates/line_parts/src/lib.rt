@@ -7,4 +7,4 @@ mod part;
 
 pub use cut::parts_of;
 pub use lines::PartLines;
-pub use part::LinePart;
+pub use part::{LEAST_PART, LinePart};

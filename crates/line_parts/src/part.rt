@@ -1,6 +1,9 @@
 //! A part of a file.
 ghost use Rattle.std.specs.Prelude.{◌+◌, ◌<◌, ◌^◌, length};
 
+/// The least bytes of a part before others: a file of at most so many is not worth a second thread.
+pub const LEAST_PART: usize = 262_144;
+
 /// Neighbouring lines of a file.
 #[derive(Clone, Copy, Debug)]
 pub struct LinePart<'a> {

@@ -6,9 +6,9 @@ use Rattle.geo_terms.specs.DelegationForm.{DelegationParts}
 use Rattle.geo_terms.specs.SourceForm.{IsStats}
 use Rattle.geo_terms.specs.declared.note.LineNote.{LineNote}
 use Rattle.nro_stats.specs.File.{note_by, note_of, notes, row_by, row_of, rows, stats}
-use Rattle.nro_stats.specs.Verdicts.{verdict}
-use Rattle.nro_stats.specs.declared.verdict.LineOutcome.{LineOutcome}
-use Rattle.nro_stats.specs.declared.verdict.LineOutcome.TheVariants.{Silent, Broken, Delegated}
+use Rattle.nro_stats.specs.Outcomes.{outcome}
+use Rattle.nro_stats.specs.declared.outcome.LineOutcome.{LineOutcome}
+use Rattle.nro_stats.specs.declared.outcome.LineOutcome.TheVariants.{Silent, Broken, Delegated}
 
 -- a delegation has the slot and the line that it was made with
 row_by_line : (slot : List ℕ) (line : ℕ) (v : LineOutcome) (d : DelegationParts)
@@ -27,13 +27,13 @@ in_form : (slot file : List ℕ) → IsStats (stats slot file)
 in_form slot file = record {
   slots =
       All-filter_map (row_of slot) (λ d. d.slot ≡ slot)
-      (λ l d e. (row_by_line slot l.0 (verdict l.1) d e).0) (numbered_lines file);
+      (λ l d e. (row_by_line slot l.0 (outcome l.1) d e).0) (numbered_lines file);
   ordered =
       lines_increase (row_of slot) (λ d. d.line)
-      (λ l d e. (row_by_line slot l.0 (verdict l.1) d e).1) 1 (lines_of (without_mark file));
+      (λ l d e. (row_by_line slot l.0 (outcome l.1) d e).1) 1 (lines_of (without_mark file));
   notes =
       lines_increase note_of (λ n. n.line)
-      (λ l n e. note_by_line l.0 (verdict l.1) n e) 1 (lines_of (without_mark file));
+      (λ l n e. note_by_line l.0 (outcome l.1) n e) 1 (lines_of (without_mark file));
 }
 
 -- the lists that were read are those of the file

@@ -5,9 +5,9 @@ use Rattle.geo_terms.specs.DelegationForm.{DelegationParts}
 use Rattle.geo_terms.specs.SourceForm.{StatsParts}
 use Rattle.geo_terms.specs.declared.note.LineNote.{LineNote}
 use Rattle.nro_stats.specs.declared.read.TheConstants.{LONGEST_STATS, MOST}
-use Rattle.nro_stats.specs.declared.verdict.LineOutcome.{LineOutcome}
-use Rattle.nro_stats.specs.declared.verdict.LineOutcome.TheVariants.{Silent, Broken, Delegated}
-use Rattle.nro_stats.specs.Verdicts.{verdict}
+use Rattle.nro_stats.specs.declared.outcome.LineOutcome.{LineOutcome}
+use Rattle.nro_stats.specs.declared.outcome.LineOutcome.TheVariants.{Silent, Broken, Delegated}
+use Rattle.nro_stats.specs.Outcomes.{outcome}
 
 -- the delegation that a line makes
 abbrev pub row_by : List ℕ → ℕ → LineOutcome → Option DelegationParts
@@ -23,10 +23,10 @@ note_by line (Broken rule) = Some (record { line = line; rule = rule })
 note_by line Silent = None
 
 abbrev pub row_of : List ℕ → (ℕ × List ℕ) → Option DelegationParts
-row_of slot line = row_by slot line.0 (verdict line.1)
+row_of slot line = row_by slot line.0 (outcome line.1)
 
 abbrev pub note_of : (ℕ × List ℕ) → Option LineNote
-note_of line = note_by line.0 (verdict line.1)
+note_of line = note_by line.0 (outcome line.1)
 
 -- the delegations of a file, in line order
 abbrev pub rows : (slot file : List ℕ) → List DelegationParts

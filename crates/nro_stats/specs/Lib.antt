@@ -1,4 +1,4 @@
 pub mod Fields
 pub mod File
+pub mod Outcomes
 pub mod Parts
-pub mod Verdicts

@@ -1,10 +1,10 @@
 //! Reads statistics files (NRO extended allocation and assignment report).
 #![tactic(auto)]
 
+mod outcome;
 mod parts;
 mod read;
 mod record;
-mod verdict;
 
 pub use parts::read_stats_by_parts;
 pub use read::{LONGEST_STATS, read_stats};

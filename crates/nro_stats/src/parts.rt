@@ -9,13 +9,10 @@ use fan_work::{Forks, Work, map_pieces};
 use geo_addr::{List, Memory, Text};
 use geo_outside::Gate;
 use geo_terms::{SourceFault, Stats};
-use line_parts::{LinePart, parts_of};
+use line_parts::{LEAST_PART, LinePart, parts_of};
 use std::alloc::Global;
 use std::marker::Sync;
 use std::thread::Threads;
-
-/// The least bytes of a part before others: a shorter file is read on the calling thread.
-const LEAST_PART: usize = 262_144;
 
 /// Work that reads the lines of a part of the file in a slot, which has `size` bytes.
 #[derive(Drop)]

@@ -4,7 +4,7 @@ ghost use Rattle.std.specs.Prelude.{option_to_list};
 ghost use Rattle.nro_stats.specs.File.{longest, most, note_of, row_of, rows, stats};
 ghost use Rattle.nro_stats.specs.Parts.{notes_in, rows_in};
 
-use crate::verdict::{LineOutcome, read_line};
+use crate::outcome::{LineOutcome, read_line};
 use geo_addr::{Line, List, Memory, Text};
 use geo_terms::{Delegation, LineNote, SourceFault, Stats, Texts};
 use line_parts::LinePart;

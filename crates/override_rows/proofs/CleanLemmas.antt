@@ -21,9 +21,9 @@ use Rattle.csv_lines.proofs.OrderLemmas.{all_members, kept_from, member_filter}
 use Rattle.csv_lines.proofs.TextLemmas.{fields_are_texts}
 use Rattle.override_rows.specs.File.{AreClean, accepted, row_by, row_line, row_of_line, row_range}
 use Rattle.override_rows.specs.File.{row_said, rows}
-use Rattle.override_rows.specs.Verdicts.{acted, located_at, set_at, set_by, verdict, verdict_by}
-use Rattle.override_rows.specs.declared.verdict.Verdict.{Verdict}
-use Rattle.override_rows.specs.declared.verdict.Verdict.TheVariants.{Accepted, Broken}
+use Rattle.override_rows.specs.Outcomes.{acted, located_at, set_at, set_by, outcome, outcome_by}
+use Rattle.override_rows.specs.declared.outcome.LineOutcome.{LineOutcome}
+use Rattle.override_rows.specs.declared.outcome.LineOutcome.TheVariants.{Accepted, Broken}
 
 set_clean : (range : Ends) (said : Said) (n : ℕ) (e : Override) → IsCleanSaid said
     → row_by n (set_at range said) ≡ Some e → IsCleanSaid e.said
@@ -58,7 +58,7 @@ located_clean (Ok range) row n e texts h =
     (same_text (column 1 row) (codes "set")) range row n e texts h
 
 content_clean : (c : Content) (line : List ℕ) (n : ℕ) (e : Override)
-    → content_of (rest_of line) ≡ c → row_by n (verdict_by c (row_of (rest_of line))) ≡ Some e
+    → content_of (rest_of line) ≡ c → row_by n (outcome_by c (row_of (rest_of line))) ≡ Some e
     → IsCleanSaid e.said
 content_clean Blank line n e is h = absurd cc
 content_clean NotText line n e is h = absurd cc
@@ -68,7 +68,7 @@ content_clean Fields line n e is h =
     located_clean (span_in (column 0 row)) row n e (fields_are_texts line is) h
 
 row_clean : (p : ℕ × List ℕ) (e : Override) → row_of_line p ≡ Some e → IsCleanSaid e.said
-unfolding verdict
+unfolding outcome
 row_clean p e h = content_clean (content_of (rest_of p.1)) p.1 p.0 e refl h
 
 pub rows_clean : (file : List ℕ) → AreClean (rows file)

@@ -11,9 +11,9 @@ use Rattle.csv_lines.specs.Clean.{IsCleanSaid}
 use Rattle.csv_lines.specs.Repeats.{fate, fault_by, kept}
 use Rattle.csv_lines.specs.declared.fate.RepeatRules.{RepeatRules}
 use Rattle.override_rows.specs.declared.read.TheConstants.{LONGEST_OVERRIDES, MOST}
-use Rattle.override_rows.specs.declared.verdict.Verdict.{Verdict}
-use Rattle.override_rows.specs.declared.verdict.Verdict.TheVariants.{Silent, Broken, Accepted}
-use Rattle.override_rows.specs.Verdicts.{verdict}
+use Rattle.override_rows.specs.declared.outcome.LineOutcome.{LineOutcome}
+use Rattle.override_rows.specs.declared.outcome.LineOutcome.TheVariants.{Silent, Broken, Accepted}
+use Rattle.override_rows.specs.Outcomes.{outcome}
 
 abbrev pub row_line : Override → ℕ
 row_line e = e.line
@@ -25,22 +25,22 @@ abbrev pub row_said : Override → Said
 row_said e = e.said
 
 -- the row of a line that passes the line rules
-abbrev pub row_by : ℕ → Verdict → Option Override
+abbrev pub row_by : ℕ → LineOutcome → Option Override
 row_by line Silent = None
 row_by line (Broken rule) = None
 row_by line (Accepted range said) = Some (record { line = line; range = range; said = said })
 
 -- the fault of a line that breaks one of them
-abbrev pub fault_alone : ℕ → Verdict → Option LineNote
+abbrev pub fault_alone : ℕ → LineOutcome → Option LineNote
 fault_alone line Silent = None
 fault_alone line (Broken rule) = Some (record { line = line; rule = rule })
 fault_alone line (Accepted range said) = None
 
 abbrev pub row_of_line : (ℕ × List ℕ) → Option Override
-row_of_line line = row_by line.0 (verdict line.1)
+row_of_line line = row_by line.0 (outcome line.1)
 
 abbrev pub fault_of : (ℕ × List ℕ) → Option LineNote
-fault_of line = fault_alone line.0 (verdict line.1)
+fault_of line = fault_alone line.0 (outcome line.1)
 
 -- the lines of a file that pass the line rules
 abbrev pub accepted : List ℕ → List Override
@@ -55,7 +55,7 @@ abbrev pub repeat_rules : RepeatRules
 repeat_rules = record { repeats = O07; differs = O08 }
 
 -- the fault of a line among the accepted ones
-abbrev pub fault_among : List Override → ℕ → Verdict → Option LineNote
+abbrev pub fault_among : List Override → ℕ → LineOutcome → Option LineNote
 fault_among all line Silent = None
 fault_among all line (Broken rule) = Some (record { line = line; rule = rule })
 fault_among all line (Accepted range said) =
@@ -64,7 +64,7 @@ fault_among all line (Accepted range said) =
 
 abbrev pub faults : List ℕ → List LineNote
 faults file =
-    filter_map (λ line. fault_among (accepted file) line.0 (verdict line.1)) (numbered_lines file)
+    filter_map (λ line. fault_among (accepted file) line.0 (outcome line.1)) (numbered_lines file)
 
 -- the rows of a file that speak, in line order
 abbrev pub rows : List ℕ → List Override

@@ -1,7 +1,7 @@
 //! Reads overrides: what an operator sets above all other sources.
 #![tactic(auto)]
 
+mod outcome;
 mod read;
-mod verdict;
 
 pub use read::{LONGEST_OVERRIDES, read_overrides};

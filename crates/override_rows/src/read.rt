@@ -5,7 +5,7 @@ ghost use Rattle.csv_lines.specs.Rests.{CanRead, StandsIf, handed};
 ghost use Rattle.override_rows.specs.File.{AreClean, accepted, refused, row_of_line, fault_of};
 ghost use Rattle.override_rows.specs.File.{longest, most, overrides};
 
-use crate::verdict::{Verdict, read_line};
+use crate::outcome::{LineOutcome, read_line};
 use csv::{ByteRecord, Reader};
 use csv_lines::{RepeatRules, all_handed, judge, reader_of};
 use geo_addr::{Line, Lines, List, Memory};
@@ -20,8 +20,8 @@ pub(crate) const MOST: usize = 2_097_152;
 
 /// Reads a file of overrides: the rows and the notes of its lines.
 ///
-/// A file is too long over 67,108,864 bytes, and has too many statements where over 2,097,152 lines
-/// pass the rules of a line by itself.
+/// A file is too long over `LONGEST_OVERRIDES` bytes, and has too many statements where over `MOST`
+/// lines pass the rules of a line by itself.
 pub fn read_overrides(alloc: Global, bytes: &[u8]) -> Result<Overrides, SourceFault>
     ensures read { IfOk result (λ found. found ≡ overrides bytes.now) }
     ensures clean { IfOk result (λ found. AreClean found.rows) }
@@ -46,7 +46,7 @@ pub fn read_overrides(alloc: Global, bytes: &[u8]) -> Result<Overrides, SourceFa
 
 // What is found in the lines so far.
 #[derive(Drop)]
-struct Found {
+struct Reading {
     rows: Vec<Override>,
     faults: Vec<LineNote>,
     texts: Texts,
@@ -54,7 +54,7 @@ struct Found {
 }
 
 // The rows and the faults of the lines by themselves.
-fn read_lines(alloc: Global, bytes: &[u8]) -> Result<Found, SourceFault>
+fn read_lines(alloc: Global, bytes: &[u8]) -> Result<Reading, SourceFault>
     ensures rows { IfOk result (λ found. found.rows.items ≡ accepted bytes.now) }
     ensures faults { IfOk result (λ found. found.faults.items ≡ refused bytes.now) }
     ensures within { IfOk result (λ found. length found.rows.items ≤ most) }
@@ -63,7 +63,7 @@ fn read_lines(alloc: Global, bytes: &[u8]) -> Result<Found, SourceFault>
 {
     let handed = all_handed(alloc, bytes)?;
     let mut reader = reader_of(alloc, handed.as_slice());
-    let mut found = Found {
+    let mut found = Reading {
         rows: Vec::new(alloc),
         faults: Vec::new(alloc),
         texts: Texts::new(alloc),
@@ -79,7 +79,7 @@ fn read_lines(alloc: Global, bytes: &[u8]) -> Result<Found, SourceFault>
 fn take_line(
     line: Line,
     reader: &mut Option<Reader<&[u8]>>,
-    found: &mut Found,
+    found: &mut Reading,
 ) -> Result<(), SourceFault>
     requires few { length found.old.rows.items ≤ most }
     requires reads { CanRead (λ s. Some s.now) reader.old line.text.now }
@@ -97,15 +97,15 @@ fn take_line(
     ensures too_long { result ≢ Err SourceFault.TooLong }
 {
     match read_line(reader, line.text, &mut found.row, &mut found.texts)? {
-        Verdict::Silent => {}
-        Verdict::Broken(rule) => {
+        LineOutcome::Silent => {}
+        LineOutcome::Broken(rule) => {
             let fault = LineNote {
                 line: line.number,
                 rule,
             };
             found.faults.push(fault).map_err(Memory::from)?;
         }
-        Verdict::Accepted(range, said) => {
+        LineOutcome::Accepted(range, said) => {
             if found.rows.len() == MOST {
                 return Err(SourceFault::TooMany);
             }

@@ -29,7 +29,7 @@ use Rattle.csv_lines.proofs.FateLemmas.{Apart, apart_kept, apart_silent}
 use Rattle.feed_csv.specs.File.{accepted, entry_by, entry_line, entry_of as file_entry, entry_range}
 use Rattle.feed_csv.specs.File.{entry_said, fault_alone, fault_of, faults, feed, refused}
 use Rattle.feed_csv.specs.File.{repeat_rules}
-use Rattle.feed_csv.specs.Verdicts.{verdict}
+use Rattle.feed_csv.specs.Outcomes.{outcome}
 use Rattle.feed_csv.proofs.FileLemmas.{faults_are}
 use Rattle.publish_least.specs.Lines.{AreInside, InPreorder, IsBefore, IsInside}
 use Rattle.publish_least.specs.declared.line.Line.{Line}

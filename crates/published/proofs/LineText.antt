@@ -23,7 +23,7 @@ use Rattle.csv_lines.specs.Fields.{joined, value, values_of, written}
 use Rattle.csv_lines.specs.Rests.{column, content_of, rest_of, row_of, said_in}
 use Rattle.csv_lines.specs.declared.rest.Content.TheVariants.{Blank, NotText, NoFields, Fields}
 use Rattle.csv_lines.proofs.FieldLaw.{fields_are_unique}
-use Rattle.feed_csv.specs.Verdicts.{accepted_at, located_at, row_verdict, verdict, verdict_by}
+use Rattle.feed_csv.specs.Outcomes.{accepted_at, located_at, outcome, outcome_by, row_outcome}
 use Rattle.published.specs.FeedText.{field_of, line_text, place_text, place_values}
 use Rattle.published.specs.Reread.{IsCleanAt, IsLineInForm, IsTextPlace, said_by}
 use Rattle.published.proofs.BlockBytes.{good_block, plain_block, some_block}
@@ -125,7 +125,7 @@ module _ (first c r t z : List ℕ) (plain : list_all is_plain first ≡ true)
   row_is = rw values refl
 
   row_says : (block : Prefix) (said : Said) → 0 < length first → block_in first ≡ Ok block
-      → said_of c r t z ≡ Ok said → row_verdict row ≡ accepted_at block (Ok said)
+      → said_of c r t z ≡ Ok said → row_outcome row ≡ accepted_at block (Ok said)
   row_says block said some spelt says =
       rw (
         trimmed_clean first good.0.clean,
@@ -139,8 +139,8 @@ module _ (first c r t z : List ℕ) (plain : list_all is_plain first ≡ true)
       ) refl
 
   pub line_says : (block : Prefix) (said : Said) → 0 < length first → block_in first ≡ Ok block
-      → said_of c r t z ≡ Ok said → verdict line ≡ accepted_at block (Ok said)
-  unfolding verdict
+      → said_of c r t z ≡ Ok said → outcome line ≡ accepted_at block (Ok said)
+  unfolding outcome
   line_says block said some spelt says =
       rw (rest_clean line line_good.clean, content, row_is) (row_says block said some spelt says)
 
@@ -203,7 +203,7 @@ module _ (block : Prefix) (aligned : IsBlock block) where
       (place_good p form.texts clean)
 
   pub line_reads : (place : Option PlaceParts) → IsLineInForm block place → IsCleanAt place
-      → verdict (line_text block place) ≡ accepted_at block (Ok (said_by place))
+      → outcome (line_text block place) ≡ accepted_at block (Ok (said_by place))
   line_reads None form clean =
       line_says (block_text block) [] [] [] [] (plain_block block aligned) no_place_good block
       Nothing (some_block block) form.spelt blank_says

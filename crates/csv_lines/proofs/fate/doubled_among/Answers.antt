@@ -4,7 +4,7 @@ use Rattle.std.proofs.Common.{subst, sym}
 use Rattle.std.proofs.lemmas.Bool.{false_from_ne_true}
 use Rattle.std.specs.BTreeSet.{contains}
 use Rattle.geo_addr.specs.Ranges.{Ends}
-use Rattle.csv_lines.specs.Seen.{ends_cmp}
+use Rattle.csv_lines.specs.Doubled.{ends_cmp}
 use Rattle.csv_lines.proofs.AloneLemmas.{alone_sorted, held_more, held_now, held_still}
 use Rattle.csv_lines.proofs.FateLemmas.{ends_same, get_or_same}
 use Rattle.csv_lines.proofs.fate.doubled_among.Goals as goal

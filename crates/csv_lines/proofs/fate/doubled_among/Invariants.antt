@@ -3,7 +3,7 @@ use Rattle.std.proofs.Common.{◌≡◌, ◌+◌, ◌<◌, ℕ, true, get_or}
 use Rattle.geo_addr.specs.Ranges.{Ends}
 use Rattle.geo_terms.specs.Report.{same_ends}
 use Rattle.std.specs.BTreeSet.{contains}
-use Rattle.csv_lines.specs.Seen.{ends_cmp}
+use Rattle.csv_lines.specs.Doubled.{ends_cmp}
 use Rattle.csv_lines.proofs.fate.doubled_among.Given as goal
 
 abbrev pub invariant-loop-at : goal.invariant-loop-at

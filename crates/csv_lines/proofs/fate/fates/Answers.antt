@@ -2,7 +2,7 @@
 use Rattle.std.proofs.Common.{ap, ◌≡◌, ◌∙◌, ◌++◌, ◌∷◌, [], true, rules}
 use Rattle.std.specs.BTreeMap.{get}
 use Rattle.std.specs.Result.{is_ok}
-use Rattle.csv_lines.specs.Seen.{ends_cmp}
+use Rattle.csv_lines.specs.Doubled.{ends_cmp}
 use Rattle.csv_lines.proofs.AloneLemmas.{fate_seen}
 use Rattle.csv_lines.proofs.FateLemmas.{fates_more}
 use Rattle.csv_lines.proofs.fate.fates.Goals as goal

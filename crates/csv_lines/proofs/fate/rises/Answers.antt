@@ -1,7 +1,7 @@
 -- One more range above the one before.
 use Rattle.std.proofs.Common.{sym, ◌∙◌, ◌<◌, length, AllPairs, rules, arith, subst, List}
 use Rattle.std.proofs.lemmas.List.{take_all}
-use Rattle.csv_lines.specs.Seen.{IsBelow}
+use Rattle.csv_lines.specs.Doubled.{IsBelow}
 use Rattle.csv_lines.proofs.FateLemmas.{rising_more, last_range}
 use Rattle.csv_lines.proofs.fate.rises.Goals as goal
 

@@ -1,7 +1,7 @@
 -- The ranges so far rise, and the last of them is at hand.
 use Rattle.std.proofs.Common.{◌≡◌, ◌<◌, ◌-◌, AllPairs, get_or, take}
 use Rattle.std.specs.Prelude.{MatchOption}
-use Rattle.csv_lines.specs.Seen.{IsBelow}
+use Rattle.csv_lines.specs.Doubled.{IsBelow}
 use Rattle.csv_lines.proofs.fate.rises.Given as goal
 
 abbrev pub invariant-loop-row : goal.invariant-loop-row

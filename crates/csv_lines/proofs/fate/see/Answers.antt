@@ -1,7 +1,7 @@
 -- A line of a new range is its first.
 use Rattle.std.proofs.Common.{sym, true, false, ap, ◌≡◌, ◌∙◌, cond, Some, rules}
 use Rattle.std.specs.BTreeMap.{get}
-use Rattle.csv_lines.specs.Seen.{ends_cmp, Shown}
+use Rattle.csv_lines.specs.Doubled.{ends_cmp, Shown}
 use Rattle.csv_lines.specs.Repeats.{same_said}
 use Rattle.csv_lines.proofs.FateLemmas.{differs_now, ends_tie, found_row, new_row}
 use Rattle.csv_lines.proofs.fate.see.Goals as goal

@@ -3,7 +3,7 @@ use Rattle.std.proofs.Common.{◌≡◌, true, false, subst, rules}
 use Rattle.std.specs.BTreeMap.{get}
 use Rattle.std.specs.BTreeSet.{contains}
 use Rattle.geo_addr.specs.Ranges.{Ends}
-use Rattle.csv_lines.specs.Seen.{ends_cmp}
+use Rattle.csv_lines.specs.Doubled.{ends_cmp}
 use Rattle.csv_lines.proofs.AloneLemmas.{passed_row, taken_row}
 use Rattle.csv_lines.proofs.FateLemmas.{ends_same}
 use Rattle.csv_lines.proofs.fate.see_doubled.Goals as goal

@@ -3,7 +3,7 @@ use Rattle.std.proofs.Common.{◌∙◌, ◌<◌, List, ap, length, rules, sym, 
 use Rattle.std.proofs.lemmas.List.{take_all}
 use Rattle.std.specs.BTreeMap.{get}
 use Rattle.std.specs.BTreeSet.{contains}
-use Rattle.csv_lines.specs.Seen.{ends_cmp, held, shown, with_row}
+use Rattle.csv_lines.specs.Doubled.{ends_cmp, held, shown, with_row}
 use Rattle.csv_lines.proofs.AloneLemmas.{seen_all}
 use Rattle.csv_lines.proofs.FateLemmas.{shown_more}
 use Rattle.csv_lines.proofs.fate.seen_in.Goals as goal

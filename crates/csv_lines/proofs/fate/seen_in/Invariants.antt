@@ -3,7 +3,7 @@ use Rattle.std.proofs.Common.{◌≡◌, take}
 use Rattle.geo_addr.specs.Ranges.{Ends}
 use Rattle.std.specs.BTreeMap.{get}
 use Rattle.std.specs.BTreeSet.{contains}
-use Rattle.csv_lines.specs.Seen.{ends_cmp, held, shown}
+use Rattle.csv_lines.specs.Doubled.{ends_cmp, held, shown}
 use Rattle.csv_lines.proofs.fate.seen_in.Given as goal
 
 abbrev pub invariant-loop-row : goal.invariant-loop-row

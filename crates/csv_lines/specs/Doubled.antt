@@ -1,4 +1,4 @@
--- How lines of the same range are found: by the first line of each range.
+-- How lines of the same range are found: by what is held of the ranges that more than one line has.
 use Rattle.std.specs.Prelude.{◌≡◌, ℕ, ◌<◌, ◌⊎◌, Bool, false, not, ◌||◌, nat_lt, List, fold, Option}
 use Rattle.std.specs.Prelude.{Some, None, map, ◌&&◌, if◌then◌else◌}
 use Rattle.std.specs.List.{IsDistinct}
@@ -58,5 +58,5 @@ module _ {X : Type 0} (line : X → ℕ) (range : X → Ends) (said : X → Said
   shown rows k = fold (λ s x. with_row s x k) None rows
 
   -- what is held of a range: what the lines show of it, or nothing where at most one line has it
-  abbrev pub IsSeen : List X → Ends → Option Shown → Type 0
-  IsSeen rows k s = (s ≡ shown rows k) ⊎ ((s ≡ None) × IsAlone k (map range rows))
+  abbrev pub IsHeld : List X → Ends → Option Shown → Type 0
+  IsHeld rows k s = (s ≡ shown rows k) ⊎ ((s ≡ None) × IsAlone k (map range rows))

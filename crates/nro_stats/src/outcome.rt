@@ -2,9 +2,9 @@
 ghost use Rattle.std.specs.Prelude.{◌≡◌, IfOk};
 ghost use Rattle.geo_addr.specs.AddressTexts.{is_six};
 ghost use Rattle.nro_stats.specs.Fields.{fields};
-ghost use Rattle.nro_stats.specs.Verdicts.{PlacesCountryAlone, is_kind, is_silent, is_status};
-ghost use Rattle.nro_stats.specs.Verdicts.{judged, placed, range_in, v4_range, v4_start, v6_range};
-ghost use Rattle.nro_stats.specs.Verdicts.{v6_start, verdict};
+ghost use Rattle.nro_stats.specs.Outcomes.{PlacesCountryAlone, is_kind, is_silent, is_status};
+ghost use Rattle.nro_stats.specs.Outcomes.{judged, outcome, placed, range_in, v4_range, v4_start};
+ghost use Rattle.nro_stats.specs.Outcomes.{v6_range, v6_start};
 
 use crate::record::{Record, is_heading, is_heading_line, is_skipped};
 use geo_addr::{Block, Memory, Range, decimal, is_aligned, is_six, parse_addr, range_of};
@@ -19,9 +19,9 @@ pub(crate) enum LineOutcome {
 }
 
 /// What a line says.
-#[tactic(auto, unfolding(crate::specs::Verdicts::verdict))]
+#[tactic(auto, unfolding(crate::specs::Outcomes::outcome))]
 pub(crate) fn read_line(texts: &mut Texts, line: &[u8]) -> Result<LineOutcome, Memory>
-    ensures verdict { IfOk result (λ found. found ≡ verdict line.now) }
+    ensures outcome { IfOk result (λ found. found ≡ outcome line.now) }
     ensures alone { IfOk result PlacesCountryAlone }
 {
     if is_skipped(line) {
@@ -36,9 +36,9 @@ pub(crate) fn read_line(texts: &mut Texts, line: &[u8]) -> Result<LineOutcome, M
 }
 
 // What a record says: the first rule that holds of it, else nothing, else a delegation.
-#[tactic(auto, unfolding(crate::specs::Verdicts::judged))]
+#[tactic(auto, unfolding(crate::specs::Outcomes::judged))]
 fn judged(texts: &mut Texts, found: &Record) -> Result<LineOutcome, Memory>
-    ensures verdict { IfOk result (λ said. said ≡ judged found.now.country.now found.now.kind.now
+    ensures outcome { IfOk result (λ said. said ≡ judged found.now.country.now found.now.kind.now
         found.now.start.now found.now.value.now found.now.status.now) }
     ensures alone { IfOk result PlacesCountryAlone }
 {
@@ -92,7 +92,7 @@ fn range_in(kind: &[u8], start: &[u8], value: &[u8]) -> Result<Range, Rule>
 }
 
 // As many addresses from an IPv4 start as the value counts.
-#[tactic(auto, unfolding(crate::specs::Verdicts::v4_range))]
+#[tactic(auto, unfolding(crate::specs::Outcomes::v4_range))]
 fn v4_range(start: &[u8], value: &[u8]) -> Result<Range, Rule>
     ensures { result ≡ v4_range start.now value.now }
 {
@@ -115,7 +115,7 @@ fn v4_range(start: &[u8], value: &[u8]) -> Result<Range, Rule>
 }
 
 // The block of an IPv6 start and a prefix length.
-#[tactic(auto, unfolding(crate::specs::Verdicts::v6_range))]
+#[tactic(auto, unfolding(crate::specs::Outcomes::v6_range))]
 fn v6_range(start: &[u8], value: &[u8]) -> Result<Range, Rule>
     ensures { result ≡ v6_range start.now value.now }
 {
@@ -138,7 +138,7 @@ fn v6_range(start: &[u8], value: &[u8]) -> Result<Range, Rule>
     Ok(range)
 }
 
-#[tactic(auto, unfolding(crate::specs::Verdicts::v4_start))]
+#[tactic(auto, unfolding(crate::specs::Outcomes::v4_start))]
 fn v4_start(start: &[u8]) -> Option<u128>
     ensures { result ≡ v4_start start.now }
 {
@@ -151,7 +151,7 @@ fn v4_start(start: &[u8]) -> Option<u128>
     }
 }
 
-#[tactic(auto, unfolding(crate::specs::Verdicts::v6_start))]
+#[tactic(auto, unfolding(crate::specs::Outcomes::v6_start))]
 fn v6_start(start: &[u8]) -> Option<u128>
     ensures { result ≡ v6_start start.now }
 {
@@ -167,7 +167,7 @@ fn v6_start(start: &[u8]) -> Option<u128>
 // A delegation of a range to a country, where that is one.
 #[tactic(auto, using(crate::proofs::CountryLemmas::country_alone))]
 fn placed(texts: &mut Texts, range: Range, country: &[u8]) -> Result<LineOutcome, Memory>
-    ensures verdict { IfOk result (λ said. said ≡ placed range country.now) }
+    ensures outcome { IfOk result (λ said. said ≡ placed range country.now) }
     ensures alone { IfOk result PlacesCountryAlone }
 {
     match country_place(texts, country)? {

@@ -10,8 +10,8 @@ use Rattle.geo_terms.specs.DelegationForm.{IsCountryAlone}
 use Rattle.geo_terms.specs.PlaceForm.{PlaceParts, place_of_country, same_text}
 use Rattle.geo_terms.specs.declared.note.Rule.{Rule}
 use Rattle.geo_terms.specs.declared.note.Rule.TheVariants.{S01, S02, S03, S04, S05, S06, S07}
-use Rattle.nro_stats.specs.declared.verdict.LineOutcome.{LineOutcome}
-use Rattle.nro_stats.specs.declared.verdict.LineOutcome.TheVariants.{Silent, Broken, Delegated}
+use Rattle.nro_stats.specs.declared.outcome.LineOutcome.{LineOutcome}
+use Rattle.nro_stats.specs.declared.outcome.LineOutcome.TheVariants.{Silent, Broken, Delegated}
 use Rattle.nro_stats.specs.Fields.{fields, is_skipped, is_version_line, is_summary_line}
 
 -- the types of resources
@@ -101,18 +101,18 @@ judged country kind start value status =
     else (if is_silent kind status then Silent
     else placed_in (range_in kind start value) country))
 
-abbrev pub record_verdict : List (List ℕ) → LineOutcome
-record_verdict (registry ∷ country ∷ kind ∷ start ∷ value ∷ date ∷ status ∷ more) =
+abbrev pub record_outcome : List (List ℕ) → LineOutcome
+record_outcome (registry ∷ country ∷ kind ∷ start ∷ value ∷ date ∷ status ∷ more) =
     judged country kind start value status
-record_verdict _ = Broken S01
+record_outcome _ = Broken S01
 
 -- what the fields of a line say: version and summary lines are passed over
-abbrev pub fields_verdict : List (List ℕ) → LineOutcome
-fields_verdict fs = if is_version_line fs || is_summary_line fs then Silent else record_verdict fs
+abbrev pub fields_outcome : List (List ℕ) → LineOutcome
+fields_outcome fs = if is_version_line fs || is_summary_line fs then Silent else record_outcome fs
 
 -- what a line says
-unfoldable pub verdict : List ℕ → LineOutcome
-verdict line = if is_skipped line then Silent else fields_verdict (fields line)
+unfoldable pub outcome : List ℕ → LineOutcome
+outcome line = if is_skipped line then Silent else fields_outcome (fields line)
 
 -- the place of a delegation has a country and nothing else
 abbrev pub PlacesCountryAlone : LineOutcome → Type 0

@@ -4,10 +4,10 @@ use Rattle.std.proofs.lemmas.Bool.{eqb-true}
 use Rattle.std.proofs.lemmas.Result.{on_ok_weaker}
 use Rattle.fan_work.proofs.Entering.{entered_alone, entered_both, none_entered}
 use Rattle.fan_work.proofs.Zipped.{AllZip-joined}
-use Rattle.fan_work.proofs.map.+fn-map_part-join+arg2+fn-map_part-join+arg3+map_part.Goals as goal
-use Rattle.fan_work.proofs.map.+fn-map_part-join+arg2+fn-map_part-join+arg3+map_part.Goals.{
+use Rattle.fan_work.proofs.map.+fn-map_some-join+arg2+fn-map_some-join+arg3+map_some.Goals as goal
+use Rattle.fan_work.proofs.map.+fn-map_some-join+arg2+fn-map_some-join+arg3+map_some.Goals.{
   then-is_empty-via-then-is_empty,
-  then-is_empty-via-else-is_empty+then-part-eq1,
+  then-is_empty-via-else-is_empty+then-stretch-eq1,
 }
 
 pub returns-clause-related : goal.returns-clause-related
@@ -18,7 +18,7 @@ returns-clause-related g t c =
 
 pub returns-clause-entered : goal.returns-clause-entered
 returns-clause-entered g t c =
-    entered_both (g.G.Gate.entered c.args.gate.now) c.args.part c.halves.result.0.0
+    entered_both (g.G.Gate.entered c.args.gate.now) c.args.stretch c.halves.result.0.0
     c.halves.result.1.0 c.halves.ensures.halves (search rules) (search rules)
 
 pub returns-then-is_empty-clause-entered : goal.returns-then-is_empty-clause-entered
@@ -30,9 +30,9 @@ returns-then-is_empty-clause-entered g t c =
           let none : count ≡ 0 =
           eqb-true count 0 (sym c.is_empty.ensures ∙ w.if-is_empty.true) in
           on_ok_weaker c.map_piece.result
-          (λ here. none_entered entered c.args.part count c.requires none)
+          (λ here. none_entered entered c.args.stretch count c.requires none)
           c.map_piece.ensures.entered
-      | then-is_empty-via-else-is_empty+then-part-eq1 w ↦
-          on_ok_weaker c.map_piece.result (entered_alone entered c.args.part count c.requires
-          (omega (arith, w.if-part-eq1.true))) c.map_piece.ensures.entered
+      | then-is_empty-via-else-is_empty+then-stretch-eq1 w ↦
+          on_ok_weaker c.map_piece.result (entered_alone entered c.args.stretch count c.requires
+          (omega (arith, w.if-stretch-eq1.true))) c.map_piece.ensures.entered
     ]

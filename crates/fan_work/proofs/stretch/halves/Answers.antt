@@ -1,12 +1,12 @@
 -- The middle piece begins between the first one and the end.
 use Rattle.std.proofs.Common.{◌+◌, ◌-◌, ◌/◌, arith}
 use Rattle.fan_work.proofs.Starts.{starts_ascend}
-use Rattle.fan_work.proofs.part.halves.Goals as goal
+use Rattle.fan_work.proofs.stretch.halves.Goals as goal
 
 pub overflow_sub-taken : goal.overflow_sub-taken
 overflow_sub-taken g c =
-    let p = c.args.part in
-    let r = c.requires.part in
+    let p = c.args.stretch in
+    let r = c.requires.stretch in
     let many = c.requires.many in
     let up = starts_ascend p.pieces p.count p.from (p.from + (p.to - p.from) / 2) (omega arith)
     (omega arith) in
@@ -16,8 +16,8 @@ overflow_sub-taken g c =
 
 pub split_at-requires : goal.split_at-requires
 split_at-requires g c =
-    let p = c.args.part in
-    let r = c.requires.part in
+    let p = c.args.stretch in
+    let r = c.requires.stretch in
     let many = c.requires.many in
     let held = r.held in
     let up = starts_ascend p.pieces p.count (p.from + (p.to - p.from) / 2) p.to (omega arith)
@@ -28,8 +28,8 @@ split_at-requires g c =
 
 pub returns-clause-left : goal.returns-clause-left
 returns-clause-left g c =
-    let p = c.args.part in
-    let r = c.requires.part in
+    let p = c.args.stretch in
+    let r = c.requires.stretch in
     let many = c.requires.many in
     let up = starts_ascend p.pieces p.count p.from (p.from + (p.to - p.from) / 2) (omega arith)
     (omega arith) in
@@ -40,8 +40,8 @@ returns-clause-left g c =
 
 pub returns-clause-right : goal.returns-clause-right
 returns-clause-right g c =
-    let p = c.args.part in
-    let r = c.requires.part in
+    let p = c.args.stretch in
+    let r = c.requires.stretch in
     let many = c.requires.many in
     let held = r.held in
     let up = starts_ascend p.pieces p.count p.from (p.from + (p.to - p.from) / 2) (omega arith)

@@ -13,8 +13,8 @@ use Rattle.geo_terms.specs.declared.place.Said.{Said}
 use Rattle.csv_lines.specs.Rests.{column, content_of, rest_of, row_of, said_in}
 use Rattle.csv_lines.specs.declared.rest.Content.{Content}
 use Rattle.csv_lines.specs.declared.rest.Content.TheVariants.{Blank, NotText, NoFields, Fields}
-use Rattle.feed_csv.specs.declared.verdict.Verdict.{Verdict}
-use Rattle.feed_csv.specs.declared.verdict.Verdict.TheVariants.{Silent, Broken, Accepted}
+use Rattle.feed_csv.specs.declared.outcome.LineOutcome.{LineOutcome}
+use Rattle.feed_csv.specs.declared.outcome.LineOutcome.TheVariants.{Silent, Broken, Accepted}
 
 -- the rule that a first field breaks which is no prefix: an IPv6
 -- prefix in the IPv4 space has its own
@@ -32,26 +32,26 @@ place_rule place.Region = F06
 place_rule place.TooLong = F10
 place_rule place.Memory = F10
 
-abbrev pub accepted_at : Prefix → Result Said PlaceFault → Verdict
+abbrev pub accepted_at : Prefix → Result Said PlaceFault → LineOutcome
 accepted_at at (Err fault) = Broken (place_rule fault)
 accepted_at at (Ok said) = Accepted at said
 
-abbrev pub located_at : Result Prefix BlockFault → List (List ℕ) → Verdict
+abbrev pub located_at : Result Prefix BlockFault → List (List ℕ) → LineOutcome
 located_at (Err fault) row = Broken (block_rule fault)
 located_at (Ok at) row = accepted_at at (said_in 1 row)
 
 -- what fields say: prefix, country, region, city and postal code;
 -- the first rule that they break, else an entry
-abbrev pub row_verdict : List (List ℕ) → Verdict
-row_verdict row =
+abbrev pub row_outcome : List (List ℕ) → LineOutcome
+row_outcome row =
     if is_empty (column 0 row) then Broken F03 else located_at (block_in (column 0 row)) row
 
-abbrev pub verdict_by : Content → List (List ℕ) → Verdict
-verdict_by Blank row = Silent
-verdict_by NotText row = Broken F01
-verdict_by NoFields row = Broken F02
-verdict_by Fields row = row_verdict row
+abbrev pub outcome_by : Content → List (List ℕ) → LineOutcome
+outcome_by Blank row = Silent
+outcome_by NotText row = Broken F01
+outcome_by NoFields row = Broken F02
+outcome_by Fields row = row_outcome row
 
 -- what a line says
-unfoldable pub verdict : List ℕ → Verdict
-verdict line = verdict_by (content_of (rest_of line)) (row_of (rest_of line))
+unfoldable pub outcome : List ℕ → LineOutcome
+outcome line = outcome_by (content_of (rest_of line)) (row_of (rest_of line))

@@ -6,9 +6,9 @@ ghost use Rattle.geo_terms.specs.declared.place.Said.{Said};
 ghost use Rattle.csv_lines.specs.Clean.{AreTexts};
 ghost use Rattle.csv_lines.specs.Rests.{CanRead, StandsIf, handed, said_in};
 ghost use Rattle.csv_lines.specs.Tails.{IsCut, SaysBare};
-ghost use Rattle.feed_csv.specs.Verdicts.{accepted_at, block_rule, place_rule, row_verdict};
-ghost use Rattle.feed_csv.specs.Verdicts.{verdict};
-ghost use Rattle.feed_csv.specs.declared.verdict.Verdict.{Verdict};
+ghost use Rattle.feed_csv.specs.Outcomes.{accepted_at, block_rule, outcome, place_rule};
+ghost use Rattle.feed_csv.specs.Outcomes.{row_outcome};
+ghost use Rattle.feed_csv.specs.declared.outcome.LineOutcome.{LineOutcome};
 
 use csv::{ByteRecord, Reader};
 use csv_lines::{Content, LineCut, Row, Tails, bare_row, column, cut_line, next_row, said_in};
@@ -17,58 +17,58 @@ use geo_terms::{PlaceFault, Rule, Said, Texts};
 
 /// What a line says: nothing, a rule that it breaks, or what is said of a block.
 #[derive(Debug, Drop)]
-pub(crate) enum Verdict {
+pub(crate) enum LineOutcome {
     Silent,
     Broken(Rule),
     Accepted(Block, Said),
 }
 
 /// What the next line of the reader's file says.
-#[tactic(auto, unfolding(crate::specs::Verdicts::verdict))]
+#[tactic(auto, unfolding(crate::specs::Outcomes::outcome))]
 pub(crate) fn read_line<'a>(
     reader: &mut Option<Reader<&[u8]>>,
     line: &'a [u8],
     row: &mut ByteRecord,
     texts: &mut Texts,
     tails: &mut Tails<'a>,
-) -> Result<Verdict, Memory>
+) -> Result<LineOutcome, Memory>
     requires { CanRead (λ s. Some s.now) reader.old line.now }
-    ensures verdict { IfOk result (λ found. found ≡ verdict line.now) }
+    ensures outcome { IfOk result (λ found. found ≡ outcome line.now) }
     ensures stands { (left : List ℕ)
         → StandsIf (λ s. Some s.now) reader.old (handed line.now ++ left)
         → OnOk result (StandsIf (λ s. Some s.now) reader.new left) }
 {
     let cut = cut_line(line);
-    if let Some(known) = known_verdict(&cut, tails)? {
+    if let Some(known) = known_outcome(&cut, tails)? {
         return Ok(known);
     }
     if let Some(bare) = bare_row(line) {
-        let found = row_verdict(texts, &bare)?;
+        let found = row_outcome(texts, &bare)?;
         keep_tail(&cut, &found, tails)?;
         return Ok(found);
     }
     match next_row(reader, line, row)? {
-        Content::Blank => Ok(Verdict::Silent),
-        Content::NotText => Ok(Verdict::Broken(Rule::F01)),
-        Content::NoFields => Ok(Verdict::Broken(Rule::F02)),
-        Content::Fields => row_verdict(texts, row),
+        Content::Blank => Ok(LineOutcome::Silent),
+        Content::NotText => Ok(LineOutcome::Broken(Rule::F01)),
+        Content::NoFields => Ok(LineOutcome::Broken(Rule::F02)),
+        Content::Fields => row_outcome(texts, row),
     }
 }
 
 // What a line says whose tail came before, and which hands nothing over.
-fn known_verdict(cut: &Option<LineCut>, tails: &Tails) -> Result<Option<Verdict>, Memory>
+fn known_outcome(cut: &Option<LineCut>, tails: &Tails) -> Result<Option<LineOutcome>, Memory>
     ensures { (line : List ℕ) → IfSome cut.now (λ c. IsCut line c.first c.tail) → IfOk result
-        (λ found. IfSome found (λ said. (said ≡ verdict line) × (handed line ≡ []))) }
+        (λ found. IfSome found (λ said. (said ≡ outcome line) × (handed line ≡ []))) }
 {
     match cut {
-        Some(cut) => cut_verdict(cut, tails),
+        Some(cut) => cut_outcome(cut, tails),
         None => Ok(None),
     }
 }
 
-fn cut_verdict(cut: &LineCut, tails: &Tails) -> Result<Option<Verdict>, Memory>
+fn cut_outcome(cut: &LineCut, tails: &Tails) -> Result<Option<LineOutcome>, Memory>
     ensures { (line : List ℕ) → IsCut line cut.now.first cut.now.tail → IfOk result
-        (λ found. IfSome found (λ said. (said ≡ verdict line) × (handed line ≡ []))) }
+        (λ found. IfSome found (λ said. (said ≡ outcome line) × (handed line ≡ []))) }
 {
     let Some(place) = tails.known(cut) else {
         return Ok(None);
@@ -77,23 +77,23 @@ fn cut_verdict(cut: &LineCut, tails: &Tails) -> Result<Option<Verdict>, Memory>
         return Ok(None);
     };
     let place = place.copied()?;
-    Ok(Some(Verdict::Accepted(block, Said::At(place))))
+    Ok(Some(LineOutcome::Accepted(block, Said::At(place))))
 }
 
 // Holds the tail of a line that says a place.
 fn keep_tail<'a>(
     cut: &Option<LineCut<'a>>,
-    found: &Verdict,
+    found: &LineOutcome,
     tails: &mut Tails<'a>,
 ) -> Result<(), Memory>
     requires { IfSome cut.now (λ c. (block : Prefix) (place : PlaceParts)
-        → found.now ≡ Verdict.Accepted block (Said.At place)
+        → found.now ≡ LineOutcome.Accepted block (Said.At place)
         → (line : List ℕ) × IsCut line c.first c.tail × SaysBare line place) }
 {
     let Some(cut) = cut else {
         return Ok(());
     };
-    let Verdict::Accepted(_, said) = found else {
+    let LineOutcome::Accepted(_, said) = found else {
         return Ok(());
     };
     let Said::At(place) = said else {
@@ -103,27 +103,27 @@ fn keep_tail<'a>(
 }
 
 // What fields say: the first rule that they break, else an entry.
-fn row_verdict<R: Row>(texts: &mut Texts, row: &R) -> Result<Verdict, Memory>
+fn row_outcome<R: Row>(texts: &mut Texts, row: &R) -> Result<LineOutcome, Memory>
     requires { AreTexts (R.fields row.now) }
-    ensures { IfOk result (λ found. found ≡ row_verdict (R.fields row.now)) }
+    ensures { IfOk result (λ found. found ≡ row_outcome (R.fields row.now)) }
 {
     let prefix = column(row, 0);
     if prefix.is_empty() {
-        return Ok(Verdict::Broken(Rule::F03));
+        return Ok(LineOutcome::Broken(Rule::F03));
     }
     match parse_block(prefix) {
         Ok(block) => accepted_at(texts, block, row),
-        Err(fault) => Ok(Verdict::Broken(block_rule(fault))),
+        Err(fault) => Ok(LineOutcome::Broken(block_rule(fault))),
     }
 }
 
-fn accepted_at<R: Row>(texts: &mut Texts, block: Block, row: &R) -> Result<Verdict, Memory>
+fn accepted_at<R: Row>(texts: &mut Texts, block: Block, row: &R) -> Result<LineOutcome, Memory>
     requires { AreTexts (R.fields row.now) }
     ensures { IfOk result (λ found. found ≡ accepted_at block (said_in 1 (R.fields row.now))) }
 {
     match said_in(texts, row, 1)? {
-        Ok(said) => Ok(Verdict::Accepted(block, said)),
-        Err(fault) => Ok(Verdict::Broken(place_rule(fault))),
+        Ok(said) => Ok(LineOutcome::Accepted(block, said)),
+        Err(fault) => Ok(LineOutcome::Broken(place_rule(fault))),
     }
 }
 
