@@ -65,6 +65,99 @@ done < <(files '*.rt' | xargs -d '\n' awk '
     || fail "$silent files of code do not begin with //! and what they are for"
 counted 200 "$sources" 'files of code'
 
+# The limits, and the sizes of tables: NAME VALUE FILE. Each is a constant of its file, and outside
+# tests its number stands nowhere else in code, definitions and their comments, however it is spelt;
+# one of fewer than four digits is only looked for there. `older` has how many copies of a number
+# are left: they only grow fewer, and these fall with them.
+older='1024 4
+100000 6
+1048576 5
+2097152 2
+16843036 2
+67108864 8
+268435456 4
+1073741824 2
+1099511627776 6'
+limits='LONGEST_DUMP 1099511627776 feed_refs/src/limits.rt
+MOST 2097152 feed_refs/src/limits.rt
+LONGEST 1048576 rpsl_reader/src/limits.rt
+LONGEST_NAME 63 rpsl_reader/src/limits.rt
+LONGEST_STATS 268435456 nro_stats/src/read.rt
+MOST 2097152 nro_stats/src/read.rt
+LONGEST_FEED 67108864 feed_csv/src/read.rt
+MOST 2097152 feed_csv/src/read.rt
+LONGEST_PART 4194304 feed_csv/src/parts.rt
+LONGEST_OVERRIDES 67108864 override_rows/src/read.rt
+MOST 2097152 override_rows/src/read.rt
+LEAST_PART 262144 line_parts/src/part.rt
+MOST_FIELDS 8 csv_lines/src/bare.rt
+MOST_TAILS 16384 csv_lines/src/tails.rt
+LONGEST 1024 geo_terms/src/places/fields.rt
+FIRST_RECENT 16384 geo_terms/src/places.rt
+MOST_RECENT 1048576 geo_terms/src/places.rt
+FIRST 64 geo_terms/src/places/slots.rt
+MOST 1048576 geo_terms/src/places/slots.rt
+MOST_PIECES 64 fan_work/src/forks.rt
+MOST_TOGETHER 16 job_run/src/course.rt
+VALUES 100000 mmdb_data/src/budget.rt
+BYTES 67108864 mmdb_data/src/budget.rt
+MOST 16843036 mmdb_data/src/sizes.rt
+LEVELS 32 mmdb_data/src/sizes.rt
+GAP 16 mmdb_file/src/numbers.rt
+LONGEST_JOB 1048576 job_lines/src/job.rt
+LONGEST_NAME 255 job_lines/src/names.rt
+LONGEST_WORD 64 job_lines/src/names.rt
+LONGEST_FILE 1073741824 geofeed_cmd/src/commands/lookup.rt
+ROOM 1024 geofeed/src/sink.rt
+LARGEST_KEPT 33488896 geofeed/src/main.rt
+AMPLE 2147483648 geofeed/src/main.rt'
+
+# numbers FILES..: each number in them as VALUE FILE LINE, where 1,024, 1_024, 1 << 10 and 2 ^ 10
+# are one.
+numbers() {
+    awk '{
+        line = $0
+        while (match(line, /(1 << |2 ?\^ ?)[0-9]+/)) {
+            power = substr(line, RSTART, RLENGTH)
+            sub(/.*[^0-9]/, "", power)
+            printf "%.0f %s %d\n", 2 ^ power, FILENAME, FNR
+            line = substr(line, 1, RSTART - 1) " " substr(line, RSTART + RLENGTH)
+        }
+        while (match(line, /[0-9],[0-9][0-9][0-9]/))
+            line = substr(line, 1, RSTART) substr(line, RSTART + 2)
+        count = split(line, words, /[^0-9A-Za-z_]+/)
+        for (at = 1; at <= count; at++) {
+            word = words[at]
+            sub(/_?[iu](8|16|32|64|128|size)$/, "", word)
+            gsub(/_/, "", word)
+            if (word ~ /^[0-9]+$/) printf "%s %s %d\n", word, FILENAME, FNR
+        }
+    }' "$@"
+}
+
+rows=0
+while read -r name value file; do
+    rows=$((rows + 1))
+    line=$(grep -nE "const $name: [a-z0-9]+ = " "crates/$file" | cut -d: -f1)
+    numbers "crates/$file" | grep -qxF "$value crates/$file ${line:-0}" \
+        || fail "crates/$file does not say that $name is $value"
+done <<< "$limits"
+counted 30 "$rows" limits
+mapfile -t told < <(files '*.rt' '*.antt' | grep -E '^crates/[a-z_]+/(src|specs)/' \
+    | grep -v '_tests/')
+while read -r value found; do
+    named=$(grep -cE "^[A-Z_]+ $value " <<< "$limits")
+    more=$(sed -n "s/^$value //p" <<< "$older")
+    [ "$found" -le $((named + ${more:-0})) ] \
+        || fail "$value stands in $found places: $named of limits, and more than ${more:-0} older"
+done < <(numbers "${told[@]}" | awk -v limits="$limits" '
+    BEGIN {
+        count = split(limits, words)
+        for (at = 2; at <= count; at += 3) is_limit[words[at]] = words[at] >= 1000
+    }
+    is_limit[$1] { found[$1]++ }
+    END { for (value in found) print value, found[value] }')
+
 # A row of docs/SPEC.md names a crate and a file below its specs/.
 rows=0
 while read -r crate file; do
