@@ -3,13 +3,13 @@ ghost use Rattle.std.specs.Prelude.{◌≡◌, ◌<◌, ◌≤◌, ◌↔◌, �
 ghost use Rattle.std.specs.List.{flat_map};
 ghost use Rattle.feed_csv.specs.File.{AreClean, accepted, feed, longest, most};
 ghost use Rattle.feed_csv.specs.Parts.{found_entries, found_faults};
-ghost use Rattle.feed_csv.specs.declared.parts.TheConstants.{FEED_PART, LONGEST_PART};
+ghost use Rattle.feed_csv.specs.declared.parts.TheConstants.{FEED_PART};
 
-use crate::read::{Gathered, LONGEST_FEED, MOST, feed_of, read_lines};
+use crate::read::{Gathered, LONGEST_FEED, MOST, faults_with_room, feed_of, read_lines};
 use fan_work::{Forks, Work, map_pieces};
 use geo_addr::Memory;
 use geo_outside::Gate;
-use geo_terms::{Feed, SourceFault};
+use geo_terms::{Entry, Feed, SourceFault};
 use line_parts::{LEAST_PART, LinePart, parts_of};
 use std::alloc::Global;
 use std::marker::Sync;
@@ -18,9 +18,10 @@ use std::thread::Threads;
 /// The least bytes of a part before others: a feed of at most so many is one part.
 pub const FEED_PART: usize = LEAST_PART;
 
-/// The most bytes after which a part ends with its line: when what was found in all parts is put
-/// together, what was found in one stands there twice.
-const LONGEST_PART: usize = 4_194_304;
+/// The least bytes of a part where each piece has several: when what was found in all parts is put
+/// together, what was found in one stands there twice. The C library gives back the room for the
+/// faults of so long a part, and might keep that of a shorter one.
+const LONG_PART: usize = 4_194_304;
 
 /// Work that reads the lines of a part of a feed, which has `size` bytes.
 #[derive(Drop)]
@@ -41,7 +42,10 @@ impl<'a> Work<LinePart<'a>, Gathered> for PartReading {
         } else {
             item.text.len()
         };
-        match read_lines(self.alloc, *item, room, usize::MAX) {
+        // A line with a fault has at least two bytes, or is the last. Room that is not used costs
+        // nothing, and a list that grows leaves what it had.
+        let faults = item.text.len() / 2 + 1;
+        match read_lines(self.alloc, *item, room, faults, usize::MAX) {
             Ok(found) => Ok(found),
             Err(_) => Err(Memory),
         }
@@ -91,11 +95,11 @@ pub fn read_feed_by_parts<R: Threads + Sync, G: Gate>(
 // After how many bytes a part of a feed of `size` bytes ends, so that each piece has as many parts.
 fn part_size(size: usize, pieces: usize) -> usize
     requires { 0 < pieces }
-    ensures { (FEED_PART ≤ result) × (result ≤ LONGEST_PART) }
+    ensures { FEED_PART ≤ result }
 {
     let share = size / pieces;
-    let rounds = share / LONGEST_PART + 1;
-    (share / rounds).clamp(FEED_PART, LONGEST_PART)
+    let rounds = (share / LONG_PART).max(1);
+    (share / rounds).max(FEED_PART)
 }
 
 // What was found in all parts.
@@ -103,9 +107,10 @@ fn joined(alloc: Global, parts: Vec<Gathered>) -> Result<Gathered, Memory>
     ensures entries { IfOk result (λ all. all.entries.items ≡ flat_map found_entries parts.items) }
     ensures faults { IfOk result (λ all. all.faults.items ≡ flat_map found_faults parts.items) }
 {
+    let faults = faults_with_room(alloc, fault_count(parts.as_slice()))?;
     let mut all = Gathered {
         entries: Vec::new(alloc),
-        faults: Vec::new(alloc),
+        faults,
     };
     for part in parts {
         all = joined_two(all, part)?;
@@ -113,18 +118,36 @@ fn joined(alloc: Global, parts: Vec<Gathered>) -> Result<Gathered, Memory>
     Ok(all)
 }
 
-// What was found in two parts, in the room of the first where that has any.
+// How many faults all parts have.
+fn fault_count(parts: &[Gathered]) -> usize {
+    let mut count: usize = 0;
+    for part in parts {
+        count = count.saturating_add(part.faults.len());
+    }
+    count
+}
+
+// What was found in two parts: the faults in the room of the first, and the entries there too where
+// it has any.
 fn joined_two(first: Gathered, second: Gathered) -> Result<Gathered, Memory>
     ensures entries { IfOk result
         (λ all. all.entries.items ≡ first.entries.items ++ second.entries.items) }
     ensures faults { IfOk result
         (λ all. all.faults.items ≡ first.faults.items ++ second.faults.items) }
 {
-    if first.entries.is_empty() && first.faults.is_empty() {
+    let (mut faults, mut more) = (first.faults, second.faults);
+    faults.append(&mut more)?;
+    let entries = joined_entries(first.entries, second.entries)?;
+    Ok(Gathered { entries, faults })
+}
+
+fn joined_entries(first: Vec<Entry>, second: Vec<Entry>) -> Result<Vec<Entry>, Memory>
+    ensures { IfOk result (λ all. all.items ≡ first.items ++ second.items) }
+{
+    if first.is_empty() {
         return Ok(second);
     }
     let (mut all, mut second) = (first, second);
-    all.entries.append(&mut second.entries)?;
-    all.faults.append(&mut second.faults)?;
+    all.append(&mut second)?;
     Ok(all)
 }

@@ -38,7 +38,7 @@ pub fn read_feed(alloc: Global, url: &str, bytes: &[u8]) -> Result<Feed, SourceF
     if bytes.len() > LONGEST_FEED {
         return Err(SourceFault::TooLong);
     }
-    let found = read_lines(alloc, LinePart::whole(bytes), bytes.len(), MOST)?;
+    let found = read_lines(alloc, LinePart::whole(bytes), bytes.len(), 0, MOST)?;
     let feed = feed_of(alloc, url, found)?;
     Ok(feed)
 }
@@ -80,12 +80,13 @@ struct Reading<'a> {
     row: ByteRecord,
 }
 
-/// The entries and the faults of the lines of a part of a file of `size` bytes by themselves, where
-/// at most `limit` lines pass the line rules.
+/// The entries and the faults of the lines of a part by themselves, where at most `limit` lines pass
+/// the line rules: with room for the entries of `size` bytes, and for so many faults.
 pub(crate) fn read_lines(
     alloc: Global,
     part: LinePart,
     size: usize,
+    faults: usize,
     limit: usize,
 ) -> Result<Gathered, SourceFault>
     ensures entries { IfOk result (λ found. found.entries.items ≡ accepted_in part.entry) }
@@ -97,10 +98,11 @@ pub(crate) fn read_lines(
     let handed = all_handed(alloc, part.text)?;
     let mut reader = reader_of(alloc, handed.as_slice());
     let entries = with_room(alloc, size)?;
+    let faults = faults_with_room(alloc, faults)?;
     let tails = Tails::with_room(alloc, part.text.len())?;
     let mut found = Reading {
         entries,
-        faults: Vec::new(alloc),
+        faults,
         texts: Texts::new(alloc),
         tails,
         row: ByteRecord::new(alloc),
@@ -121,6 +123,14 @@ fn with_room(alloc: Global, size: usize) -> Result<Vec<Entry>, Memory>
     let room = (size / SHORT_LINE).min(MOST);
     let entries = Vec::with_capacity(alloc, room)?;
     Ok(entries)
+}
+
+/// No faults, with room for so many.
+pub(crate) fn faults_with_room(alloc: Global, room: usize) -> Result<Vec<LineNote>, Memory>
+    ensures { IfOk result (λ faults. faults.items ≡ []) }
+{
+    let faults = Vec::with_capacity(alloc, room)?;
+    Ok(faults)
 }
 
 // Adds what one more line says.

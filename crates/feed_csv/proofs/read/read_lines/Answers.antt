@@ -13,7 +13,7 @@ loop-line-init c =
       can_next = tt;
       is_finite = tt;
       entries = rw c.in_ok-entries.ensures (ap (filter_map entry_of) start);
-      faults = rw c.new.ensures.items (ap (filter_map fault_of) start);
+      faults = rw c.in_ok-faults.ensures (ap (filter_map fault_of) start);
       few = rw c.in_ok-entries.ensures (omega arith);
       stands =
           c.reader_of-reader.ensures _ (c.as_slice.ensures.value ∙ c.in_ok-handed.ensures
