@@ -86,7 +86,7 @@ LONGEST_STATS 268435456 nro_stats/src/read.rt
 MOST 2097152 nro_stats/src/read.rt
 LONGEST_FEED 67108864 feed_csv/src/read.rt
 MOST 2097152 feed_csv/src/read.rt
-LONGEST_PART 4194304 feed_csv/src/parts.rt
+LONG_PART 4194304 feed_csv/src/parts.rt
 LONGEST_OVERRIDES 67108864 override_rows/src/read.rt
 MOST 2097152 override_rows/src/read.rt
 LEAST_PART 262144 line_parts/src/part.rt
