@@ -7,12 +7,14 @@ use Rattle.std.specs.Prelude.{slice_index, Option, Some, None, Result, Ok, Err}
 use Rattle.std.specs.Int.{w32, cast_signed}
 use Rattle.std.specs.Str.{is_utf8}
 use Rattle.byteorder.specs.Endian.{big_number}
+use Rattle.mmdb_data.specs.declared.budget.TheConstants.{BYTES, VALUES}
 use Rattle.mmdb_data.specs.declared.fault.DataCause.{DataCause}
 use Rattle.mmdb_data.specs.declared.fault.DataCause.TheVariants.{Truncated, Kind, PointerToPointer}
 use Rattle.mmdb_data.specs.declared.fault.DataCause.TheVariants.{OutOfSection, Utf8, Key, Deep}
 use Rattle.mmdb_data.specs.declared.fault.DataCause.TheVariants.{Many, Size, Big}
 use Rattle.mmdb_data.specs.declared.fault.DataFault.{DataFault}
 use Rattle.mmdb_data.specs.declared.fault.DataFault.TheVariants as faults
+use Rattle.mmdb_data.specs.declared.sizes.TheConstants.{LEVELS}
 use Rattle.mmdb_data.specs.ValueTree.{ValueTree, Members, Items, map, list, text, bytes, u16, u32}
 use Rattle.mmdb_data.specs.ValueTree.{i32, u64}
 use Rattle.mmdb_data.specs.ValueTree.{u128, bool, double, float, no_members, member, no_items, item}
@@ -250,12 +252,12 @@ value_from section (suc levels) is_key at left = do
   if is_pointer control then target_from (value_from section levels) section is_key at control rest
       else plain_from (value_from section levels) section is_key at rest
 
--- the value at an offset of a section: at most 32 levels, 100,000 values, keys counted, and
--- 67,108,864 bytes of texts, keys and byte strings
+-- the value at an offset of a section: at most so many levels, so many values, keys counted, and
+-- so many bytes of texts, keys and byte strings
 unfoldable pub reads : List ℕ → ℕ → Result ValueTree Fault
 reads section at =
     if nat_lt at (length section) then
-    (value_from section 32 false at (left_of 100000 67108864) >>= λ found. Ok found.0)
+    (value_from section LEVELS false at (left_of VALUES BYTES) >>= λ found. Ok found.0)
     else Err (at, OutOfSection)
 
 -- What a function returned, seen by view, is what reading gives, unless memory ran out.

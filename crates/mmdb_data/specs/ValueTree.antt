@@ -4,6 +4,8 @@ use Rattle.std.specs.Prelude.{◌≡◌, ◌≤◌, ◌<◌, ℕ, suc, ◌+◌, 
 use Rattle.std.specs.Prelude.{nat_le, ◌-◌, List, length, FitsSigned}
 use Rattle.std.specs.Int.{w32}
 use Rattle.std.specs.Str.{IsUtf8}
+use Rattle.mmdb_data.specs.declared.budget.TheConstants.{BYTES, VALUES}
+use Rattle.mmdb_data.specs.declared.sizes.TheConstants.{LEVELS, MOST}
 
 -- doubles and floats are kept as their bytes
 mutual
@@ -112,11 +114,11 @@ abbrev mutual
 
 -- what one reading may give
 abbrev pub IsWithinLimits : ValueTree → Type 0
-IsWithinLimits value = (count value ≤ 100000) × (bytes_in value ≤ 67108864)
+IsWithinLimits value = (count value ≤ VALUES) × (bytes_in value ≤ BYTES)
 
 -- the greatest size that a control byte and three size bytes can tell
 abbrev pub most : ℕ
-most = 16843036
+most = MOST
 
 -- each size can be told
 abbrev mutual
@@ -143,9 +145,9 @@ abbrev mutual
   ItemsAreNarrow no_items = Unit {0}
   ItemsAreNarrow (item value items) = IsNarrow value × ItemsAreNarrow items
 
--- what can be written: each size can be told, and values are nested at most 32 deep
+-- what can be written: each size can be told, and values are nested at most so deep
 abbrev pub CanBeSpelled : ValueTree → Type 0
-CanBeSpelled value = IsNarrow value × (depth value ≤ 32)
+CanBeSpelled value = IsNarrow value × (depth value ≤ LEVELS)
 
 -- the same as a test, with so many levels left
 abbrev mutual

@@ -2,6 +2,8 @@
 
 ghost use Rattle.std.specs.Prelude.{◌≡◌, ◌≤◌, ◌<◌, ◌-◌, ◌^◌, length, OnOk, IfOk, true, false};
 ghost use Rattle.mmdb_data.specs.ValueTree.{depth, count, bytes_in, most as most_size};
+ghost use Rattle.mmdb_data.specs.declared.budget.TheConstants.{BYTES, VALUES};
+ghost use Rattle.mmdb_data.specs.declared.sizes.TheConstants.{LEVELS};
 ghost use Rattle.mmdb_data.specs.Reading.{Gives, key_of, members_from, items_from, content_from};
 ghost use Rattle.mmdb_data.specs.Reading.{plain_from, target_from, value_from, reads};
 ghost use Rattle.mmdb_data.specs.View.{value_tree, budget, items_view, members_view};
@@ -24,9 +26,9 @@ use std::alloc::Global;
 #[tactic(auto, unfolding(crate::specs::Reading::reads))]
 pub fn decode(alloc: Global, section: &[u8], at: u64) -> Result<Value, DataFault>
     ensures gives { Gives value_tree result (reads section.now at) }
-    ensures shallow { IfOk result (λ value. depth (value_tree value) ≤ 32) }
-    ensures few { IfOk result (λ value. count (value_tree value) ≤ 100000) }
-    ensures light { IfOk result (λ value. bytes_in (value_tree value) ≤ 67108864) }
+    ensures shallow { IfOk result (λ value. depth (value_tree value) ≤ LEVELS) }
+    ensures few { IfOk result (λ value. count (value_tree value) ≤ VALUES) }
+    ensures light { IfOk result (λ value. bytes_in (value_tree value) ≤ BYTES) }
 {
     if at >= section.len() as u64 {
         return Err(DataFault::Bad {
