@@ -44,7 +44,7 @@ and_parts : (x y : Bool) → (x && y) ≡ true → (x ≡ true) × (y ≡ true)
 and_parts true y h = (refl, h)
 and_parts false y h = absurd (let e : false ≡ true = h in cc)
 
-same_parts : (x y : PlaceParts) → same_place x y ≡ true → x ≡ y
+pub same_parts : (x y : PlaceParts) → same_place x y ≡ true → x ≡ y
 same_parts x y h =
     let three = and_parts (same_text x.country y.country && same_text x.region y.region
     && same_text x.city y.city) (same_text x.postal y.postal) h in
@@ -57,7 +57,7 @@ same_parts x y h =
     let postal = (text_told x.postal y.postal).0 three.1 in
     λ i. record { country = country i; region = region i; city = city i; postal = postal i }
 
-place_is_itself : (x y : PlaceParts) → x ≡ y → same_place x y ≡ true
+pub place_is_itself : (x y : PlaceParts) → x ≡ y → same_place x y ≡ true
 place_is_itself x y e =
     rw (
       (text_told x.country y.country).1 (ap (λ p. p.country) e),
@@ -69,7 +69,7 @@ place_is_itself x y e =
 pub places_are_told_apart : PlacesAreToldApart
 places_are_told_apart x y = (same_parts x y, place_is_itself x y)
 
-fails_at : (q : PlaceParts → Bool) (xs : List PlaceParts) (p : PlaceParts) (i : ℕ)
+pub fails_at : (q : PlaceParts → Bool) (xs : List PlaceParts) (p : PlaceParts) (i : ℕ)
     → AllByRecursion (λ y. q y ≡ false) xs → slice_get xs i ≡ Some p → q p ≡ false
 fails_at q [] p zero none at = absurd (let e : None ≡ Some p = at in cc)
 fails_at q [] p (suc i) none at = absurd (let e : None ≡ Some p = at in cc)
@@ -77,7 +77,7 @@ fails_at q (x ∷ xs) p zero none at =
     let is : x ≡ p = (let e : Some x ≡ Some p = at in cc) in ap q (sym is) ∙ none.0
 fails_at q (x ∷ xs) p (suc i) none at = fails_at q xs p i none.1 at
 
-told_apart_back : (x y : PlaceParts) → same_place x y ≡ false → same_place y x ≡ false
+pub told_apart_back : (x y : PlaceParts) → same_place x y ≡ false → same_place y x ≡ false
 told_apart_back x y apart =
     elim (same_place y x) as (λ b. same_place y x ≡ b → b ≡ false) [
       | true ↦ λ e. sym (place_is_itself x y (sym (same_parts y x e))) ∙ apart
@@ -154,7 +154,7 @@ table_kept places p n = by_test (ltb (position_or_len (same_place p) places) (le
         rw any refl
 
 -- a member at the end changes no index of one that was found before it
-position_stays : {X : Type 0} (q : X → Bool) (xs : List X) (y : X) (n : ℕ)
+pub position_stays : {X : Type 0} (q : X → Bool) (xs : List X) (y : X) (n : ℕ)
     → option_map (λ i. i + 1) (position q xs) ≡ Some n
     → option_map (λ i. i + 1) (position q (xs ++ y ∷ [])) ≡ Some n
 position_stays {X} q xs y n = by_test (ltb (position_or_len q xs) (length xs)) refl

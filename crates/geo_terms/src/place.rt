@@ -6,6 +6,7 @@ ghost use Rattle.std.specs.Hash as fed;
 ghost use Rattle.std.proofs.Common.{rules};
 ghost use Rattle.geo_terms.specs.PlaceForm.{IsPlace, same_text};
 ghost use Rattle.geo_terms.specs.PlaceLead.{Tells};
+ghost use Rattle.geo_terms.specs.PlaceTable.{place_mark};
 ghost use Rattle.geo_terms.specs.Numbers.{same_place};
 ghost use Rattle.geo_terms.specs.PlaceEquality as equality;
 ghost use Rattle.geo_terms.specs.PlaceOrder as order;
@@ -15,7 +16,7 @@ ghost use Rattle.std.specs.Cmp.{partial_order_from_agreeing_total};
 use geo_addr::{Memory, Text};
 use std::alloc::Global;
 use std::cmp::Ordering;
-use std::hash::{Hash, Hasher};
+use std::hash::{FoldHasher, Hash, Hasher};
 use std::marker::Model;
 use std::sync::Arc;
 use thiserror::Error;
@@ -46,6 +47,8 @@ impl Model for Place {
     ghost use Rattle.std.specs.Arc.{arc_value};
     ghost use Rattle.geo_terms.specs.PlaceForm.{PlaceParts, IsPlace};
     ghost use Rattle.geo_terms.specs.PlaceLead.{Tells};
+    ghost use Rattle.geo_terms.specs.PlaceTable.{place_mark};
+    ghost use Rattle.std.specs.Prelude.{◌≡◌};
 
     ghost Value = { PlaceParts };
 
@@ -61,14 +64,19 @@ impl Model for Place {
       region = (arc_value p.parts).region;
       city = (arc_value p.parts).city;
       postal = (arc_value p.parts).postal;
-    }) × Tells (arc_value p.parts).lead (arc_value p.parts).country (arc_value p.parts).region };
+    }) × Tells (arc_value p.parts).lead (arc_value p.parts).country (arc_value p.parts).region
+        × ((arc_value p.parts).mark ≡ place_mark (record {
+      country = (arc_value p.parts).country;
+      region = (arc_value p.parts).region;
+      city = (arc_value p.parts).city;
+      postal = (arc_value p.parts).postal;
+    })) };
 }
 
 impl Place {
-    /// The place of these texts, with their mark.
+    /// The place of these texts.
     pub(crate) fn of(
         alloc: Global,
-        mark: u64,
         country: Text,
         region: Text,
         city: Text,
@@ -84,7 +92,10 @@ impl Place {
         ensures { IfOk result (λ place. place
             ≡ record { country = country; region = region; city = city; postal = postal }) }
     {
-        let lead = lead_of(country.as_str().as_bytes(), region.as_str().as_bytes());
+        let (first, second) = (country.as_str().as_bytes(), region.as_str().as_bytes());
+        let (third, fourth) = (city.as_str().as_bytes(), postal.as_str().as_bytes());
+        let mark = mark_of(first, second, third, fourth);
+        let lead = lead_of(first, second);
         let parts = Parts {
             mark,
             lead,
@@ -126,9 +137,10 @@ impl Place {
         &self.parts.postal
     }
 
-    /// A number by which the place is found again quickly; it promises nothing, and others may have
-    /// it too.
-    pub fn mark(&self) -> u64 {
+    /// The number of a place that its slots in a table follow from; others may have it too.
+    pub(crate) fn mark(&self) -> u64
+        ensures { result ≡ place_mark self.now }
+    {
         self.parts.mark
     }
 
@@ -167,6 +179,23 @@ impl Place {
         }
         self.country() == other.country() && self.region() == other.region()
     }
+}
+
+// The number of a place of these texts that its slots in a table follow from.
+fn mark_of(country: &[u8], region: &[u8], city: &[u8], postal: &[u8]) -> u64
+    ensures { result ≡ place_mark (record {
+      country = country.now;
+      region = region.now;
+      city = city.now;
+      postal = postal.now;
+    }) }
+{
+    let mut hasher = FoldHasher::default();
+    hasher.write(country);
+    hasher.write(region);
+    hasher.write(city);
+    hasher.write(postal);
+    hasher.finish()
 }
 
 // A number that tells a country and its region, or 0 where none does.
