@@ -6,7 +6,7 @@ use Rattle.std.proofs.Common.{Some, None, option_map, refl, sym, ap, ◌∙◌, 
 use Rattle.std.proofs.Common.{inl, inr}
 use Rattle.std.proofs.lemmas.Bool.{cases_Bool}
 use Rattle.std.specs.Cmp.Lexicographic.{bytes_decides}
-use Rattle.std.specs.List.{AllByRecursion, IsDistinct, list_any, position_or_len}
+use Rattle.std.specs.List.{AllByRecursion, list_any, position_or_len}
 use Rattle.std.specs.Prelude.{slice_get}
 use Rattle.std.proofs.lemmas.List.Folds.{list_any_at, position_or_len_push}
 use Rattle.std.proofs.lemmas.List.Sums.{passes_at_first}
@@ -83,41 +83,6 @@ told_apart_back x y apart =
       | true ↦ λ e. sym (place_is_itself x y (sym (same_parts y x e))) ∙ apart
       | false ↦ λ e. refl
     ] refl
-
--- one of distinct places is the first of its kind
-first_where : (places : List PlaceParts) (p : PlaceParts) (i : ℕ) → IsDistinct same_place places
-    → slice_get places i ≡ Some p
-    → (position_or_len (same_place p) places ≡ i) × (i < length places)
-unfolding IsDistinct
-first_where [] p zero apart at = absurd (let e : None ≡ Some p = at in cc)
-first_where [] p (suc i) apart at = absurd (let e : None ≡ Some p = at in cc)
-first_where (x ∷ xs) p zero apart at =
-    let is : x ≡ p = (let e : Some x ≡ Some p = at in cc) in
-    (rw (place_is_itself p x (sym is)) refl, omega arith)
-first_where (x ∷ xs) p (suc i) apart at =
-    let rest = first_where xs p i apart.1 at in
-    let fails = told_apart_back x p (fails_at (same_place x) xs p i apart.0 at) in
-    (rw (fails, rest.0) (omega arith), omega (arith, rest.1))
-
-number_where : (places : List PlaceParts) (p : PlaceParts) (n : ℕ) → IsDistinct same_place places
-    → place_at places n ≡ Some p → number_of places p ≡ Some n
-number_where places p zero apart at = absurd (let e : None ≡ Some p = at in cc)
-number_where places p (suc i) apart at =
-    let first = first_where places p i apart at in
-    let within : ltb i (length places) ≡ true = (Decides-ltb i (length places)).1 first.1 in
-    rw (first.0, within) (ap Some (omega arith))
-
-told : (b : Bool) → not b ≡ false → b ≡ true
-told true h = refl
-told false h = absurd (let e : true ≡ false = h in cc)
-
--- the number of a place that does not differ from one of distinct places is that one's
-pub number_of_equal : (places : List PlaceParts) (found p : PlaceParts) (n : ℕ)
-    → IsDistinct same_place places → place_at places n ≡ Some found
-    → not (same_place found p) ≡ false → number_of places p ≡ Some n
-number_of_equal places found p n apart at same =
-    number_where places p n apart
-    (at ∙ ap (λ q. Some q) (same_parts found p (told (same_place found p) same)))
 
 pub numbers_name_places : NumbersNamePlaces
 numbers_name_places places p n =

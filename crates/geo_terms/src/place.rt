@@ -173,11 +173,35 @@ impl Place {
         ensures { result ≡ (same_text self.now.country other.now.country
             && same_text self.now.region other.now.region) }
     {
-        let lead = self.parts.lead;
-        if lead != 0 && lead == other.parts.lead {
+        if self.has_lead_of(other) {
             return true;
         }
         self.country() == other.country() && self.region() == other.region()
+    }
+
+    // Whether one number tells the country and the region of both.
+    fn has_lead_of(&self, other: &Place) -> bool
+        ensures { IsTrue result → IsTrue (same_text self.now.country other.now.country
+            && same_text self.now.region other.now.region) }
+    {
+        let lead = self.parts.lead;
+        if lead == 0 || lead != other.parts.lead {
+            return false;
+        }
+        true
+    }
+
+    // The order of both by country and region; mostly one comparison of numbers tells that they
+    // are the same.
+    fn front_cmp(&self, other: &Place) -> Ordering
+        ensures { result ≡ order.front_cmp self.now other.now }
+    {
+        if self.has_lead_of(other) {
+            return Ordering::Equal;
+        }
+        self.country()
+            .cmp(other.country())
+            .then_with(|| self.region().cmp(other.region()))
     }
 }
 
@@ -269,9 +293,7 @@ impl Ord for Place {
     ghost matches_eq = { order.place_ties };
 
     fn cmp(&self, other: &Place) -> Ordering {
-        self.country()
-            .cmp(other.country())
-            .then_with(|| self.region().cmp(other.region()))
+        self.front_cmp(other)
             .then_with(|| self.city().cmp(other.city()))
             .then_with(|| self.postal().cmp(other.postal()))
     }

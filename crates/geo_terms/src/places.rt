@@ -185,7 +185,7 @@ fn told(list: &[Place], slots: &[u32], slot: usize, place: &Place) -> Option<Opt
     None
 }
 
-// Slots and others that lead to all places of the list, with room for as many more.
+// Slots and others that lead to all places of the list, with room for three times as many more.
 fn table_of(
     alloc: Global,
     list: &[Place],
@@ -197,7 +197,7 @@ fn table_of(
 {
     let mut slots = Vec::new(alloc);
     let mut others = BTreeMap::new(alloc);
-    slots.resize(4 * list.len() + FIRST_SLOTS, 0)?;
+    slots.resize(8 * list.len() + FIRST_SLOTS, 0)?;
     for at in 0..list.len() {
         note(&mut slots, &mut others, at as u32 + 1, &list[at])?;
     }

@@ -1,5 +1,5 @@
 -- The table leads to one place more after each step.
-use Rattle.std.proofs.Common.{rules, ◌∙◌}
+use Rattle.std.proofs.Common.{◌∙◌}
 use Rattle.geo_terms.proofs.TableLemmas.{table_next}
 use Rattle.geo_terms.proofs.places.table_of.Goals as goal
 

@@ -5,5 +5,5 @@ use Rattle.geo_terms.proofs.places.table_of.Given as goal
 abbrev pub invariant-loop-at : goal.invariant-loop-at
 invariant-loop-at l = record {
   table : IsTable (take l.at l.list) l.slots.items l.others;
-  room : length l.slots.items ≡ 4 * length l.list + 64;
+  room : length l.slots.items ≡ 8 * length l.list + 64;
 }
