@@ -8,38 +8,38 @@ use Rattle.geo_terms.specs.PlaceForm.{PlaceParts}
 use Rattle.geo_terms.specs.PlaceTable.{slots_of, IsPut, IsTable}
 use Rattle.geo_terms.proofs.NumberLemmas.{absent_any}
 use Rattle.geo_terms.proofs.TableLemmas.{table_longer, table_same}
-use Rattle.geo_terms.proofs.places.Places.push.Goals.{then-len-count+in_ok-slots, else-len-count}
+use Rattle.geo_terms.proofs.places.Places.push.Goals.{then-len-taken+in_ok-slots, else-len-taken}
 use Rattle.geo_terms.proofs.places.Places.push.Goals as goal
 
 pub invariant_of-self : goal.invariant_of-self
 invariant_of-self c =
-    let inside = c.if-len-count.self-inside in
+    let inside = c.if-len-taken.self-inside in
     let list : inside.list ≡ c.self.inside.list = search rules in
     let table : IsTable c.self.inside.list.items inside.slots.items inside.others =
-    elim c.if-len-count.branch [
-      | then-len-count+in_ok-slots w ↦ search rules
-      | else-len-count w ↦ let t = c.self.invariant.2 in search rules
+    elim c.if-len-taken.branch [
+      | then-len-taken+in_ok-slots w ↦ search rules
+      | else-len-taken w ↦ let t = c.self.invariant.2 in search rules
     ] in
     rw list (c.self.invariant.0, c.self.invariant.1, table)
 
 pub invariant_of-self-in_err-reserve : goal.invariant_of-self-in_err-reserve
 invariant_of-self-in_err-reserve c =
-    let inside = c.if-len-count.self-inside in
+    let inside = c.if-len-taken.self-inside in
     let table : IsTable c.self.inside.list.items inside.slots.items inside.others =
-    elim c.if-len-count.branch [
-      | then-len-count+in_ok-slots w ↦ search rules
-      | else-len-count w ↦ let t = c.self.invariant.2 in search rules
+    elim c.if-len-taken.branch [
+      | then-len-taken+in_ok-slots w ↦ search rules
+      | else-len-taken w ↦ let t = c.self.invariant.2 in search rules
     ] in
     let items : c.reserve.new.self.items ≡ c.self.inside.list.items = search rules in
     rw items (c.self.invariant.0, c.self.invariant.1, table)
 
 pub invariant_of-self-in_err-note : goal.invariant_of-self-in_err-note
 invariant_of-self-in_err-note c =
-    let inside = c.if-len-count.self-inside in
+    let inside = c.if-len-taken.self-inside in
     let table : IsTable c.self.inside.list.items inside.slots.items inside.others =
-    elim c.if-len-count.branch [
-      | then-len-count+in_ok-slots w ↦ search rules
-      | else-len-count w ↦ let t = c.self.invariant.2 in search rules
+    elim c.if-len-taken.branch [
+      | then-len-taken+in_ok-slots w ↦ search rules
+      | else-len-taken w ↦ let t = c.self.invariant.2 in search rules
     ] in
     let items : c.reserve.new.self.items ≡ c.self.inside.list.items = search rules in
     let kept = table_same c.self.inside.list.items inside.slots.items inside.others
@@ -48,12 +48,12 @@ invariant_of-self-in_err-note c =
 
 pub invariant_of-self-2 : goal.invariant_of-self-2
 invariant_of-self-2 c =
-    let inside = c.if-len-count.self-inside in
+    let inside = c.if-len-taken.self-inside in
     let xs : List PlaceParts = c.self.inside.list.items in
     let p : PlaceParts = c.args.place.now in
-    let table : IsTable xs inside.slots.items inside.others = elim c.if-len-count.branch [
-      | then-len-count+in_ok-slots w ↦ search rules
-      | else-len-count w ↦ let t = c.self.invariant.2 in search rules
+    let table : IsTable xs inside.slots.items inside.others = elim c.if-len-taken.branch [
+      | then-len-taken+in_ok-slots w ↦ search rules
+      | else-len-taken w ↦ let t = c.self.invariant.2 in search rules
     ] in
     let none : number_of xs p ≡ None = search rules in
     let items : c.reserve.new.self.items ≡ xs = search rules in
