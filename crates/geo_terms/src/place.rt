@@ -66,11 +66,11 @@ impl Model for Place {
       postal = (arc_value p.parts).postal;
     }) × Tells (arc_value p.parts).lead (arc_value p.parts).country (arc_value p.parts).region
         × ((arc_value p.parts).mark ≡ place_mark (record {
-      country = (arc_value p.parts).country;
-      region = (arc_value p.parts).region;
-      city = (arc_value p.parts).city;
-      postal = (arc_value p.parts).postal;
-    })) };
+          country = (arc_value p.parts).country;
+          region = (arc_value p.parts).region;
+          city = (arc_value p.parts).city;
+          postal = (arc_value p.parts).postal;
+        })) };
 }
 
 impl Place {
@@ -246,9 +246,8 @@ fn tells(lead: u64, country: &[u8], region: &[u8]) -> bool
     &bytes[1..3] == country && &bytes[1..count] == region
 }
 
-// One more than the length of the region, and its bytes behind that, or where there is none those
-// of
-// the country: the lowest first.
+// One more than the length of the region, and behind it the region's bytes, the lowest first; where
+// there is no region, those of the country.
 fn spelled(country: &[u8], region: &[u8]) -> u64 {
     let text = if region.is_empty() { country } else { region };
     let mut word = 0;

@@ -188,10 +188,7 @@ fn told(list: &[Place], slots: &[u32], slot: usize, place: &Place) -> Option<Opt
 }
 
 // Slots and others that lead to all places of the list, with room for three times as many more.
-fn table_of(
-    alloc: Global,
-    list: &[Place],
-) -> Result<(Vec<u32>, BTreeMap<Place, u32>), Memory>
+fn table_of(alloc: Global, list: &[Place]) -> Result<(Vec<u32>, BTreeMap<Place, u32>), Memory>
     requires few { length list.now < 2 ^ 32 }
     requires distinct { IsDistinct same_place list.now }
     ensures table { IfOk result (λ made. IsTable list.now made.0.items made.1) }

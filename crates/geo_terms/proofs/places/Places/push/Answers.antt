@@ -69,5 +69,5 @@ invariant_of-self-2 c =
       IsDistinct-push place_equiv xs p c.self.invariant.0 (absent_any xs p none),
       search rules,
       table_longer xs inside.slots.items inside.others table p none c.note.new.slots.items
-      c.note.new.others put,
+          c.note.new.others put,
     )
