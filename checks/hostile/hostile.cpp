@@ -5,7 +5,7 @@
 //   hostile FAMILY COUNT [honest] > feed.csv
 //
 // ranges  prefixes of one hash, falling
-// places  places of one hash
+// places  places of one mark, so that all have the same two slots
 // texts   cities whose marks share their low 12 bits
 // packed  cities whose spellings' hashes share their low 12 bits
 // cache   three cities in turn that put one another out of two slots of a table of 2^20
@@ -107,7 +107,7 @@ static string trap() {
     for (;;) {
         string front = letters(16);
         Fold fold;
-        for (const char *text : {"DE", "\xff", "", "\xff"}) fold.write(text);
+        for (const char *text : {"DE", ""}) fold.write(text);
         u64 now = fold.state + 32;
         now = folded(word(bytes_of(front)) ^ now, word(bytes_of(front) + 8) ^ MULTIPLIER);
         if (is_plain(now)) return front + spelled(now);

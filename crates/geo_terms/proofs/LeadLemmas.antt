@@ -1,11 +1,17 @@
 -- What a number tells of a country and a region.
-use Rattle.std.proofs.Common.{◌≡◌, ℕ, ◌<◌, true, ◌&&◌, List, drop, get_or, take}
+use Rattle.std.proofs.Common.{◌≡◌, ℕ, ◌<◌, true, false, ◌&&◌, List, drop, get_or, take, IsTrue}
 use Rattle.std.proofs.Common.{refl, subst, sym, ap, ◌∙◌}
+use Rattle.std.specs.Cmp.{both_tied}
+use Rattle.std.specs.Cmp.Lexicographic.{texts_ties}
 use Rattle.std.specs.Int.{w64, to_le_bytes}
+use Rattle.std.specs.Ordering.{is_eq}
 use Rattle.std.specs.Prelude.{◌-◌}
 use Rattle.geo_terms.proofs.NumberLemmas.{text_told}
-use Rattle.geo_terms.specs.PlaceForm.{same_text}
+use Rattle.geo_terms.specs.PlaceForm.{PlaceParts, same_text}
 use Rattle.geo_terms.specs.PlaceLead.{Tells, country_told, region_told}
+use Rattle.geo_terms.specs.PlaceOrder.{front_cmp}
+use Rattle.std.specs.declared.cmp.Ordering.{Ordering}
+use Rattle.std.specs.declared.cmp.Ordering.TheVariants.{Less, Equal, Greater}
 
 -- two pairs of texts that one number tells are the same
 pub told_alike : (lead other : ℕ) (country region country' region' : List ℕ) → 0 < lead
@@ -32,3 +38,16 @@ told_by_bytes lead bytes country region is one two =
       sym letters ∙ ap (λ bs. take 2 (drop 1 bs)) is,
       sym others ∙ ap (λ bs. take (get_or bs 0 0 - 1) (drop 1 bs)) is,
     )
+
+equal_where : (o : Ordering) → is_eq o ≡ true → Equal ≡ o
+equal_where Less is = absurd (let e : false ≡ true = is in cc)
+equal_where Equal is = refl
+equal_where Greater is = absurd (let e : false ≡ true = is in cc)
+
+-- the same country and region are in no order
+pub front_tied : (x y : PlaceParts)
+    → IsTrue (same_text x.country y.country && same_text x.region y.region)
+    → Equal ≡ front_cmp x y
+front_tied x y same =
+    equal_where (front_cmp x y)
+    (sym (both_tied _ _ _ _ (texts_ties x.country y.country) (texts_ties x.region y.region)) ∙ same)

@@ -13,3 +13,4 @@ pub mod RankLemmas
 pub mod ReportLemmas
 pub mod SlotLemmas
 pub mod StandLemmas
+pub mod TableLemmas

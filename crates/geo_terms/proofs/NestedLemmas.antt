@@ -3,7 +3,7 @@ use Rattle.std.proofs.Common.{◌≡◌, ℕ, zero, suc, ◌+◌, ◌-◌, ◌^�
 use Rattle.std.proofs.Common.{◌&&◌, ◌||◌, eqb, leb, ltb, List, [], ◌∷◌, ◌++◌, length, get_or, map}
 use Rattle.std.proofs.Common.{fold, take, Option, Some, None, slice_get, Ordering, refl, sym, ap}
 use Rattle.std.proofs.Common.{◌∙◌, subst, arith}
-use Rattle.std.specs.List.{filter, list_any}
+use Rattle.std.specs.List.{filter}
 use Rattle.std.specs.List.Sorted.{IsNonDecreasingBy}
 use Rattle.std.specs.Option.{option_map}
 use Rattle.std.specs.Ordering.{is_lt}
@@ -15,7 +15,7 @@ use Rattle.geo_addr.specs.Ranges.{Ends, IsRange, ground_first, holds}
 use Rattle.geo_terms.specs.Boundaries.{told}
 use Rattle.geo_terms.specs.First.{better}
 use Rattle.geo_terms.specs.FirstIndex.{index_cmp}
-use Rattle.geo_terms.specs.Nested.{AreBoundariesOf, ArePassed, Climb, Closes, IsPut, Nest, Reach}
+use Rattle.geo_terms.specs.Nested.{AreBoundariesOf, ArePassed, Climb, IsPut, Nest, Reach}
 use Rattle.geo_terms.specs.Nested.{best, best_index, innermost, is_edge, is_end, stands_at, top}
 use Rattle.geo_terms.specs.declared.firsts.boundaries.Boundary.{Boundary}
 use Rattle.geo_terms.proofs.BoundaryLemmas.{ground_before, held}

@@ -6,7 +6,7 @@ use Rattle.std.proofs.Common.{Some, None, option_map, refl, sym, ap, ◌∙◌, 
 use Rattle.std.proofs.Common.{inl, inr}
 use Rattle.std.proofs.lemmas.Bool.{cases_Bool}
 use Rattle.std.specs.Cmp.Lexicographic.{bytes_decides}
-use Rattle.std.specs.List.{AllByRecursion, IsDistinct, list_any, position_or_len}
+use Rattle.std.specs.List.{AllByRecursion, list_any, position_or_len}
 use Rattle.std.specs.Prelude.{slice_get}
 use Rattle.std.proofs.lemmas.List.Folds.{list_any_at, position_or_len_push}
 use Rattle.std.proofs.lemmas.List.Sums.{passes_at_first}
@@ -44,7 +44,7 @@ and_parts : (x y : Bool) → (x && y) ≡ true → (x ≡ true) × (y ≡ true)
 and_parts true y h = (refl, h)
 and_parts false y h = absurd (let e : false ≡ true = h in cc)
 
-same_parts : (x y : PlaceParts) → same_place x y ≡ true → x ≡ y
+pub same_parts : (x y : PlaceParts) → same_place x y ≡ true → x ≡ y
 same_parts x y h =
     let three = and_parts (same_text x.country y.country && same_text x.region y.region
     && same_text x.city y.city) (same_text x.postal y.postal) h in
@@ -57,7 +57,7 @@ same_parts x y h =
     let postal = (text_told x.postal y.postal).0 three.1 in
     λ i. record { country = country i; region = region i; city = city i; postal = postal i }
 
-place_is_itself : (x y : PlaceParts) → x ≡ y → same_place x y ≡ true
+pub place_is_itself : (x y : PlaceParts) → x ≡ y → same_place x y ≡ true
 place_is_itself x y e =
     rw (
       (text_told x.country y.country).1 (ap (λ p. p.country) e),
@@ -69,7 +69,7 @@ place_is_itself x y e =
 pub places_are_told_apart : PlacesAreToldApart
 places_are_told_apart x y = (same_parts x y, place_is_itself x y)
 
-fails_at : (q : PlaceParts → Bool) (xs : List PlaceParts) (p : PlaceParts) (i : ℕ)
+pub fails_at : (q : PlaceParts → Bool) (xs : List PlaceParts) (p : PlaceParts) (i : ℕ)
     → AllByRecursion (λ y. q y ≡ false) xs → slice_get xs i ≡ Some p → q p ≡ false
 fails_at q [] p zero none at = absurd (let e : None ≡ Some p = at in cc)
 fails_at q [] p (suc i) none at = absurd (let e : None ≡ Some p = at in cc)
@@ -77,47 +77,12 @@ fails_at q (x ∷ xs) p zero none at =
     let is : x ≡ p = (let e : Some x ≡ Some p = at in cc) in ap q (sym is) ∙ none.0
 fails_at q (x ∷ xs) p (suc i) none at = fails_at q xs p i none.1 at
 
-told_apart_back : (x y : PlaceParts) → same_place x y ≡ false → same_place y x ≡ false
+pub told_apart_back : (x y : PlaceParts) → same_place x y ≡ false → same_place y x ≡ false
 told_apart_back x y apart =
     elim (same_place y x) as (λ b. same_place y x ≡ b → b ≡ false) [
       | true ↦ λ e. sym (place_is_itself x y (sym (same_parts y x e))) ∙ apart
       | false ↦ λ e. refl
     ] refl
-
--- one of distinct places is the first of its kind
-first_where : (places : List PlaceParts) (p : PlaceParts) (i : ℕ) → IsDistinct same_place places
-    → slice_get places i ≡ Some p
-    → (position_or_len (same_place p) places ≡ i) × (i < length places)
-unfolding IsDistinct
-first_where [] p zero apart at = absurd (let e : None ≡ Some p = at in cc)
-first_where [] p (suc i) apart at = absurd (let e : None ≡ Some p = at in cc)
-first_where (x ∷ xs) p zero apart at =
-    let is : x ≡ p = (let e : Some x ≡ Some p = at in cc) in
-    (rw (place_is_itself p x (sym is)) refl, omega arith)
-first_where (x ∷ xs) p (suc i) apart at =
-    let rest = first_where xs p i apart.1 at in
-    let fails = told_apart_back x p (fails_at (same_place x) xs p i apart.0 at) in
-    (rw (fails, rest.0) (omega arith), omega (arith, rest.1))
-
-number_where : (places : List PlaceParts) (p : PlaceParts) (n : ℕ) → IsDistinct same_place places
-    → place_at places n ≡ Some p → number_of places p ≡ Some n
-number_where places p zero apart at = absurd (let e : None ≡ Some p = at in cc)
-number_where places p (suc i) apart at =
-    let first = first_where places p i apart at in
-    let within : ltb i (length places) ≡ true = (Decides-ltb i (length places)).1 first.1 in
-    rw (first.0, within) (ap Some (omega arith))
-
-told : (b : Bool) → not b ≡ false → b ≡ true
-told true h = refl
-told false h = absurd (let e : true ≡ false = h in cc)
-
--- the number of a place that does not differ from one of distinct places is that one's
-pub number_of_equal : (places : List PlaceParts) (found p : PlaceParts) (n : ℕ)
-    → IsDistinct same_place places → place_at places n ≡ Some found
-    → not (same_place found p) ≡ false → number_of places p ≡ Some n
-number_of_equal places found p n apart at same =
-    number_where places p n apart
-    (at ∙ ap (λ q. Some q) (same_parts found p (told (same_place found p) same)))
 
 pub numbers_name_places : NumbersNamePlaces
 numbers_name_places places p n =
@@ -154,7 +119,7 @@ table_kept places p n = by_test (ltb (position_or_len (same_place p) places) (le
         rw any refl
 
 -- a member at the end changes no index of one that was found before it
-position_stays : {X : Type 0} (q : X → Bool) (xs : List X) (y : X) (n : ℕ)
+pub position_stays : {X : Type 0} (q : X → Bool) (xs : List X) (y : X) (n : ℕ)
     → option_map (λ i. i + 1) (position q xs) ≡ Some n
     → option_map (λ i. i + 1) (position q (xs ++ y ∷ [])) ≡ Some n
 position_stays {X} q xs y n = by_test (ltb (position_or_len q xs) (length xs)) refl

@@ -1,11 +1,11 @@
 -- What one pass tells of statements that are seen through borrows, and where its boundaries stand.
-use Rattle.std.proofs.Common.{◌≡◌, ℕ, zero, suc, ◌+◌, ◌-◌, ◌^◌, ◌<◌, ◌≤◌, Bool, true, false, cond}
-use Rattle.std.proofs.Common.{◌&&◌, ◌||◌, ◌↔◌, ◌⊎◌, eqb, ltb, inl, inr, List, [], ◌∷◌, length, map}
+use Rattle.std.proofs.Common.{◌≡◌, ℕ, ◌+◌, ◌-◌, ◌^◌, ◌<◌, ◌≤◌, Bool, true, false, cond}
+use Rattle.std.proofs.Common.{◌&&◌, ◌||◌, ◌↔◌, eqb, ltb, inl, inr, List, [], ◌∷◌, length, map}
 use Rattle.std.proofs.Common.{get_or, fold, Option, Some, None, slice_get, Ordering, refl, sym, ap}
 use Rattle.std.proofs.Common.{◌∙◌, subst, arith}
-use Rattle.std.specs.Prelude.{Any, Contains}
+use Rattle.std.specs.Prelude.{Contains}
 use Rattle.std.specs.Cmp.{IsTotalOrder}
-use Rattle.std.specs.List.{enumerate_from, filter, list_any}
+use Rattle.std.specs.List.{enumerate_from, filter}
 use Rattle.std.specs.List.Retain.{DiffersFromLast, IsFiltered}
 use Rattle.std.specs.List.Sorted.{IsNonDecreasingBy, IsPermutation, IsSorted, IsStrictlyIncreasing}
 use Rattle.std.specs.Option.{option_and_then, option_map}
@@ -17,7 +17,7 @@ use Rattle.std.proofs.lemmas.List.Folds.{Any-from_list_any, list_any-from_Any}
 use Rattle.std.proofs.lemmas.List.Kept.{Contains-dedup_nat, Contains-from_dedup}
 use Rattle.std.proofs.lemmas.List.Sorted.{IsPermutation-map, list_any-IsPermutation}
 use Rattle.std.proofs.lemmas.Map.Keys.{IsStrictlyIncreasing-dedup}
-use Rattle.geo_addr.specs.Ranges.{AreCuts, Ends, IsCut, IsEdge, IsWithin, ground_first, holds}
+use Rattle.geo_addr.specs.Ranges.{AreCuts, Ends, IsEdge, ground_first, holds}
 use Rattle.geo_terms.specs.First.{better}
 use Rattle.geo_terms.specs.FirstIndex.{StandAtCuts, TellsFirst, index_cmp}
 use Rattle.geo_terms.specs.Nested.{AreBoundariesOf, StandAtEdges, best_index, is_edge, stands_at}

@@ -15,6 +15,7 @@ pub mod PlaceEquality
 pub mod PlaceForm
 pub mod PlaceLead
 pub mod PlaceOrder
+pub mod PlaceTable
 pub mod Precedence
 pub mod Report
 pub mod ReportOrder

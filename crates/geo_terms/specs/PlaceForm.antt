@@ -5,6 +5,7 @@ use Rattle.std.specs.Prelude.{◌∷◌, map, length, codes, if◌then◌else◌
 use Rattle.std.specs.List.{list_all}
 use Rattle.std.specs.Char.{is_ascii_alphabetic, is_ascii_alphanumeric, to_ascii_uppercase}
 use Rattle.std.specs.Cmp.Lexicographic.{pointwise}
+use Rattle.geo_terms.specs.declared.places.fields.TheConstants.{LONGEST}
 
 -- the four texts of a place
 pub record PlaceParts : Type 0 where
@@ -47,7 +48,7 @@ country_of_region _ = []
 
 -- the longest city or postal code, in bytes
 abbrev pub longest : ℕ
-longest = 1024
+longest = LONGEST
 
 -- the country code that stands for no country
 abbrev pub nowhere : List ℕ

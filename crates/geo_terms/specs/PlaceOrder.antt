@@ -1,18 +1,20 @@
 -- Places in the order of their texts.
-use Rattle.std.specs.Prelude.{◌≡◌, ℕ, List, Option, refl}
-use Rattle.std.specs.BTreeMap.{BTreeMap, get}
-use Rattle.std.specs.Cmp.{IsTotalOrder, IsPartialOrder, on_total, then_total, both_tied}
-use Rattle.std.specs.Cmp.{partial_order_from_agreeing_total}
+use Rattle.std.specs.Prelude.{◌≡◌}
+use Rattle.std.specs.Cmp.{IsTotalOrder, on_total, then_total, both_tied}
 use Rattle.std.specs.Cmp.Lexicographic.{slice_cmp, nat_list_cmp_total, texts_ties}
-use Rattle.std.specs.Ordering.{nat_cmp, then_cmp, on, as_partial_cmp, eq_by_cmp}
+use Rattle.std.specs.Ordering.{nat_cmp, then_cmp, on, eq_by_cmp}
 use Rattle.std.specs.declared.cmp.Ordering.{Ordering}
-use Rattle.geo_terms.specs.Numbers.{number_of, same_place}
+use Rattle.geo_terms.specs.Numbers.{same_place}
 use Rattle.geo_terms.specs.PlaceForm.{PlaceParts}
+
+-- by country and region
+abbrev pub front_cmp : PlaceParts → PlaceParts → Ordering
+front_cmp =
+    then_cmp (on (λ p. p.country) (slice_cmp nat_cmp)) (on (λ p. p.region) (slice_cmp nat_cmp))
 
 abbrev pub place_cmp : PlaceParts → PlaceParts → Ordering
 place_cmp =
-    then_cmp (then_cmp (then_cmp (on (λ p. p.country) (slice_cmp nat_cmp))
-    (on (λ p. p.region) (slice_cmp nat_cmp))) (on (λ p. p.city) (slice_cmp nat_cmp)))
+    then_cmp (then_cmp front_cmp (on (λ p. p.city) (slice_cmp nat_cmp)))
     (on (λ p. p.postal) (slice_cmp nat_cmp))
 
 abbrev pub place_total : IsTotalOrder place_cmp
@@ -26,7 +28,3 @@ abbrev pub place_ties : (x y : PlaceParts) → same_place x y ≡ eq_by_cmp plac
 place_ties x y =
     both_tied _ _ _ _ (both_tied _ _ _ _ (both_tied _ _ _ _ (texts_ties x.country y.country)
     (texts_ties x.region y.region)) (texts_ties x.city y.city)) (texts_ties x.postal y.postal)
-
--- the table leads each place to its number in the list
-abbrev pub Leads : List PlaceParts → BTreeMap PlaceParts ℕ → Type 0
-Leads places index = (p : PlaceParts) → get place_cmp index p ≡ number_of places p

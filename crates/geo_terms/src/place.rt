@@ -6,6 +6,7 @@ ghost use Rattle.std.specs.Hash as fed;
 ghost use Rattle.std.proofs.Common.{rules};
 ghost use Rattle.geo_terms.specs.PlaceForm.{IsPlace, same_text};
 ghost use Rattle.geo_terms.specs.PlaceLead.{Tells};
+ghost use Rattle.geo_terms.specs.PlaceTable.{place_mark};
 ghost use Rattle.geo_terms.specs.Numbers.{same_place};
 ghost use Rattle.geo_terms.specs.PlaceEquality as equality;
 ghost use Rattle.geo_terms.specs.PlaceOrder as order;
@@ -15,7 +16,7 @@ ghost use Rattle.std.specs.Cmp.{partial_order_from_agreeing_total};
 use geo_addr::{Memory, Text};
 use std::alloc::Global;
 use std::cmp::Ordering;
-use std::hash::{Hash, Hasher};
+use std::hash::{FoldHasher, Hash, Hasher};
 use std::marker::Model;
 use std::sync::Arc;
 use thiserror::Error;
@@ -46,6 +47,8 @@ impl Model for Place {
     ghost use Rattle.std.specs.Arc.{arc_value};
     ghost use Rattle.geo_terms.specs.PlaceForm.{PlaceParts, IsPlace};
     ghost use Rattle.geo_terms.specs.PlaceLead.{Tells};
+    ghost use Rattle.geo_terms.specs.PlaceTable.{place_mark};
+    ghost use Rattle.std.specs.Prelude.{◌≡◌};
 
     ghost Value = { PlaceParts };
 
@@ -61,14 +64,19 @@ impl Model for Place {
       region = (arc_value p.parts).region;
       city = (arc_value p.parts).city;
       postal = (arc_value p.parts).postal;
-    }) × Tells (arc_value p.parts).lead (arc_value p.parts).country (arc_value p.parts).region };
+    }) × Tells (arc_value p.parts).lead (arc_value p.parts).country (arc_value p.parts).region
+        × ((arc_value p.parts).mark ≡ place_mark (record {
+          country = (arc_value p.parts).country;
+          region = (arc_value p.parts).region;
+          city = (arc_value p.parts).city;
+          postal = (arc_value p.parts).postal;
+        })) };
 }
 
 impl Place {
-    /// The place of these texts, with their mark.
+    /// The place of these texts.
     pub(crate) fn of(
         alloc: Global,
-        mark: u64,
         country: Text,
         region: Text,
         city: Text,
@@ -84,7 +92,10 @@ impl Place {
         ensures { IfOk result (λ place. place
             ≡ record { country = country; region = region; city = city; postal = postal }) }
     {
-        let lead = lead_of(country.as_str().as_bytes(), region.as_str().as_bytes());
+        let (first, second) = (country.as_str().as_bytes(), region.as_str().as_bytes());
+        let (third, fourth) = (city.as_str().as_bytes(), postal.as_str().as_bytes());
+        let mark = mark_of(first, second, third, fourth);
+        let lead = lead_of(first, second);
         let parts = Parts {
             mark,
             lead,
@@ -126,9 +137,10 @@ impl Place {
         &self.parts.postal
     }
 
-    /// A number by which the place is found again quickly; it promises nothing, and others may have
-    /// it too.
-    pub fn mark(&self) -> u64 {
+    /// The number of a place that its slots in a table follow from; others may have it too.
+    pub(crate) fn mark(&self) -> u64
+        ensures { result ≡ place_mark self.now }
+    {
         self.parts.mark
     }
 
@@ -161,12 +173,53 @@ impl Place {
         ensures { result ≡ (same_text self.now.country other.now.country
             && same_text self.now.region other.now.region) }
     {
-        let lead = self.parts.lead;
-        if lead != 0 && lead == other.parts.lead {
+        if self.has_lead_of(other) {
             return true;
         }
         self.country() == other.country() && self.region() == other.region()
     }
+
+    // Whether one number tells the country and the region of both.
+    fn has_lead_of(&self, other: &Place) -> bool
+        ensures { IsTrue result → IsTrue (same_text self.now.country other.now.country
+            && same_text self.now.region other.now.region) }
+    {
+        let lead = self.parts.lead;
+        if lead == 0 || lead != other.parts.lead {
+            return false;
+        }
+        true
+    }
+
+    // The order of both by country and region; mostly one comparison of numbers tells that they
+    // are the same.
+    fn front_cmp(&self, other: &Place) -> Ordering
+        ensures { result ≡ order.front_cmp self.now other.now }
+    {
+        if self.has_lead_of(other) {
+            return Ordering::Equal;
+        }
+        self.country()
+            .cmp(other.country())
+            .then_with(|| self.region().cmp(other.region()))
+    }
+}
+
+// The number of a place of these texts that its slots in a table follow from.
+fn mark_of(country: &[u8], region: &[u8], city: &[u8], postal: &[u8]) -> u64
+    ensures { result ≡ place_mark (record {
+      country = country.now;
+      region = region.now;
+      city = city.now;
+      postal = postal.now;
+    }) }
+{
+    let mut hasher = FoldHasher::default();
+    hasher.write(country);
+    hasher.write(region);
+    hasher.write(city);
+    hasher.write(postal);
+    hasher.finish()
 }
 
 // A number that tells a country and its region, or 0 where none does.
@@ -193,9 +246,8 @@ fn tells(lead: u64, country: &[u8], region: &[u8]) -> bool
     &bytes[1..3] == country && &bytes[1..count] == region
 }
 
-// One more than the length of the region, and its bytes behind that, or where there is none those
-// of
-// the country: the lowest first.
+// One more than the length of the region, and behind it the region's bytes, the lowest first; where
+// there is no region, those of the country.
 fn spelled(country: &[u8], region: &[u8]) -> u64 {
     let text = if region.is_empty() { country } else { region };
     let mut word = 0;
@@ -240,9 +292,7 @@ impl Ord for Place {
     ghost matches_eq = { order.place_ties };
 
     fn cmp(&self, other: &Place) -> Ordering {
-        self.country()
-            .cmp(other.country())
-            .then_with(|| self.region().cmp(other.region()))
+        self.front_cmp(other)
             .then_with(|| self.city().cmp(other.city()))
             .then_with(|| self.postal().cmp(other.postal()))
     }

@@ -1,9 +1,11 @@
 //! Places of texts, and numbers for them.
-ghost use Rattle.std.specs.Prelude.{◌≡◌, ℕ, ◌-◌, ◌^◌, ◌<◌, ◌≤◌, ◌↔◌, [], length, IfOk, OnOk, OnErr};
-ghost use Rattle.std.specs.Prelude.{IsNone, IfSome, IsTrue, Some};
-ghost use Rattle.std.specs.Option.{option_copied};
+ghost use Rattle.std.specs.Prelude.{◌≡◌, ℕ, ◌+◌, ◌-◌, ◌*◌, ◌^◌, ◌<◌, ◌≤◌, ◌↔◌, ◌++◌, ◌∷◌, []};
+ghost use Rattle.std.specs.Prelude.{length, get_or, IfOk, OnOk, OnErr, IsNone, IfSome, IsTrue, Some};
+ghost use Rattle.std.specs.Prelude.{None, Option};
+ghost use Rattle.std.specs.Option.{option_copied, unwrap_or};
 ghost use Rattle.std.specs.List.{IsDistinct};
 ghost use Rattle.geo_terms.specs.Numbers.{number_of, place_at, same_place, with_place};
+ghost use Rattle.geo_terms.specs.PlaceTable.{first_slot, slots_of, said, IsTable, IsPut};
 
 pub(crate) mod fields;
 mod slots;
@@ -14,40 +16,38 @@ use geo_addr::Memory;
 use std::alloc::Global;
 use std::collections::BTreeMap;
 use std::marker::Model;
-use std::mem;
 use thiserror::Error;
 
 /// Distinct places with their numbers, in the order in which they came.
 ///
-/// The first place has number 1; a number that was given is never changed. A place is looked for by
-/// its mark first, and only where that leads to others by its texts, in a tree: a stranger who
-/// chooses marks makes a look-up as dear as the tree, and no dearer.
+/// The first place has number 1; a number that was given is never changed. Two slots that follow
+/// from a place lead to its number, mostly. A place whose slots others had first is in an ordered
+/// map, so that no choice of places makes a look-up long.
 #[derive(Drop)]
 pub struct Places {
     list: Vec<Place>,
-    index: BTreeMap<Place, u32>,
-    recent: Vec<u32>,
+    // Numbers, and 0 where none came.
+    slots: Vec<u32>,
+    others: BTreeMap<Place, u32>,
 }
-
-/// How many numbers are kept by marks at first, and at most.
-const FIRST_RECENT: usize = 1 << 14;
-
-const MOST_RECENT: usize = 1 << 20;
 
 impl Model for Places {
     ghost use Rattle.std.specs.Prelude.{List, ◌^◌, ◌<◌, length};
     ghost use Rattle.std.specs.List.{IsDistinct};
     ghost use Rattle.geo_terms.specs.PlaceForm.{PlaceParts};
     ghost use Rattle.geo_terms.specs.Numbers.{same_place};
-    ghost use Rattle.geo_terms.specs.PlaceOrder.{Leads};
+    ghost use Rattle.geo_terms.specs.PlaceTable.{IsTable};
 
     ghost Value = { List PlaceParts };
 
     ghost view = { λ p. p.list.items };
 
     ghost invariant = { λ p. IsDistinct same_place p.list.items
-        × (length p.list.items < 2 ^ 32) × Leads p.list.items p.index };
+        × (length p.list.items < 2 ^ 32) × IsTable p.list.items p.slots.items p.others };
 }
+
+/// How many slots are made for the first place.
+const FIRST_SLOTS: usize = 64;
 
 /// Why a place has no number.
 #[derive(Clone, Copy, Debug, PartialEq, Eq, Error)]
@@ -65,8 +65,8 @@ impl Places {
     {
         Places {
             list: Vec::new(alloc),
-            index: BTreeMap::new(alloc),
-            recent: Vec::new(alloc),
+            slots: Vec::new(alloc),
+            others: BTreeMap::new(alloc),
         }
     }
 
@@ -81,93 +81,57 @@ impl Places {
             ↔ (IsNone (number_of self.old place.now) × (length self.old ≡ 2 ^ 32 - 1)) }
         ensures err { OnErr result (self.new ≡ self.old) }
     {
-        if let Some(number) = self.number_by_mark(place) {
+        if let Some(number) = self.number(place) {
             return Ok(number);
-        }
-        let number = self.number_by_texts(place)?;
-        self.remember(place, number);
-        Ok(number)
-    }
-
-    // From now on the place's mark leads to this number, if there is memory for that.
-    fn remember(&mut self, place: &Place, number: u32)
-        ensures { self.new ≡ self.old }
-    {
-        let count = self.recent.len();
-        if count < MOST_RECENT && count / 4 <= self.list.len() {
-            self.more_recent(count);
-        }
-        note_recent(&mut self.recent, place, number);
-    }
-
-    // More slots for numbers by marks, if there is memory for them, with the numbers given so far.
-    fn more_recent(&mut self, count: usize)
-        ensures { self.new ≡ self.old }
-    {
-        let mut recent = Vec::new(*self.list.allocator());
-        if recent
-            .resize(count.saturating_mul(2).max(FIRST_RECENT), 0)
-            .is_err()
-        {
-            return;
-        }
-        for (index, place) in self.list.iter().enumerate() {
-            note_recent(&mut recent, place, index as u32 + 1);
-        }
-        self.recent = recent;
-    }
-
-    // The number of a place that its mark leads to, in the slot of the mark or the one beside it.
-    fn number_by_mark(&self, place: &Place) -> Option<u32>
-        ensures { IfSome result (λ number. number_of self.now place.now ≡ Some number) }
-    {
-        let slot = slot_of(&self.recent, place);
-        match self.number_in(slot, place) {
-            Some(number) => Some(number),
-            None => self.number_in(slot ^ 1, place),
-        }
-    }
-
-    // The number in this slot, if it is that of the place.
-    fn number_in(&self, slot: usize, place: &Place) -> Option<u32>
-        ensures { IfSome result (λ number. number_of self.now place.now ≡ Some number) }
-    {
-        let number = *self.recent.get(slot)?;
-        let found = self.get(number)?;
-        if found != place {
-            return None;
-        }
-        Some(number)
-    }
-
-    // The number of the place: the one that it has by its texts, or the next one.
-    #[tactic(auto, using(crate::proofs::NumberLemmas::position_after_insert, crate::proofs::NumberLemmas::numbers_name_places))]
-    fn number_by_texts(&mut self, place: &Place) -> Result<u32, PlacesFault>
-        ensures number { IfOk result (λ number. number_of self.new place.now ≡ Some number) }
-        ensures held { IfOk result (λ number. place_at self.new number ≡ Some place.now) }
-        ensures table { OnOk result (self.new ≡ with_place self.old place.now) }
-        ensures known { IfSome (number_of self.old place.now) (λ number. result ≡ Ok number) }
-        ensures full { (result ≡ Err PlacesFault.Full)
-            ↔ (IsNone (number_of self.old place.now) × (length self.old ≡ 2 ^ 32 - 1)) }
-        ensures err { OnErr result (self.new ≡ self.old) }
-    {
-        if let Some(number) = self.index.get(place) {
-            return Ok(*number);
         }
         if self.list.len() >= u32::MAX as usize {
             return Err(PlacesFault::Full);
         }
-        let (Ok(copy), Ok(key)) = (place.copied(), place.copied()) else {
-            return Err(PlacesFault::Memory);
-        };
-        let number = self.list.len() as u32 + 1;
-        if self.list.push(copy).is_err() {
-            return Err(PlacesFault::Memory);
+        match self.push(place) {
+            Ok(number) => Ok(number),
+            Err(_refused) => Err(PlacesFault::Memory),
         }
-        if self.index.insert(key, number).is_err() {
-            self.list.pop();
-            return Err(PlacesFault::Memory);
+    }
+
+    // The number of the place, if it has one.
+    fn number(&self, place: &Place) -> Option<u32>
+        ensures { result ≡ number_of self.now place.now }
+    {
+        if self.slots.is_empty() {
+            return None;
         }
+        let slot = slot_of(place, self.slots.len());
+        let (list, slots) = (self.list.as_slice(), self.slots.as_slice());
+        if let Some(answer) = told(list, slots, slot, place) {
+            return answer;
+        }
+        if let Some(answer) = told(list, slots, slot + 1, place) {
+            return answer;
+        }
+        self.others.get(place).copied()
+    }
+
+    // Gives the next number to a new place.
+    fn push(&mut self, place: &Place) -> Result<u32, Memory>
+        requires new { number_of self.old place.now ≡ None }
+        requires room { length self.old < 2 ^ 32 - 1 }
+        ensures number { IfOk result (λ number. number ≡ length self.old + 1) }
+        ensures pushed { OnOk result (self.new ≡ self.old ++ place.now ∷ []) }
+        ensures err { OnErr result (self.new ≡ self.old) }
+    {
+        let count = self.list.len();
+        // A place in the map takes no slot, so those who crowd it do not have the table made anew.
+        let taken = count.saturating_sub(self.others.len());
+        if self.slots.len() < 2 * taken + 2 {
+            let (slots, others) = table_of(*self.list.allocator(), self.list.as_slice())?;
+            self.slots = slots;
+            self.others = others;
+        }
+        let copy = place.copied()?;
+        self.list.reserve(1)?;
+        let number = count as u32 + 1;
+        note(&mut self.slots, &mut self.others, number, place)?;
+        self.list.push_reserved(copy);
         Ok(number)
     }
 
@@ -197,19 +161,74 @@ impl Places {
     }
 }
 
-// Puts a number into the slot of the place's mark, and what was there into the one beside it.
-fn note_recent(recent: &mut [u32], place: &Place, number: u32) {
-    let slot = slot_of(recent, place);
-    let Some(first) = recent.get_mut(slot) else {
-        return;
-    };
-    let before = mem::replace(first, number);
-    if let Some(second) = recent.get_mut(slot ^ 1) {
-        *second = before;
-    }
+// The first of the two slots of a place, of so many; the second is the next one.
+fn slot_of(place: &Place, len: usize) -> usize
+    requires { 1 < len }
+    ensures slot { result ≡ first_slot place.now len }
+    ensures within { result + 1 < len }
+{
+    (place.mark() % (len as u64 - 1)) as usize
 }
 
-// Where the number of a place with this mark is kept.
-fn slot_of(recent: &[u32], place: &Place) -> usize {
-    place.mark() as usize & recent.len().saturating_sub(1)
+// What the slot tells of the place, if anything.
+fn told(list: &[Place], slots: &[u32], slot: usize, place: &Place) -> Option<Option<u32>>
+    requires { slot < length slots.now }
+    ensures { (rest : Option ℕ) → said list.now place.now (get_or slots.now slot 0) rest
+        ≡ unwrap_or result rest }
+{
+    let number = slots[slot];
+    if number == 0 {
+        return Some(None);
+    }
+    let found = list.get(number as usize - 1)?;
+    if place == found {
+        return Some(Some(number));
+    }
+    None
+}
+
+// Slots and others that lead to all places of the list, with room for three times as many more.
+fn table_of(alloc: Global, list: &[Place]) -> Result<(Vec<u32>, BTreeMap<Place, u32>), Memory>
+    requires few { length list.now < 2 ^ 32 }
+    requires distinct { IsDistinct same_place list.now }
+    ensures table { IfOk result (λ made. IsTable list.now made.0.items made.1) }
+    ensures some { IfOk result (λ made. 1 < length made.0.items) }
+{
+    let mut slots = Vec::new(alloc);
+    let mut others = BTreeMap::new(alloc);
+    slots.resize(8 * list.len() + FIRST_SLOTS, 0)?;
+    for at in 0..list.len() {
+        note(&mut slots, &mut others, at as u32 + 1, &list[at])?;
+    }
+    Ok((slots, others))
+}
+
+// Notes the number of a new place in the first free one of its slots, or else among the others.
+fn note(
+    slots: &mut Vec<u32>,
+    others: &mut BTreeMap<Place, u32>,
+    number: u32,
+    place: &Place,
+) -> Result<(), Memory>
+    requires { 1 < length slots.old.items }
+    ensures put { OnOk result (IsPut slots.old.items slots.new.items others.old others.new number
+        place.now (slots_of place.now (length slots.old.items))) }
+    ensures len { length slots.new.items ≡ length slots.old.items }
+    ensures slots { OnErr result (slots.new.items ≡ slots.old.items) }
+    ensures others { OnErr result (others.new.entries ≡ others.old.entries) }
+{
+    let slot = slot_of(place, slots.len());
+    if slots[slot] == 0 {
+        slots[slot] = number;
+        return Ok(());
+    }
+    if slots[slot + 1] == 0 {
+        slots[slot + 1] = number;
+        return Ok(());
+    }
+    let key = place.copied()?;
+    if others.insert(key, number).is_err() {
+        return Err(Memory);
+    }
+    Ok(())
 }

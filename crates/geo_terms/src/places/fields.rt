@@ -4,7 +4,7 @@ ghost use Rattle.std.specs.Prelude.{IsOkUnless, IsTrue, [], ◌∷◌, if◌then
 ghost use Rattle.std.specs.List.{list_all, list_any};
 ghost use Rattle.std.specs.Char.{is_ascii_alphanumeric, is_ascii_lowercase};
 ghost use Rattle.geo_terms.specs.PlaceForm.{country_fits, country_of_region, is_country, is_empty};
-ghost use Rattle.geo_terms.specs.PlaceForm.{is_region, is_subdivision, lengths_fit, longest};
+ghost use Rattle.geo_terms.specs.PlaceForm.{is_region, is_subdivision, lengths_fit};
 ghost use Rattle.geo_terms.specs.PlaceForm.{nowhere, parts_of, place_of_country, region_fits};
 ghost use Rattle.geo_terms.specs.PlaceForm.{same_text, says_nothing, upper};
 ghost use Rattle.geo_terms.specs.SaidOf.{said_of, said_by};

@@ -190,7 +190,7 @@ impl Texts {
         ensures { IfOk result (λ place. place
             ≡ record { country = country; region = region; city = city; postal = postal }) }
     {
-        let place = Place::of(self.alloc, mark, country, region, city, postal)?;
+        let place = Place::of(self.alloc, country, region, city, postal)?;
         let copy = place.copied()?;
         self.places.keep(self.alloc, mark, copy)?;
         Ok(place)

@@ -1,4 +1,4 @@
-use Rattle.std.proofs.Common.{◌≡◌, ◌∙◌, ◌+◌, ◌-◌, ◌^◌, ◌<◌, ◌≤◌, ◌++◌, ◌∷◌, [], ℕ, List, Bor}
+use Rattle.std.proofs.Common.{◌≡◌, ◌∙◌, ◌+◌, ◌^◌, ◌++◌, ◌∷◌, [], ℕ, List, Bor}
 use Rattle.std.proofs.Common.{None, Option, Ordering, ap, arith, subst, sym}
 use Rattle.std.specs.Option.{option_map, unwrap_or}
 use Rattle.geo_addr.specs.Ranges.{Ends}

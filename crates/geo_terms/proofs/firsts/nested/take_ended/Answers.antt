@@ -1,5 +1,5 @@
 use Rattle.std.proofs.Common.{◌≡◌, ◌∙◌, ◌+◌, ◌-◌, ◌^◌, ◌<◌, ◌≤◌, ◌++◌, ◌∷◌, [], ltb, true, false}
-use Rattle.std.proofs.Common.{length, slice_get, take, Some, ap, refl, arith, rules, sym, ℕ, List}
+use Rattle.std.proofs.Common.{length, slice_get, take, Some, ap, refl, arith, rules, sym, ℕ}
 use Rattle.std.specs.Option.{unwrap_or}
 use Rattle.std.proofs.lemmas.Bool.Decides.{nat_tests}
 use Rattle.geo_terms.proofs.NestedLemmas.{all_reach, last_is, snoc_length}

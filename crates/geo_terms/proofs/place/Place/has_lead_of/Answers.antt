@@ -4,23 +4,24 @@ use Rattle.std.specs.Arc.{arc_value}
 use Rattle.geo_terms.specs.PlaceForm.{PlaceParts, same_text}
 use Rattle.geo_terms.specs.declared.place.Parts.{Parts}
 use Rattle.geo_terms.proofs.LeadLemmas.{told_alike}
-use Rattle.geo_terms.proofs.place.Place.lies_beside.Goals as goal
+use Rattle.geo_terms.proofs.place.Place.has_lead_of.Goals as goal
 
-pub returns-then-lead-deref : goal.returns-then-lead-deref
-returns-then-lead-deref c =
+pub returns : goal.returns
+returns c = λ is.
     let one = arc_value c.self.inside.parts in
     let two = arc_value c.other.inside.parts in
     let read : c.deref.result.now.lead ≡ one.lead = ap (λ (p : Parts). p.lead) c.deref.ensures in
     let same : one.lead ≡ two.lead =
-    sym read ∙ c.if-lead-deref.true ∙ ap (λ (p : Parts). p.lead) c.deref-then-lead-ne0.ensures in
-    let some : 0 < one.lead = omega (arith, read, c.if-lead-ne0.true) in
+    sym read ∙ c.if-lead-deref.false
+    ∙ ap (λ (p : Parts). p.lead) c.deref-else-lead-eq0.ensures in
+    let some : 0 < one.lead = omega (arith, read, c.if-lead-eq0.false) in
     let alike = told_alike one.lead two.lead one.country one.region two.country two.region some
     same c.self.invariant.1 c.other.invariant.1 in
     let seen = subst
     (λ (q : PlaceParts). true ≡ (same_text one.country q.country && same_text one.region q.region))
     c.other.view_is alike in
     let other = c.args.other.now in
-    subst
+    sym (subst
     (λ (p : PlaceParts).
     true ≡ (same_text p.country other.country && same_text p.region other.region))
-    c.self.view_is seen
+    c.self.view_is seen)
