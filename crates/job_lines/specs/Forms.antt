@@ -5,6 +5,7 @@ use Rattle.geo_addr.specs.Decimals.{decimal}
 use Rattle.geo_terms.specs.PlaceForm.{same_text}
 use Rattle.job_lines.specs.declared.form.Form.{Form}
 use Rattle.job_lines.specs.declared.form.Form.TheVariants.{Epoch, TypeName, Pieces, Do}
+use Rattle.job_lines.specs.declared.form.TheConstants.{MOST_PIECES}
 use Rattle.job_lines.specs.Acts.{act_by}
 use Rattle.job_lines.specs.Names.{is_type_name}
 use Rattle.job_lines.specs.Words.{only}
@@ -21,14 +22,14 @@ epoch_form digits = epoch_of (decimal 1 20 digits)
 abbrev pub type_form : List ℕ → Option Form
 type_form name = if is_type_name name then Some (TypeName name) else None
 
--- `pieces N`: a number from 1 to 64 without leading zeros
+-- `pieces N`: a number from 1 to the most, without leading zeros
 abbrev pub begins_plain : List ℕ → Bool
 begins_plain [] = false
 begins_plain (b ∷ bs) = not (b == 48)
 
 abbrev pub pieces_of : Option ℕ → Option Form
 pieces_of None = None
-pieces_of (Some n) = if nat_le 1 n && nat_le n 64 then Some (Pieces n) else None
+pieces_of (Some n) = if nat_le 1 n && nat_le n MOST_PIECES then Some (Pieces n) else None
 
 abbrev pub pieces_form : List ℕ → Option Form
 pieces_form digits = if begins_plain digits then pieces_of (decimal 1 2 digits) else None

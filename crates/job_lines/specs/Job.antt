@@ -3,7 +3,9 @@ use Rattle.std.specs.Prelude.{ℕ, nat_lt, List, [], ◌∷◌, length, codes, O
 use Rattle.std.specs.Prelude.{Ok, Err, unwrap_or, if◌then◌else◌}
 use Rattle.std.specs.Str.{is_utf8}
 use Rattle.geo_addr.specs.Lines.{numbered_lines}
+use Rattle.job_lines.specs.declared.draft.TheConstants.{DEFAULT_PIECES}
 use Rattle.job_lines.specs.declared.form.Form.{Form}
+use Rattle.job_lines.specs.declared.job.TheConstants.{LONGEST_JOB}
 use Rattle.job_lines.specs.declared.job.Job.{Job}
 use Rattle.job_lines.specs.declared.fault.JobFault.{JobFault}
 use Rattle.job_lines.specs.declared.fault.JobFault.TheVariants.{TooLong, Utf8, Line, Epoch}
@@ -13,14 +15,14 @@ use Rattle.job_lines.specs.Words.{is_passed_over, words}
 
 -- the most bytes of a job
 abbrev pub longest : ℕ
-longest = 1048576
+longest = LONGEST_JOB
 
 -- the database type and the number of pieces where no line gives them
 abbrev pub default_name : List ℕ
 default_name = codes "Geofeed-City"
 
 abbrev pub default_pieces : ℕ
-default_pieces = 4
+default_pieces = DEFAULT_PIECES
 
 -- the draft with one more line: the same where the line is passed over,
 -- and none where it fits no form or stands where it may not

@@ -5,7 +5,9 @@ use Rattle.geo_addr.specs.Lines.{numbered_lines}
 use Rattle.job_lines.specs.declared.form.Form.{Form}
 use Rattle.job_lines.specs.declared.form.Form.TheVariants.{Epoch, TypeName, Pieces, Do}
 use Rattle.job_lines.specs.declared.job.Job.{Job}
+use Rattle.job_lines.specs.declared.form.TheConstants.{MOST_PIECES}
 use Rattle.job_lines.specs.declared.job.Step.{Step}
+use Rattle.job_lines.specs.declared.names.TheConstants.{LONGEST_WORD}
 use Rattle.job_lines.specs.Forms.{form_of}
 use Rattle.job_lines.specs.Job.{default_name, default_pieces}
 use Rattle.job_lines.specs.Words.{is_passed_over, words}
@@ -72,6 +74,6 @@ pub record SaysItsLines (bytes : List ℕ) (j : Job) : Type 0 where
 
 -- the name of a job's files, and its number of pieces, are within their limits
 pub record IsWithinLimits (j : Job) : Type 0 where
-  pub name : length j.meta.name ≤ 64
+  pub name : length j.meta.name ≤ LONGEST_WORD
   pub some : 1 ≤ j.pieces
-  pub few : j.pieces ≤ 64
+  pub few : j.pieces ≤ MOST_PIECES

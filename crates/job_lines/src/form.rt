@@ -12,6 +12,9 @@ use crate::words::next_word;
 use geo_addr::{Memory, Text, decimal};
 use std::alloc::Global;
 
+/// The most pieces that a job may ask for.
+pub(crate) const MOST_PIECES: u128 = 64;
+
 /// What a line of a job that is not passed over says.
 #[derive(Debug, Drop)]
 pub(crate) enum Form {
@@ -105,7 +108,7 @@ fn pieces_form(digits: &[u8]) -> Option<Form>
         return None;
     }
     let number = decimal(digits, 1, 2)?;
-    if number < 1 || number > 64 {
+    if number < 1 || number > MOST_PIECES {
         return None;
     }
     Some(Form::Pieces(number as u32))

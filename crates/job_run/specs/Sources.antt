@@ -8,6 +8,7 @@ use Rattle.geo_terms.specs.SourceForm.{DumpParts}
 use Rattle.geo_terms.specs.Sources.{InForce}
 use Rattle.geo_terms.specs.declared.source.SourceFault.{SourceFault}
 use Rattle.feed_refs.specs.Dumps.{dump, longest as longest_dump}
+use Rattle.geo_outside.specs.declared.whole.TheConstants.{PIECE}
 use Rattle.job_lines.specs.declared.act.Act.{Act}
 use Rattle.job_lines.specs.declared.act.Act.TheVariants.{Rpsl, Stats, Feed, Overrides, Drop, Emit}
 use Rattle.job_lines.specs.declared.act.Act.TheVariants.{Report, Mark, Back, Compact}
@@ -144,10 +145,10 @@ pub record IsDropped (source : Gone) (old new : Held) : Type 0 where
 
 -- the most bytes that the reads of an act give: those of its file, or one more piece
 abbrev pub read_room : Act → ℕ
-read_room (Rpsl slot file) = longest_dump + 65536
-read_room (Stats slot file) = longest_stats + 65536
-read_room (Feed url file) = longest_feed + 65536
-read_room (Overrides file) = longest_overrides + 65536
+read_room (Rpsl slot file) = longest_dump + PIECE
+read_room (Stats slot file) = longest_stats + PIECE
+read_room (Feed url file) = longest_feed + PIECE
+read_room (Overrides file) = longest_overrides + PIECE
 read_room (Drop source) = 0
 read_room (Emit file) = 0
 read_room Report = 0

@@ -1,11 +1,13 @@
 //! A registry dump, read from a file piece by piece.
-ghost use Rattle.std.specs.Prelude.{◌≡◌, ◌≢◌, ◌+◌, ◌++◌, ◌^◌, ◌<◌, ◌≤◌, ◌⊎◌, ℕ, List, [], IfErr};
+ghost use Rattle.std.specs.Prelude.{◌≡◌, ◌≢◌, ◌+◌, ◌++◌, ◌<◌, ◌≤◌, ◌⊎◌, ℕ, List, [], IfErr};
 ghost use Rattle.std.specs.Prelude.{IfOk, IsSome, None, Ok, OnErr, OnOk, Some, length, vec_len};
 ghost use Rattle.std.specs.FinMap as map;
 ghost use Rattle.geo_outside.specs.Count.{Rose};
 ghost use Rattle.geo_outside.specs.Files.{IsReadFrom, Told};
+ghost use Rattle.geo_outside.specs.declared.whole.TheConstants.{PIECE};
 ghost use Rattle.feed_refs.specs.Dumps.{dump, so_far};
 ghost use Rattle.feed_refs.specs.Readings.{reading};
+ghost use Rattle.feed_refs.specs.declared.limits.TheConstants.{LONGEST_DUMP};
 ghost use Rattle.job_run.specs.Dumps.{IsDump, no_dump, refusal};
 ghost use Rattle.job_run.specs.Stops.{IsHindered};
 ghost use Rattle.job_run.specs.World.{bytes_apart, held_in};
@@ -14,12 +16,9 @@ use crate::apart::{Apart, find_apart};
 use crate::stop::{Cause, Stop};
 use feed_refs::{DumpReader, LONGEST_DUMP};
 use geo_addr::Memory;
-use geo_outside::{Folder, FolderErr};
+use geo_outside::{Folder, FolderErr, PIECE};
 use geo_terms::{Dump, SourceFault};
 use std::alloc::Global;
-
-/// How many bytes one read asks for.
-const PIECE: usize = 65_536;
 
 /// The dump of a slot that is read where the lines of a job read: among the files that stand
 /// apart, and in the folder where there are none.
@@ -50,7 +49,7 @@ pub(crate) fn dump_in<F: Folder>(
         ⊎ (bytes_apart apart.now name.now ≡ None) }
     ensures apart_only { apart.now ≢ [] → (result ≢ Err Stop.ReadFailed)
         × (F.given folder.new ≤ F.given folder.old) }
-    ensures given { F.given folder.new ≤ F.given folder.old + (2 ^ 40 + 65536) }
+    ensures given { F.given folder.new ≤ F.given folder.old + (LONGEST_DUMP + PIECE) }
 {
     if apart.is_empty() {
         return read_dump(alloc, folder, slot, name);
@@ -95,7 +94,7 @@ fn read_dump<F: Folder>(alloc: Global, folder: &mut F, slot: &str, name: &str) -
     ensures read_faults { F.read_faults folder.old ≤ F.read_faults folder.new }
     ensures put_faults { F.put_faults folder.old ≤ F.put_faults folder.new }
     ensures misses { F.misses folder.old ≤ F.misses folder.new }
-    ensures given { F.given folder.new ≤ F.given folder.old + 2 ^ 40 + 65536 }
+    ensures given { F.given folder.new ≤ F.given folder.old + LONGEST_DUMP + PIECE }
 {
     let mut buffer = empty_piece(alloc)?;
     let piece: &mut [u8] = &mut buffer;
@@ -191,7 +190,7 @@ fn whole_dump(reader: DumpReader) -> Result<Dump, Stop>
 
 /// Room for one read.
 fn empty_piece(alloc: Global) -> Result<Vec<u8>, Memory>
-    ensures { IfOk result (λ v. vec_len v ≡ 65536) }
+    ensures { IfOk result (λ v. vec_len v ≡ PIECE) }
 {
     let piece = vec![in alloc; 0; PIECE]?;
     Ok(piece)

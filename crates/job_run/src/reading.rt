@@ -3,6 +3,7 @@ ghost use Rattle.std.specs.Prelude.{◌≡◌, ◌≢◌, ◌⊎◌, ◌≤◌, 
 ghost use Rattle.std.specs.FinMap as map;
 ghost use Rattle.geo_outside.specs.Count.{Rose};
 ghost use Rattle.geo_outside.specs.Files.{Told};
+ghost use Rattle.geo_outside.specs.declared.whole.TheConstants.{PIECE};
 ghost use Rattle.job_run.specs.Sources.{unreadable};
 ghost use Rattle.job_run.specs.Stops.{IsHindered};
 ghost use Rattle.job_run.specs.World.{bytes_apart, held_in};
@@ -35,7 +36,7 @@ pub fn read_file<F: Folder>(
     ensures read_faults { F.read_faults folder.old ≤ F.read_faults folder.new }
     ensures put_faults { F.put_faults folder.old ≤ F.put_faults folder.new }
     ensures misses { F.misses folder.old ≤ F.misses folder.new }
-    ensures given { F.given folder.new ≤ F.given folder.old + longest + 65536 }
+    ensures given { F.given folder.new ≤ F.given folder.old + longest + PIECE }
 {
     match read_whole(alloc, folder, name, longest) {
         Ok(bytes) => Ok(bytes),
@@ -76,7 +77,7 @@ pub(crate) fn read_source<F: Folder>(
         ⊎ (bytes_apart apart.now name.now ≡ None) }
     ensures apart_only { apart.now ≢ [] → (result ≢ Err Stop.ReadFailed)
         × (F.given folder.new ≤ F.given folder.old) }
-    ensures given { F.given folder.new ≤ F.given folder.old + longest + 65536 }
+    ensures given { F.given folder.new ≤ F.given folder.old + longest + PIECE }
 {
     if apart.is_empty() {
         return read_file(alloc, folder, name, longest);

@@ -1,10 +1,14 @@
 //! A source, read and set.
-ghost use Rattle.std.specs.Prelude.{◌≡◌, ◌≢◌, ◌⊎◌, ◌≤◌, ◌+◌, ◌^◌, [], IfErr, IfOk, None, OnErr};
+ghost use Rattle.std.specs.Prelude.{◌≡◌, ◌≢◌, ◌⊎◌, ◌≤◌, ◌+◌, [], IfErr, IfOk, None, OnErr};
 ghost use Rattle.std.specs.Prelude.{OnOk, Some};
 ghost use Rattle.geo_outside.specs.Count.{Rose};
 ghost use Rattle.geo_outside.specs.Files.{Told};
+ghost use Rattle.geo_outside.specs.declared.whole.TheConstants.{PIECE};
+ghost use Rattle.feed_refs.specs.declared.limits.TheConstants.{LONGEST_DUMP};
 ghost use Rattle.nro_stats.specs.File.{stats};
+ghost use Rattle.nro_stats.specs.declared.read.TheConstants.{LONGEST_STATS};
 ghost use Rattle.override_rows.specs.File.{overrides};
+ghost use Rattle.override_rows.specs.declared.read.TheConstants.{LONGEST_OVERRIDES};
 ghost use Rattle.job_run.specs.Sources.{IsSet, LacksApart, no_overrides, no_source, no_stats};
 ghost use Rattle.job_run.specs.Stops.{IsHindered};
 ghost use Rattle.job_run.specs.World.{held_in};
@@ -56,7 +60,7 @@ pub(crate) fn set_dump<F: Folder>(
         ⊎ LacksApart apart.now (Act.Rpsl slot.now name.now) }
     ensures apart_only { apart.now ≢ [] → (result ≢ Err Stop.ReadFailed)
         × (F.given folder.new ≤ F.given folder.old) }
-    ensures given { F.given folder.new ≤ F.given folder.old + (2 ^ 40 + 65536) }
+    ensures given { F.given folder.new ≤ F.given folder.old + (LONGEST_DUMP + PIECE) }
 {
     let dump = match dump_in(alloc, apart, folder, slot, name) {
         Ok(dump) => dump,
@@ -98,7 +102,7 @@ pub(crate) fn set_stats<R: Threads + Sync, F: Folder, G: Gate>(
         ⊎ LacksApart apart.now (Act.Stats slot.now name.now) }
     ensures apart_only { apart.now ≢ [] → (result ≢ Err Stop.ReadFailed)
         × (F.given folder.new ≤ F.given folder.old) }
-    ensures given { F.given folder.new ≤ F.given folder.old + (268435456 + 65536) }
+    ensures given { F.given folder.new ≤ F.given folder.old + (LONGEST_STATS + PIECE) }
 {
     let bytes = match read_source(forks.alloc, apart, folder, name, LONGEST_STATS as u64) {
         Ok(bytes) => bytes,
@@ -161,7 +165,7 @@ pub(crate) fn set_overrides<F: Folder>(
         ⊎ LacksApart apart.now (Act.Overrides name.now) }
     ensures apart_only { apart.now ≢ [] → (result ≢ Err Stop.ReadFailed)
         × (F.given folder.new ≤ F.given folder.old) }
-    ensures given { F.given folder.new ≤ F.given folder.old + (67108864 + 65536) }
+    ensures given { F.given folder.new ≤ F.given folder.old + (LONGEST_OVERRIDES + PIECE) }
 {
     let bytes = match read_source(alloc, apart, folder, name, LONGEST_OVERRIDES as u64) {
         Ok(bytes) => bytes,

@@ -3,6 +3,7 @@ use Rattle.std.specs.Prelude.{◌≡◌, ℕ, ◌+◌, Bool, true, false, List, 
 use Rattle.std.specs.Prelude.{None, Result, Ok, Err}
 use Rattle.std.specs.FinMap as map
 use Rattle.geo_outside.specs.Files.{Told}
+use Rattle.geo_outside.specs.declared.whole.TheConstants.{PIECE}
 use Rattle.update_session.specs.Standing.{begun_standing}
 use Rattle.job_lines.specs.declared.job.Job.{Job}
 use Rattle.job_lines.specs.declared.job.Step.{Step}
@@ -24,6 +25,7 @@ use Rattle.generated_job.specs.Job.{gen_start, gen_steps}
 use Rattle.geofeed_cmd.specs.Commands.Census.{counting}
 use Rattle.geofeed_cmd.specs.Commands.Check.{checking}
 use Rattle.geofeed_cmd.specs.Commands.Explain.{explaining}
+use Rattle.geofeed_cmd.specs.declared.commands.lookup.TheConstants.{LONGEST_FILE}
 
 -- a command is refused at once, with the name that its stop line gives, or it makes these moves
 -- from this world on
@@ -75,7 +77,7 @@ alone first = record { told = first; apart = []; session = begun_standing 0 []; 
 
 -- the most bytes of a file that is looked up in
 abbrev pub longest_file : ℕ
-longest_file = 1073741824
+longest_file = LONGEST_FILE
 
 -- a lookup makes one move: it shows its answer
 abbrev pub answer_plan : Told → (name : List ℕ) → Result (List ℕ) LookupFault → Plan
@@ -181,7 +183,7 @@ job_room (Ok read) = 1114112 + read_rooms read.steps
 abbrev pub room_of : Told → Option Command → ℕ
 room_of first None = 0
 room_of first (Some (build name)) = job_room (held_job (map.get first.held name))
-room_of first (Some (lookup name address)) = longest_file + 65536
+room_of first (Some (lookup name address)) = longest_file + PIECE
 room_of first (Some (explain name address)) = job_room (held_job (map.get first.held name))
 room_of first (Some (gen lines file)) = 0
 room_of first (Some (publish name block file)) = job_room (held_job (map.get first.held name))
