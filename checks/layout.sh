@@ -93,8 +93,6 @@ LEAST_PART 262144 line_parts/src/part.rt
 MOST_FIELDS 8 csv_lines/src/bare.rt
 MOST_TAILS 16384 csv_lines/src/tails.rt
 LONGEST 1024 geo_terms/src/places/fields.rt
-FIRST_RECENT 16384 geo_terms/src/places.rt
-MOST_RECENT 1048576 geo_terms/src/places.rt
 FIRST 64 geo_terms/src/places/slots.rt
 MOST 1048576 geo_terms/src/places/slots.rt
 MOST_PIECES 64 fan_work/src/forks.rt
@@ -107,6 +105,7 @@ GAP 16 mmdb_file/src/numbers.rt
 LONGEST_JOB 1048576 job_lines/src/job.rt
 LONGEST_NAME 255 job_lines/src/names.rt
 LONGEST_WORD 64 job_lines/src/names.rt
+MOST_PIECES 64 job_lines/src/form.rt
 LONGEST_FILE 1073741824 geofeed_cmd/src/commands/lookup.rt
 ROOM 1024 geofeed/src/sink.rt
 LARGEST_KEPT 33488896 geofeed/src/main.rt
