@@ -6,4 +6,4 @@ mod parts;
 mod read;
 
 pub use parts::{FEED_PART, read_feed_by_parts};
-pub use read::{LONGEST_FEED, read_feed};
+pub use read::{LONGEST_FEED, MOST as MOST_ENTRIES, read_feed};

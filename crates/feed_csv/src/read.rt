@@ -18,7 +18,7 @@ use std::alloc::Global;
 pub const LONGEST_FEED: usize = 67_108_864;
 
 /// The most lines that pass the line rules.
-pub(crate) const MOST: usize = 2_097_152;
+pub const MOST: usize = 2_097_152;
 
 /// For each so many bytes of a file room for one entry is taken ahead; most files have longer lines
 /// on the average, and for shorter ones the list grows once.

@@ -18,8 +18,9 @@ use std::marker::Model;
 
 /// Reads a registry dump in pieces, however it is cut.
 ///
-/// A dump has too many references over 2,097,152, counted in the objects that end within its first
-/// 2^40 bytes, and else is too long over 2^40 bytes. Contracts see what the text so far leaves.
+/// A dump has too many references over `MOST`, counted in the objects that end within its first
+/// `LONGEST_DUMP` bytes, and else is too long over as many. Contracts see what the text so far
+/// leaves.
 #[derive(Drop)]
 pub struct DumpReader {
     alloc: Global,

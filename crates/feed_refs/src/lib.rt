@@ -12,5 +12,5 @@ mod reference;
 
 pub use dump::DumpReader;
 pub use feed_url::{UrlRead, read_url};
-pub use limits::LONGEST_DUMP;
+pub use limits::{LONGEST_DUMP, MOST as MOST_REFERENCES};
 pub use reference::{FoundRef, What, reference_of};

@@ -4,4 +4,4 @@
 pub const LONGEST_DUMP: usize = 1 << 40;
 
 /// The most references in a dump.
-pub(crate) const MOST: usize = 2_097_152;
+pub const MOST: usize = 2_097_152;

@@ -3,4 +3,4 @@
 
 mod lookup;
 
-pub use lookup::{LookupFault, file_line, lookup_text};
+pub use lookup::{LONGEST_FILE, LookupFault, file_line, lookup_text};

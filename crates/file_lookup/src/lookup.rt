@@ -15,6 +15,9 @@ use mmdb_file::{Mmdb, OpenFault, WalkFault};
 use std::alloc::Global;
 use thiserror::Error;
 
+/// The most bytes of a file that is looked up in.
+pub const LONGEST_FILE: u64 = 1_073_741_824;
+
 /// Why a file gives no answer for an address.
 #[derive(Clone, Copy, Debug, PartialEq, Eq, Error)]
 pub enum LookupFault {

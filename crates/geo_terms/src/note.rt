@@ -22,7 +22,7 @@ pub enum Origin {
 /// A rule that a line or an object breaks; each is printed by its name.
 #[derive(Clone, Copy, Debug, PartialEq, Eq)]
 pub enum Rule {
-    /// An object over 1,048,576 bytes.
+    /// An object of too many bytes.
     P01,
     /// A line of an object that is neither an attribute nor a continuation.
     P02,
@@ -60,7 +60,7 @@ pub enum Rule {
     F08,
     /// A feed line that no reference to its feed covers.
     F09,
-    /// A feed line whose city or postal code is over 1,024 bytes.
+    /// A feed line whose city or postal code is too long.
     F10,
     /// A feed line with an IPv6 prefix inside `::/96`.
     F11,

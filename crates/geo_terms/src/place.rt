@@ -24,7 +24,7 @@ use thiserror::Error;
 /// A place: a country, a region, a city and a postal code, each of which may be empty, but not all.
 ///
 /// The country is a code of ISO 3166-1 and the region one of ISO 3166-2, both in upper case; no
-/// text is longer than 1,024 bytes. Whether the codes exist is not asked.
+/// text is longer than `LONGEST` of `places/fields.rt`. Whether the codes exist is not asked.
 /// Its copies share the four texts.
 #[derive(Debug, Drop)]
 pub struct Place {
@@ -326,7 +326,7 @@ pub enum PlaceFault {
     Country = 1,
     #[error("the region is not a country, a dash and one to three letters or digits")]
     Region = 2,
-    #[error("the city or the postal code is over 1,024 bytes")]
+    #[error("the city or the postal code is too long")]
     TooLong = 3,
     #[error("out of memory")]
     Memory = 4,

@@ -5,7 +5,7 @@ use thiserror::Error;
 /// Why a text is no job; where several things are wrong, the first of this list.
 #[derive(Clone, Copy, Debug, PartialEq, Eq, Error)]
 pub enum JobFault {
-    #[error("over 1,048,576 bytes")]
+    #[error("too many bytes")]
     TooLong,
     #[error("not UTF-8")]
     Utf8,

@@ -31,7 +31,7 @@ pub const LONGEST_JOB: usize = 1_048_576;
 
 /// Reads a job, whole.
 ///
-/// A job is UTF-8 text of at most 1,048,576 bytes. A byte order mark at its start and a carriage
+/// A job is UTF-8 text of at most `LONGEST_JOB` bytes. A byte order mark at its start and a carriage
 /// return at the end of a line are dropped. Blank lines, and lines whose first byte after blanks is
 /// `#`, are passed over. Every other line is words between blanks: `epoch N` first; then, before
 /// every step, at most one `type NAME` and at most one `pieces N`; and then the steps, in any

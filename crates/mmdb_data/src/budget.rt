@@ -1,10 +1,10 @@
 //! What one reading may spend.
 
 /// How many values are read at most, keys counted.
-pub(crate) const VALUES: u32 = 100_000;
+pub const VALUES: u32 = 100_000;
 
 /// How many bytes of texts, keys and byte strings are read at most.
-pub(crate) const BYTES: u32 = 67_108_864;
+pub const BYTES: u32 = 67_108_864;
 
 /// What a reading may still spend.
 #[derive(Clone, Copy)]

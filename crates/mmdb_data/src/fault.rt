@@ -28,16 +28,16 @@ pub enum DataCause {
     /// A key of a map is no text.
     #[error("a key that is no text")]
     Key = 6,
-    /// Values are nested more than 32 deep.
+    /// Values are nested deeper than `LEVELS`.
     #[error("nested too deep")]
     Deep = 7,
-    /// More than 100,000 values, keys counted.
+    /// More than `VALUES` values, keys counted.
     #[error("one value too many")]
     Many = 8,
     /// The size is not allowed for the type.
     #[error("of a size that its type does not have")]
     Size = 9,
-    /// More than 67,108,864 bytes of texts, keys and byte strings, pointed-to ones as often as they
+    /// More than `BYTES` bytes of texts, keys and byte strings, pointed-to ones as often as they
     /// are met.
     #[error("one byte of text too many")]
     Big = 10,

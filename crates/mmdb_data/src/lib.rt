@@ -17,12 +17,13 @@ mod sizes;
 mod value;
 mod writing;
 
+pub use budget::{BYTES as MOST_BYTES, VALUES as MOST_VALUES};
 pub use decoding::decode;
 pub use fault::{DataCause, DataFault};
 pub use laws::{
     keys_are_texts, packed_at_the_least_offset, packed_reads_back, pointers_read_back, reads_back,
 };
 pub use packer::Packer;
-pub use sizes::fits;
+pub use sizes::{LEVELS as MOST_LEVELS, fits};
 pub use value::Value;
 pub use writing::encode;

@@ -12,10 +12,10 @@ use geo_addr::Text;
 pub(crate) const MOST: usize = 16_843_036;
 
 /// The most levels of values, the outermost counted.
-pub(crate) const LEVELS: u8 = 32;
+pub const LEVELS: u8 = 32;
 
-/// Whether the value can be written: every map, list, text and byte string has at most 16,843,036
-/// pairs, members or bytes, and values are nested at most 32 deep, the outermost counted.
+/// Whether the value can be written: every map, list, text and byte string has at most `MOST`
+/// pairs, members or bytes, and values are nested at most `LEVELS` deep, the outermost counted.
 pub fn fits(value: &Value) -> bool
     ensures { IsTrue result ↔ CanBeSpelled (value_tree value.now) }
 {

@@ -7,4 +7,4 @@ mod read;
 mod record;
 
 pub use parts::read_stats_by_parts;
-pub use read::{LONGEST_STATS, read_stats};
+pub use read::{LONGEST_STATS, MOST as MOST_DELEGATIONS, read_stats};

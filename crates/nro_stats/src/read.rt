@@ -14,7 +14,7 @@ use std::alloc::Global;
 pub const LONGEST_STATS: usize = 268_435_456;
 
 /// The most delegations of a file.
-pub(crate) const MOST: usize = 2_097_152;
+pub const MOST: usize = 2_097_152;
 
 /// For each so many bytes of a file room for one row is taken ahead; few files have shorter lines
 /// on the average.

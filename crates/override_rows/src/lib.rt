@@ -4,4 +4,4 @@
 mod outcome;
 mod read;
 
-pub use read::{LONGEST_OVERRIDES, read_overrides};
+pub use read::{LONGEST_OVERRIDES, MOST as MOST_OVERRIDES, read_overrides};

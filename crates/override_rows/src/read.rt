@@ -16,7 +16,7 @@ use std::alloc::Global;
 pub const LONGEST_OVERRIDES: usize = 67_108_864;
 
 /// The most lines that pass the line rules.
-pub(crate) const MOST: usize = 2_097_152;
+pub const MOST: usize = 2_097_152;
 
 /// Reads a file of overrides: the rows and the notes of its lines.
 ///

@@ -1,4 +1,5 @@
-//! A word as it is shown: in quotes, without what would move a terminal's cursor, and not endless.
+//! A word as it is shown: in quotes, without what would move a terminal's cursor, and not endless;
+//! and a number as people write it.
 use geo_addr::Memory;
 use std::alloc::Global;
 
@@ -32,4 +33,18 @@ fn visible(letter: char) -> char {
         '\0'..='\u{1F}' | '\u{7F}'..='\u{9F}' => '\u{FFFD}',
         _ => letter,
     }
+}
+
+/// The number with a comma before each three digits.
+pub(crate) fn grouped(alloc: Global, number: u64) -> Result<String, Memory> {
+    let digits = format!(in alloc; "{number}")?;
+    let len = digits.len();
+    let mut text = String::new(alloc);
+    for (at, digit) in digits.chars().enumerate() {
+        if at > 0 && at % 3 == len % 3 {
+            text.push(',')?;
+        }
+        text.push(digit)?;
+    }
+    Ok(text)
 }

@@ -1,5 +1,9 @@
 //! Steps of a job, found by what a stop line says of them.
+use feed_csv::{LONGEST_FEED, MOST_ENTRIES};
+use feed_refs::{LONGEST_DUMP, MOST_REFERENCES};
 use job_lines::{Act, Job};
+use nro_stats::{LONGEST_STATS, MOST_DELEGATIONS};
+use override_rows::{LONGEST_OVERRIDES, MOST_OVERRIDES};
 
 /// What is done with a file by a step.
 #[derive(Clone, Copy, Debug, PartialEq, Eq)]
@@ -45,20 +49,21 @@ fn is_of(act: &Act, name: &str, done: Use) -> bool {
 }
 
 /// The limit of bytes of the source that a step sets.
-pub(crate) fn most_bytes(act: &Act) -> &'static str {
+pub(crate) fn most_bytes(act: &Act) -> usize {
     match act {
-        Act::Rpsl { .. } => "1,099,511,627,776",
-        Act::Stats { .. } => "268,435,456",
-        _ => "67,108,864",
+        Act::Rpsl { .. } => LONGEST_DUMP,
+        Act::Stats { .. } => LONGEST_STATS,
+        Act::Feed { .. } => LONGEST_FEED,
+        _ => LONGEST_OVERRIDES,
     }
 }
 
-/// What the statements of the source are that a step sets.
-pub(crate) fn statements(act: &Act) -> &'static str {
+/// The limit of statements of the source that a step sets, and what they are.
+pub(crate) fn most_statements(act: &Act) -> (usize, &'static str) {
     match act {
-        Act::Rpsl { .. } => "references",
-        Act::Stats { .. } => "delegations",
-        Act::Feed { .. } => "prefixes",
-        _ => "overrides",
+        Act::Rpsl { .. } => (MOST_REFERENCES, "references"),
+        Act::Stats { .. } => (MOST_DELEGATIONS, "delegations"),
+        Act::Feed { .. } => (MOST_ENTRIES, "prefixes"),
+        _ => (MOST_OVERRIDES, "overrides"),
     }
 }

@@ -2,9 +2,10 @@
 ghost use Rattle.std.specs.Prelude.{◌≡◌, [], IfOk};
 
 use crate::causes::cause_words;
-use crate::shown::shown;
-use crate::steps::{Use, act_at, line_of, most_bytes, statements};
+use crate::shown::{grouped, shown};
+use crate::steps::{Use, act_at, line_of, most_bytes, most_statements};
 use crate::told::{command_words, line_words};
+use file_lookup::LONGEST_FILE;
 use geo_addr::{Lines, Memory, Text, decimal};
 use geo_outside::{Folder, read_whole};
 use job_lines::{Act, Gone, Job, LONGEST_JOB, read_job};
@@ -199,7 +200,11 @@ fn job_stop<F: Folder>(
         None => Vec::new(alloc),
     };
     let what = match part(stopped, 2) {
-        "long" => "the job has more than 1,048,576 bytes",
+        "long" => {
+            let most = grouped(alloc, LONGEST_JOB as u64)?;
+            let what = format!(in alloc; "the job has more than {most} bytes")?;
+            return plain(alloc, what.as_str());
+        }
         "empty" => "the job has no line but blank ones and comments; it begins with: epoch N",
         "utf8" => {
             let line = first_not_utf8(bytes.as_slice());
@@ -235,7 +240,7 @@ fn damaged(alloc: Global, words: &[String], stopped: &Stopped<'_>) -> Result<Str
         Some(word) => shown(alloc, word.as_bytes())?,
         None => String::new(alloc),
     };
-    let cause = cause_words(part(stopped, 2).as_bytes());
+    let cause = cause_words(alloc, part(stopped, 2).as_bytes())?;
     let at = match part(stopped, 3) {
         "" => String::new(alloc),
         offset => format!(in alloc; ", at byte {offset} of the data section")?,
@@ -267,7 +272,8 @@ fn step_stop<F: Folder>(
 {
     let line = number(stopped, 2);
     if line == Some(0) || line.is_none() {
-        return plain(alloc, whole_words(stopped));
+        let what = whole_words(alloc, stopped)?;
+        return plain(alloc, what.as_str());
     }
     let job = job_of(alloc, words, folder);
     let act = match (&job, line) {
@@ -282,12 +288,18 @@ fn step_stop<F: Folder>(
 }
 
 // What no line of a job is named for.
-fn whole_words(stopped: &Stopped<'_>) -> &'static str {
-    match stopped.status {
-        7 => "the file has more than 1,073,741,824 bytes, the most of one that is looked up in",
+fn whole_words(alloc: Global, stopped: &Stopped<'_>) -> Result<String, Memory> {
+    let words = match stopped.status {
+        7 => {
+            let most = grouped(alloc, LONGEST_FILE)?;
+            return Ok(format!(in alloc;
+                "the file has more than {most} bytes, the most of one that is looked up in"
+            )?);
+        }
         8 => "the sources are too large: nodes, 16 and the data section together stay below 2^32",
         _ => "the command could not be done",
-    }
+    };
+    Ok(String::from_str(alloc, words)?)
 }
 
 fn act_words(alloc: Global, act: &Act, stopped: &Stopped<'_>) -> Result<String, Memory> {
@@ -327,9 +339,10 @@ fn source_words(alloc: Global, act: &Act, stopped: &Stopped<'_>) -> Result<Strin
     };
     let file = file.as_str();
     if part(stopped, 3) == "bytes" {
-        let most = most_bytes(act);
+        let most = grouped(alloc, most_bytes(act) as u64)?;
         return Ok(format!(in alloc; "the file {file} has more than {most} bytes")?);
     }
-    let what = statements(act);
-    Ok(format!(in alloc; "the file {file} has more than 2,097,152 {what}")?)
+    let (most, what) = most_statements(act);
+    let most = grouped(alloc, most as u64)?;
+    Ok(format!(in alloc; "the file {file} has more than {most} {what}")?)
 }

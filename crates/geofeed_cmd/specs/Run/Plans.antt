@@ -10,6 +10,7 @@ use Rattle.job_lines.specs.declared.job.Step.{Step}
 use Rattle.job_lines.specs.declared.fault.JobFault.{JobFault}
 use Rattle.job_lines.specs.Job.{job}
 use Rattle.file_lookup.specs.declared.lookup.LookupFault.{LookupFault}
+use Rattle.file_lookup.specs.declared.lookup.TheConstants.{LONGEST_FILE}
 use Rattle.file_lookup.specs.Lookup.{answer}
 use Rattle.job_run.specs.declared.stop.Cause.{Cause}
 use Rattle.job_run.specs.declared.stop.Cause.TheVariants as causes
@@ -25,7 +26,6 @@ use Rattle.generated_job.specs.Job.{gen_start, gen_steps}
 use Rattle.geofeed_cmd.specs.Commands.Census.{counting}
 use Rattle.geofeed_cmd.specs.Commands.Check.{checking}
 use Rattle.geofeed_cmd.specs.Commands.Explain.{explaining}
-use Rattle.geofeed_cmd.specs.declared.commands.lookup.TheConstants.{LONGEST_FILE}
 
 -- a command is refused at once, with the name that its stop line gives, or it makes these moves
 -- from this world on

@@ -13,14 +13,11 @@ ghost use Rattle.job_run.specs.World.{printing};
 
 use crate::status::Status;
 use crate::stop::{status_of, stop_at};
-use file_lookup::{LookupFault, lookup_text};
+use file_lookup::{LONGEST_FILE, LookupFault, lookup_text};
 use geo_addr::{Addr, Text};
 use geo_outside::{Folder, Sink};
 use job_run::{Cause, Stop, print, read_file};
 use std::alloc::Global;
-
-/// The most bytes of a file to be looked up in.
-const LONGEST_FILE: u64 = 1_073_741_824;
 
 /// Prints what the file of this name says of the address.
 #[tactic(auto, using(crate::proofs::StatusLemmas::status_causes))]

@@ -52,7 +52,7 @@ fn settings_of_jobs(rt: HostRuntime) -> Result<(), Fail> {
 
 /// Faults, and how each is printed.
 static FAULTS: [(JobFault, &str); 4] = [
-    (JobFault::TooLong, "over 1,048,576 bytes"),
+    (JobFault::TooLong, "too many bytes"),
     (JobFault::Utf8, "not UTF-8"),
     (JobFault::Line(2), "line 2 is refused"),
     (JobFault::Epoch, "no epoch"),
