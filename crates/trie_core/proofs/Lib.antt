@@ -11,3 +11,4 @@ pub mod RenameLemmas
 pub mod RootLemmas
 pub mod StoreLemmas
 pub mod TreeLemmas
+pub mod WindowLemmas

@@ -51,7 +51,8 @@ fn low_number(bytes: &[u8]) -> u64
     u64::from(u32::from_le_bytes([bytes[0], bytes[1], bytes[2], bytes[3]]))
 }
 
-fn mixed(a: u64, b: u64) -> u64
+// Two numbers mixed.
+pub(crate) fn mixed(a: u64, b: u64) -> u64
     ensures { result ≡ near.mixed a b }
 {
     let sum = a.wrapping_mul(0x9e37_79b9_7f4a_7c15).wrapping_add(b);
