@@ -1,69 +1,20 @@
 -- Lemmas on how the pairs of a store are found: at their later children, in their windows, or in
 -- the map.
-use Rattle.std.proofs.Common.{◌≡◌, ◌≢◌, ◌⊎◌, inl, inr, ℕ, zero, suc, ◌+◌, ◌^◌, ◌<◌, ◌≤◌, Bool, true}
-use Rattle.std.proofs.Common.{false, cond, List, [], ◌∷◌, ◌++◌, length, set, take, get_or}
-use Rattle.std.proofs.Common.{replicate, slice_get, Option, Some, None, Contains, refl, sym, ◌∙◌, ap}
+use Rattle.std.proofs.Common.{◌≡◌, ◌≢◌, ◌⊎◌, inl, inr, ℕ, zero, suc, ◌+◌, ◌^◌, ◌<◌}
+use Rattle.std.proofs.Common.{List, [], ◌∷◌, ◌++◌, length, set, take, get_or}
+use Rattle.std.proofs.Common.{replicate, slice_get, Some, Contains, refl, sym, ◌∙◌, ap}
 use Rattle.std.proofs.Common.{subst, arith, length-append}
-use Rattle.std.specs.BTreeMap.{BTreeMap, is_at}
-use Rattle.std.specs.Map.{lookup}
-use Rattle.std.specs.Ordering.{is_eq}
+use Rattle.std.specs.BTreeMap.{BTreeMap}
 use Rattle.std.proofs.lemmas.Option.{slice_get_within, slice_get-get_or, get_or_from_slice_get}
-use Rattle.trie_core.specs.contracts.node.PairOrd.TheImpl as pair_order
-use Rattle.trie_core.specs.contracts.node.PairOrd.TheImpl.Laws.{matches_eq-law}
-use Rattle.trie_core.specs.contracts.node.PairPartialEq.TheImpl as pair_impl
 use Rattle.trie_core.specs.declared.node.Pair.{Pair}
-use Rattle.trie_core.specs.Pairs.{later, first_slot, Stands, Keeps, AreFound, IsPut, crowded_at}
+use Rattle.trie_core.specs.Pairs.{later, first_slot, Stands, AreFound, IsPut, crowded_at}
 use Rattle.trie_core.proofs.StoreLemmas.{slice_get-append, slice_get-push, slice_get_last}
 use Rattle.trie_core.proofs.StoreLemmas.{slice_get-Contains, Contains-slice_get}
-use Rattle.trie_core.proofs.PairLemmas.{same_pair, pair_itself}
 use Rattle.trie_core.proofs.WindowLemmas.{set_here, set_other, zero_or_suc, Stands-kept}
 use Rattle.trie_core.proofs.WindowLemmas.{Keeps-set}
 use Rattle.std.proofs.lemmas.List.{length-set}
 
--- ---- the map
-
--- the order ties a pair with itself alone
-pub ties : (p q : Pair) → is_eq (pair_order.cmp-value.it p q) ≡ true → p ≡ q
-ties p q is = same_pair p q (matches_eq-law p q ∙ is)
-
-pub tied : (p : Pair) → is_eq (pair_order.cmp-value.it p p) ≡ true
-tied p = sym (matches_eq-law p p) ∙ pair_itself p
-
--- a map of the same entries has the same
-pub crowded_same : (crowded crowded' : BTreeMap Pair ℕ) → crowded'.entries ≡ crowded.entries
-    → (p : Pair) → crowded_at crowded' p ≡ crowded_at crowded p
-crowded_same crowded crowded' same p =
-    ap (λ (es : List (Pair × ℕ)). lookup (is_at (pair_order.cmp-value.it p)) es) same
-
-pub crowded_none : (crowded : BTreeMap Pair ℕ) → crowded.entries ≡ [] → (n : ℕ) (p : Pair)
-    → crowded_at crowded p ≡ Some n → ⊥
-crowded_none crowded none n p is =
-    let no : crowded_at crowded p ≡ None =
-    ap (λ (es : List (Pair × ℕ)). lookup (is_at (pair_order.cmp-value.it p)) es) none in
-    let e : None ≡ Some n = sym no ∙ is in
-    absurd (cc)
-
--- what the map has once a number was put there
-module _ (crowded crowded' : BTreeMap Pair ℕ) (p : Pair) (n : ℕ)
-    (put : (q : Pair) → crowded_at crowded' q
-    ≡ cond (is_eq (pair_order.cmp-value.it p q)) (Some n) (crowded_at crowded q)) where
-  pub put_here : crowded_at crowded' p ≡ Some n
-  put_here = put p ∙ ap (λ b. cond b (Some n) (crowded_at crowded p)) (tied p)
-
-  pub put_others : (q : Pair) → (crowded_at crowded' q ≡ crowded_at crowded q)
-      ⊎ ((q ≡ p) × (crowded_at crowded' q ≡ Some n))
-  put_others q = by (is_eq (pair_order.cmp-value.it p q)) refl
-    where
-      by : (b : Bool) → is_eq (pair_order.cmp-value.it p q) ≡ b
-          → (crowded_at crowded' q ≡ crowded_at crowded q)
-          ⊎ ((q ≡ p) × (crowded_at crowded' q ≡ Some n))
-      by true is = inr (
-        sym (ties p q is),
-        put q ∙ ap (λ b. cond b (Some n) (crowded_at crowded q)) is,
-      )
-      by false is = inl (put q ∙ ap (λ b. cond b (Some n) (crowded_at crowded q)) is)
-
--- ---- a number comes to a slot, or to the map
+-- ---- a number comes to a slot
 
 pub IsPut-slot : (slots : List ℕ) (crowded : BTreeMap Pair ℕ) (p : Pair) (n at : ℕ)
     → slice_get slots at ≡ Some 0
@@ -79,19 +30,6 @@ IsPut-slot slots crowded p n at free stands =
       others = λ q. inl refl;
     })
 
-pub IsPut-map : (slots : List ℕ) (crowded crowded' : BTreeMap Pair ℕ) (p : Pair) (n : ℕ)
-    → Stands slots (first_slot p (length slots)) 8 (Some n) n
-    → ((q : Pair) → crowded_at crowded' q
-    ≡ cond (is_eq (pair_order.cmp-value.it p q)) (Some n) (crowded_at crowded q))
-    → IsPut slots slots crowded crowded' p n
-IsPut-map slots crowded crowded' p n stands put = record {
-  len = refl;
-  kept = λ at k is. is;
-  stands = subst (λ o. Stands slots (first_slot p (length slots)) 8 o n)
-      (sym (put_here crowded crowded' p n put)) stands;
-  others = put_others crowded crowded' p n put;
-}
-
 -- what was read at the later child of a pair
 pub stands_from_read : (firsts : List ℕ) (at v : ℕ) (p : Pair) → at ≡ later p → at < length firsts
     → v ≡ get_or firsts at v → v ≢ 0 → (m : ℕ) × (slice_get firsts (later p) ≡ Some (suc m))
@@ -102,19 +40,6 @@ stands_from_read firsts at (suc m) p is within read some = (
 )
 
 -- ---- the pairs
-
--- no pairs, and no map
-pub AreFound-nil : (firsts slots : List ℕ) (crowded : BTreeMap Pair ℕ)
-    → (0 < length slots → 8 ≤ length slots) → crowded.entries ≡ []
-    → AreFound [] firsts slots crowded
-AreFound-nil firsts slots crowded wide none = record {
-  few = omega arith;
-  once = λ i j p at _. absurd (cc);
-  wide = wide;
-  only = λ some n p is. absurd (crowded_none crowded none n p is);
-  each = λ some n p at. absurd (cc);
-  noted = λ n p at. absurd (cc);
-}
 
 module _ (pairs : List Pair) (firsts slots : List ℕ) (crowded : BTreeMap Pair ℕ)
     (found : AreFound pairs firsts slots crowded) where
@@ -135,32 +60,7 @@ module _ (pairs : List Pair) (firsts slots : List ℕ) (crowded : BTreeMap Pair 
         (was.0, slice_get-append firsts (replicate m 0) (later p) (suc was.0) was.1);
   })
 
-  -- nor does another map of the same entries
-  pub AreFound-same : (crowded' : BTreeMap Pair ℕ) → crowded'.entries ≡ crowded.entries
-      → AreFound pairs firsts slots crowded'
-  AreFound-same crowded' same = record {
-    few = found.few;
-    once = found.once;
-    wide = found.wide;
-    only = λ some n p is. found.only some n p (sym (crowded_same crowded crowded' same p) ∙ is);
-    each = λ some n p at. elim (found.each some n p at) [
-      | inl first ↦ inl first
-      | inr other ↦
-          inr (subst (λ o. Stands slots (first_slot p (length slots)) 8 o n)
-          (sym (crowded_same crowded crowded' same p)) other)
-    ];
-    noted = found.noted;
-  }
-
-  -- a pair is missing where its later child has no number
-  pub absent_from_none : (p : Pair) → ((m : ℕ) → slice_get firsts (later p) ≢ Some (suc m))
-      → Contains pairs p → ⊥
-  absent_from_none p none has =
-      let at = slice_get-Contains pairs p has in
-      let was = found.noted at.0 p at.1 in
-      none was.0 was.1
-
-  -- and where it is neither the first one of its later child nor one of the others
+  -- a pair is missing where it is neither the first one of its later child nor one of the others
   pub absent_from_others : (p : Pair) → 0 < length slots
       → ((k : ℕ) → slice_get pairs k ≡ Some p → slice_get firsts (later p) ≢ Some (suc k))
       → ((k : ℕ) → slice_get pairs k ≡ Some p
@@ -391,7 +291,8 @@ module _ (pairs : List Pair) (few : length pairs < 2 ^ 32)
 
   -- one that went to the others
   pub next_other : (slots' : List ℕ) (crowded' : BTreeMap Pair ℕ)
-      → IsPut slots slots' crowded crowded' p n → AreFound (take (n + 1) pairs) firsts slots' crowded'
+      → IsPut slots slots' crowded crowded' p n
+      → AreFound (take (n + 1) pairs) firsts slots' crowded'
   next_other slots' crowded' put =
       subst (λ (ps : List Pair). AreFound ps firsts slots' crowded') (sym next)
       (push_other (take n pairs) firsts slots crowded found p new room (m, noted) slots' crowded'
@@ -423,15 +324,3 @@ module _ (pairs : List Pair) (few : length pairs < 2 ^ 32)
       let was = noted n (get_or pairs n d) read in
       next_other pairs few once n (get_or pairs n d) read firsts was.0 was.1 slots crowded found
       slots' crowded' put
-
-take_all : (pairs : List Pair) (n : ℕ) → n ≡ length pairs → take n pairs ≡ pairs
-take_all [] zero is = refl
-take_all [] (suc n) is = refl
-take_all (p ∷ pairs) zero is = absurd (omega (arith, is))
-take_all (p ∷ pairs) (suc n) is = ap (λ (xs : List Pair). p ∷ xs) (take_all pairs n (omega arith))
-
-pub AreFound-all : (pairs : List Pair) (n : ℕ) (firsts slots : List ℕ) (crowded : BTreeMap Pair ℕ)
-    → n ≡ length pairs → AreFound (take n pairs) firsts slots crowded
-    → AreFound pairs firsts slots crowded
-AreFound-all pairs n firsts slots crowded is =
-    subst (λ (ps : List Pair). AreFound ps firsts slots crowded) (take_all pairs n is)

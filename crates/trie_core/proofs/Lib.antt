@@ -5,7 +5,6 @@ pub mod FoundLemmas
 pub mod GraftLemmas
 pub mod HeldLemmas
 pub mod PaintLemmas
-pub mod PairLemmas
 pub mod PartLemmas
 pub mod RenameLemmas
 pub mod RootLemmas

@@ -1,6 +1,6 @@
 -- Lemmas on windows of slots: what stands there is found, and stays as more numbers come.
-use Rattle.std.proofs.Common.{◌≡◌, ◌≢◌, ◌⊎◌, inl, inr, ℕ, zero, suc, ◌+◌, ◌-◌, ◌<◌, ◌≤◌, List, [], ◌∷◌}
-use Rattle.std.proofs.Common.{length, get_or, set, replicate, slice_get, Option, Some, refl, sym}
+use Rattle.std.proofs.Common.{◌≡◌, ◌≢◌, ◌⊎◌, inl, inr, ℕ, zero, suc, ◌+◌, ◌<◌, List, [], ◌∷◌}
+use Rattle.std.proofs.Common.{length, get_or, set, slice_get, Option, Some, refl, sym}
 use Rattle.std.proofs.Common.{◌∙◌, ap, subst, arith}
 use Rattle.std.proofs.lemmas.Option.{slice_get-get_or}
 use Rattle.trie_core.specs.Pairs.{Stands, Keeps}
@@ -33,11 +33,6 @@ same_or_not (suc m) (suc n) = elim (same_or_not m n) [
   | inr d ↦ inr (λ e. d (let f : m ≡ n = omega (arith, e) in f))
 ]
 
--- what was read at an index
-pub stands_at : (slots : List ℕ) (at v : ℕ) → at < length slots → v ≡ get_or slots at v
-    → slice_get slots at ≡ Some v
-stands_at slots at v within read = slice_get-get_or slots at v within ∙ ap Some (sym read)
-
 -- what stands at an index is a number, if it is not 0
 pub number_at : (slots : List ℕ) (at : ℕ) → at < length slots → get_or slots at 0 ≢ 0
     → (m : ℕ) × (slice_get slots at ≡ Some (suc m))
@@ -58,7 +53,8 @@ unfolding Stands
 Stands-next slots at w v rest n is other stands =
     elim (subst (λ k. Stands slots at k rest n) is stands) [
       | inl here ↦ absurd (other here)
-      | inr on ↦ subst (λ k. Stands slots k v rest n) (let e : suc at ≡ at + 1 = omega arith in e) on.1
+      | inr on ↦
+          subst (λ k. Stands slots k v rest n) (let e : suc at ≡ at + 1 = omega arith in e) on.1
     ]
 
 -- nothing stands from a slot on that no number took

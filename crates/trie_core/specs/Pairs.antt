@@ -43,7 +43,8 @@ crowded_at crowded p = get pair_order.cmp-value.it crowded p
 
 -- each number is still at its slot
 abbrev pub Keeps : List ℕ → List ℕ → Type 0
-Keeps slots slots' = (at k : ℕ) → slice_get slots at ≡ Some (suc k) → slice_get slots' at ≡ Some (suc k)
+Keeps slots slots' =
+    (at k : ℕ) → slice_get slots at ≡ Some (suc k) → slice_get slots' at ≡ Some (suc k)
 
 -- at the slot of each pair stands one more than the number of a pair, which is this one's
 -- unless the window of the pair or the map leads to it, where there are windows
@@ -52,7 +53,8 @@ pub record AreFound (pairs : List Pair) (firsts slots : List ℕ) (crowded : BTr
   pub few : length pairs < 2 ^ 32
   pub once : (i j : ℕ) (p : Pair) → slice_get pairs i ≡ Some p → slice_get pairs j ≡ Some p → i ≡ j
   pub wide : 0 < length slots → 8 ≤ length slots
-  pub only : 0 < length slots → (n : ℕ) (p : Pair) → crowded_at crowded p ≡ Some n → slice_get pairs n ≡ Some p
+  pub only : 0 < length slots → (n : ℕ) (p : Pair) → crowded_at crowded p ≡ Some n
+      → slice_get pairs n ≡ Some p
   pub each : 0 < length slots → (n : ℕ) (p : Pair) → slice_get pairs n ≡ Some p
       → (slice_get firsts (later p) ≡ Some (suc n))
       ⊎ Stands slots (first_slot p (length slots)) 8 (crowded_at crowded p) n

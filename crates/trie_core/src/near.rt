@@ -1,4 +1,4 @@
-//! A hasher for nodes and their pairs that keeps near in a set what is asked for together.
+//! A hasher for nodes and places that keeps near in a set what is asked for together.
 ghost use Rattle.std.specs.Prelude.{◌≡◌};
 ghost use Rattle.trie_core.specs.NearHash as near;
 
@@ -7,12 +7,10 @@ use std::hash::{BuildHasherDefault, Hasher};
 /// What makes the hasher of a set of nodes, or of a map from them.
 pub type Near = BuildHasherDefault<NearHasher>;
 
-/// A hasher of the numbers of nodes, and of the pairs of a store.
+/// A hasher of the numbers of nodes and places.
 ///
-/// Nodes of near numbers come to one group of the table, and so do pairs of leaf 0 and a node of
-/// such a number: a way down to a single address is a chain of them, whose nodes are made and asked
-/// for one after the other. At most two pairs belong to a number, so no groups fill by that.
-/// All other pairs are mixed.
+/// Near numbers come to one group of the table, and so does a pair of 0 and such a number: what is
+/// made and asked for one after the other stands together. All other pairs of numbers are mixed.
 #[derive(Clone, Copy, Default)]
 pub struct NearHasher {
     earlier: u64,

@@ -25,7 +25,7 @@ const FIRST_SLOTS: usize = 1024;
 #[derive(Drop)]
 pub(crate) struct Others {
     // One more than the number of a pair, and 0 where none came. Half of them at least are free.
-    // There are none before the first pair, and after memory was short: then all pairs are searched.
+    // There are none before the first pair and after memory was short: then all pairs are searched.
     pub(crate) slots: Vec<u32>,
     pub(crate) crowded: BTreeMap<Pair, u32>,
     // How many more pairs may come before there are more slots.

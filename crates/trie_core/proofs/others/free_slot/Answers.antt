@@ -1,4 +1,4 @@
-use Rattle.std.proofs.Common.{◌≡◌, ℕ, suc, ◌+◌, ◌-◌, ◌<◌, length, slice_get, set, Some, ap, ◌∙◌, arith}
+use Rattle.std.proofs.Common.{◌≡◌, suc, ◌+◌, ◌-◌, ◌<◌, length, slice_get, set, Some, ap, ◌∙◌, arith}
 use Rattle.std.proofs.lemmas.Option.{slice_get-get_or}
 use Rattle.trie_core.proofs.WindowLemmas.{Keeps-set, Stands-set, Stands-behind, Stands-none}
 use Rattle.trie_core.proofs.others.free_slot.Goals as goal

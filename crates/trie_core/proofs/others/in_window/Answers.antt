@@ -1,4 +1,4 @@
-use Rattle.std.proofs.Common.{◌≡◌, ℕ, suc, ◌+◌, ◌-◌, length, refl, sym, subst, arith, rules}
+use Rattle.std.proofs.Common.{◌≡◌, suc, ◌+◌, ◌-◌, length, refl, sym, subst, arith, rules}
 use Rattle.trie_core.specs.Pairs.{Stands, first_slot}
 use Rattle.trie_core.proofs.WindowLemmas.{Stands-next, Stands-free, Stands-rest}
 use Rattle.trie_core.proofs.others.in_window.Goals as goal

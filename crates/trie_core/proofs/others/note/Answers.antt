@@ -1,4 +1,4 @@
-use Rattle.std.proofs.Common.{◌≡◌, ℕ, List, suc, slice_get, set, length, Option, Some, sym, subst}
+use Rattle.std.proofs.Common.{◌≡◌, ℕ, List, suc, slice_get, set, length, Option, Some, subst}
 use Rattle.std.proofs.Common.{rules}
 use Rattle.trie_core.specs.Pairs.{Stands, first_slot, crowded_at}
 use Rattle.trie_core.proofs.FoundLemmas.{IsPut-slot}

@@ -1,4 +1,4 @@
-use Rattle.std.proofs.Common.{◌≡◌, ◌≢◌, ◌<◌, ℕ, Some, slice_get}
+use Rattle.std.proofs.Common.{◌≢◌, ◌<◌, ℕ, Some, slice_get}
 use Rattle.trie_core.proofs.others.searched.Given as goal
 
 abbrev pub invariant-loop-number : goal.invariant-loop-number

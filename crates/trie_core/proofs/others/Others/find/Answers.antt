@@ -1,5 +1,5 @@
-use Rattle.std.proofs.Common.{◌≡◌, ◌<◌, ℕ, List, length, slice_get, Option, Some, None, refl, sym, ◌∙◌}
-use Rattle.std.proofs.Common.{subst, rules}
+use Rattle.std.proofs.Common.{◌≡◌, ◌<◌, ℕ, List, length, slice_get, Option, Some, None, refl, sym}
+use Rattle.std.proofs.Common.{◌∙◌, subst, rules}
 use Rattle.trie_core.specs.Pairs.{Stands, first_slot, crowded_at}
 use Rattle.trie_core.proofs.FoundLemmas.{absent_from_others}
 use Rattle.trie_core.proofs.others.Others.find.Goals as goal

@@ -1,7 +1,6 @@
-use Rattle.std.proofs.Common.{◌≡◌, ◌<◌, ◌+◌, ◌^◌, ◌++◌, ◌∷◌, [], ℕ, List, length, Contains, set, suc}
+use Rattle.std.proofs.Common.{◌≡◌, ◌<◌, ◌+◌, ◌^◌, List, length, Contains}
 use Rattle.std.proofs.Common.{sym, ap, subst, arith}
 use Rattle.trie_core.specs.declared.node.Pair.{Pair}
-use Rattle.trie_core.specs.Pairs.{AreFound, later}
 use Rattle.trie_core.proofs.FoundLemmas.{AreFound-zeros, push_read, stands_from_read}
 use Rattle.trie_core.proofs.pairs.Pairs.push.Goals.{then-index-eq0, else-index-eq0+in_ok-put}
 use Rattle.trie_core.proofs.pairs.Pairs.push.Goals as goal
