@@ -5,9 +5,9 @@ pub mod FoundLemmas
 pub mod GraftLemmas
 pub mod HeldLemmas
 pub mod PaintLemmas
-pub mod PairLemmas
 pub mod PartLemmas
 pub mod RenameLemmas
 pub mod RootLemmas
 pub mod StoreLemmas
 pub mod TreeLemmas
+pub mod WindowLemmas

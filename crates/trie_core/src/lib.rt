@@ -7,6 +7,7 @@ mod graft;
 pub mod laws;
 mod near;
 mod node;
+mod others;
 mod paint;
 mod pairs;
 mod store;

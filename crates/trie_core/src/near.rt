@@ -1,4 +1,4 @@
-//! A hasher for nodes and their pairs that keeps near in a set what is asked for together.
+//! A hasher for nodes and places that keeps near in a set what is asked for together.
 ghost use Rattle.std.specs.Prelude.{◌≡◌};
 ghost use Rattle.trie_core.specs.NearHash as near;
 
@@ -7,12 +7,10 @@ use std::hash::{BuildHasherDefault, Hasher};
 /// What makes the hasher of a set of nodes, or of a map from them.
 pub type Near = BuildHasherDefault<NearHasher>;
 
-/// A hasher of the numbers of nodes, and of the pairs of a store.
+/// A hasher of the numbers of nodes and places.
 ///
-/// Nodes of near numbers come to one group of the table, and so do pairs of leaf 0 and a node of
-/// such a number: a way down to a single address is a chain of them, whose nodes are made and asked
-/// for one after the other. At most two pairs belong to a number, so no groups fill by that.
-/// All other pairs are mixed.
+/// Near numbers come to one group of the table, and so does a pair of 0 and such a number: what is
+/// made and asked for one after the other stands together. All other pairs of numbers are mixed.
 #[derive(Clone, Copy, Default)]
 pub struct NearHasher {
     earlier: u64,
@@ -51,7 +49,8 @@ fn low_number(bytes: &[u8]) -> u64
     u64::from(u32::from_le_bytes([bytes[0], bytes[1], bytes[2], bytes[3]]))
 }
 
-fn mixed(a: u64, b: u64) -> u64
+// Two numbers mixed.
+pub(crate) fn mixed(a: u64, b: u64) -> u64
     ensures { result ≡ near.mixed a b }
 {
     let sum = a.wrapping_mul(0x9e37_79b9_7f4a_7c15).wrapping_add(b);

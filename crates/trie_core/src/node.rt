@@ -28,7 +28,7 @@ pub enum Rec {
 pub struct Root(pub(crate) Rec);
 
 /// The two children of a node: where a 0 of the address leads, and where a 1 does.
-#[derive(Clone, Copy, Debug, PartialEq, Eq, Hash)]
+#[derive(Clone, Copy, Debug, PartialEq, Eq, PartialOrd, Ord, Hash)]
 pub struct Pair {
     pub left: Rec,
     pub right: Rec,

@@ -1,15 +1,14 @@
 //! The pairs of a store's nodes, each found by the later of its two children.
-ghost use Rattle.std.specs.Prelude.{◌≡◌, ◌≢◌, ℕ, suc, ◌+◌, ◌-◌, ◌^◌, ◌<◌, ◌++◌, ◌∷◌, [], ◌↔◌};
+ghost use Rattle.std.specs.Prelude.{◌≡◌, ◌+◌, ◌-◌, ◌^◌, ◌<◌, ◌++◌, ◌∷◌, [], ◌↔◌};
 ghost use Rattle.std.specs.Prelude.{length, replicate, slice_get, Some, Contains, MatchOption};
 ghost use Rattle.std.specs.Prelude.{IfOk, OnOk, OnErr, IsErrOf};
-ghost use Rattle.trie_core.specs.Pairs.{number_or_zero, later, IsNoted};
+ghost use Rattle.trie_core.specs.Pairs.{number_or_zero, later};
 ghost use Rattle.trie_core.specs.Store.{IsAdded};
 
 use crate::fault::StoreFault;
-use crate::near::Near;
 use crate::node::{Pair, Rec};
+use crate::others::{Others, Told, at_slot};
 use geo_addr::Memory;
-use indexmap::IndexSet;
 use std::alloc::Global;
 use std::marker::Model;
 
@@ -20,16 +19,15 @@ const MOST_NODES: usize = 0xffff_ffff;
 ///
 /// Most nodes become a child of one other node alone, right after they were made, or of one on each
 /// side. So the first pair that has a node as its later child on one side is found at a slot that
-/// follows from that node's number, with no hash; only the other pairs are in a set.
+/// follows from that node's number, with no hash; only the other pairs are in a table.
 #[derive(Drop)]
 pub(crate) struct Pairs {
     pairs: Vec<Pair>,
     // At the slot of its later child one more than the number of the first pair with that slot, and
     // 0 where there is none. A node has two slots, for where it is a left and where a right child.
     firsts: Vec<u32>,
-    // The pairs that are no first ones, and their numbers.
-    others: IndexSet<Pair, Near>,
-    numbers: Vec<u32>,
+    // The numbers of the pairs that are no first ones.
+    others: Others,
 }
 
 impl Model for Pairs {
@@ -41,14 +39,8 @@ impl Model for Pairs {
 
     ghost view = { λ s. s.pairs.items };
 
-    ghost invariant = { λ s. AreFound s.pairs.items s.firsts.items s.others.keys s.numbers.items };
-}
-
-// What the later child of a pair tells of it.
-enum Told {
-    Held(u32),
-    Missing,
-    Unknown,
+    ghost invariant = { λ s. AreFound s.pairs.items s.firsts.items s.others.slots.items
+        s.others.crowded };
 }
 
 impl Pairs {
@@ -59,8 +51,7 @@ impl Pairs {
         Pairs {
             pairs: Vec::new(alloc),
             firsts: Vec::new(alloc),
-            others: IndexSet::with_hasher(alloc, Near::new()),
-            numbers: Vec::new(alloc),
+            others: Others::new(alloc),
         }
     }
 
@@ -108,13 +99,11 @@ impl Pairs {
             (λ k. slice_get self.now k ≡ Some pair) }
         ensures few { length self.now < 2 ^ 32 }
     {
-        match first_of(self.pairs.as_slice(), self.firsts.as_slice(), pair) {
+        let (pairs, firsts) = (self.pairs.as_slice(), self.firsts.as_slice());
+        match at_slot(pairs, firsts, later(pair), pair) {
             Told::Held(number) => Some(number),
             Told::Missing => None,
-            Told::Unknown => match self.others.get_index_of(&pair) {
-                Some(index) => Some(self.numbers[index]),
-                None => None,
-            },
+            Told::Unknown => self.others.find(pairs, firsts, pair),
         }
     }
 
@@ -128,68 +117,17 @@ impl Pairs {
     {
         let number = self.pairs.len() as u32;
         self.pairs.reserve(1)?;
-        make_room(&mut self.firsts, later(pair))?;
-        note(
-            &mut self.firsts,
-            &mut self.others,
-            &mut self.numbers,
-            pair,
-            number,
-        )?;
+        let at = later(pair);
+        make_room(&mut self.firsts, at)?;
+        if self.firsts[at] == 0 {
+            self.firsts[at] = number + 1;
+        } else {
+            let (pairs, firsts) = (self.pairs.as_slice(), self.firsts.as_slice());
+            self.others.put(pairs, firsts, pair, number)?;
+        }
         self.pairs.push_reserved(pair);
         Ok(number)
     }
-}
-
-// What stands at the later child of the pair.
-fn first_of(pairs: &[Pair], firsts: &[u32], pair: Pair) -> Told
-    ensures held { (k : ℕ) → result ≡ Told.Held k → slice_get pairs.now k ≡ Some pair }
-    ensures missing { result ≡ Told.Missing
-        → (m : ℕ) → slice_get firsts.now (later pair) ≢ Some (suc m) }
-    ensures unknown { result ≡ Told.Unknown → (k : ℕ) → slice_get pairs.now k ≡ Some pair
-        → slice_get firsts.now (later pair) ≢ Some (suc k) }
-{
-    let Some(first) = firsts.get(later(pair)) else {
-        return Told::Missing;
-    };
-    let Some(number) = first.checked_sub(1) else {
-        return Told::Missing;
-    };
-    let Some(held) = pairs.get(number as usize) else {
-        return Told::Unknown;
-    };
-    if *held == pair {
-        return Told::Held(number);
-    }
-    Told::Unknown
-}
-
-// Notes the number of a new pair at its later child where no number stands there yet, and else
-// among the others.
-fn note(
-    firsts: &mut Vec<u32>,
-    others: &mut IndexSet<Pair, Near>,
-    numbers: &mut Vec<u32>,
-    pair: Pair,
-    number: u32,
-) -> Result<(), Memory>
-    requires within { later pair < length firsts.old.items }
-    requires few { number + 1 < 2 ^ 32 }
-    ensures noted { OnOk result (IsNoted firsts.old.items firsts.new.items
-        others.old.keys others.new.keys numbers.old.items numbers.new.items pair number) }
-    ensures firsts { OnErr result (firsts.new.items ≡ firsts.old.items) }
-    ensures others { OnErr result (others.new.keys ≡ others.old.keys) }
-    ensures numbers { OnErr result (numbers.new.items ≡ numbers.old.items) }
-{
-    let at = later(pair);
-    if firsts[at] == 0 {
-        firsts[at] = number + 1;
-        return Ok(());
-    }
-    numbers.reserve(1)?;
-    others.insert(pair)?;
-    numbers.push_reserved(number);
-    Ok(())
 }
 
 // Puts zeros behind the list until it has this index.
@@ -208,7 +146,7 @@ fn make_room(list: &mut Vec<u32>, index: usize) -> Result<(), Memory>
 }
 
 // The slot of the later child of a pair. Pairs of two leaves have the right slot of node 0.
-fn later(pair: Pair) -> usize
+pub(crate) fn later(pair: Pair) -> usize
     ensures slot { result ≡ later pair }
     ensures few { result < 2 ^ 33 }
 {
