@@ -7,12 +7,11 @@
 set -u
 cd "$(dirname "${BASH_SOURCE[0]}")/.." || exit 1
 top=$PWD
-# Hundreds of small files are written: in memory where that goes.
-room=$(df -k --output=avail /dev/shm 2> /dev/null | tail -n 1)
-[ ! -w /dev/shm ] || [ "${room:-0}" -lt 1500000 ] || export TMPDIR=/dev/shm
+# shellcheck disable=SC2034
+in_memory=1500000
 . checks/with_program.bash
 for need in /usr/bin/python3:python3 strace:strace unshare:util-linux sync:coreutils; do
-    command -v "${need%%:*}" > /dev/null || skip "package ${need#*:}"
+    command -v "${need%%:*}" > /dev/null || skip "there is no ${need%%:*} (Debian's ${need#*:})"
 done
 
 days=(/usr/bin/python3 -I "$top/checks/daily/days.py" "$top/contrib" "$program" "${ALL:+ALL}")
@@ -22,7 +21,7 @@ mkdir mounted
 if "${own[@]}" mount -t tmpfs none mounted 2> told; then
     "${own[@]}" "${days[@]}" mounts > printed 2>&1 || fail "$(cat printed)"
 else
-    echo "$check: not tried: full disks, since nothing can be mounted here: $(cat told)"
+    part "full disks, since nothing can be mounted here: $(cat told)"
     "${days[@]}" > printed 2>&1 || fail "$(cat printed)"
 fi
 
@@ -47,11 +46,9 @@ env -i HOME="$work/home" LOGNAME=me SHELL=/bin/sh PATH=/usr/bin:/bin FETCH="$wor
     && [ "$("$program" lookup home/geo/city.mmdb 192.0.2.1)" = '{"country":{"iso_code":"CH"}}' ] \
     || fail "under cron it makes another file, and says '$(cat printed)'"
 
-if command -v systemd-analyze > /dev/null; then
+if needs systemd-analyze systemd; then
     told=$(systemd-analyze verify --man=no usr/lib/systemd/system/geofeed-* 2>&1 | grep geofeed)
     [ -z "$told" ] || fail "systemd says of the units: $told"
-else
-    echo "$check: not tried: the units, for want of the package systemd"
 fi
 grep -q '^PrivateNetwork=yes' "$top/contrib/systemd/geofeed-daily.service" \
     || fail "the unit that builds has a network"

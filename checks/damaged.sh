@@ -4,9 +4,8 @@
 # be stopped by the system.
 set -u
 cd "$(dirname "${BASH_SOURCE[0]}")/.." || exit 1
-# Thousands of small files are written: in memory where that goes, since a disk is asked to keep
-# each.
-[ ! -w /dev/shm ] || export TMPDIR=/dev/shm
+# shellcheck disable=SC2034
+in_memory=200000
 . checks/with_program.bash
 
 # looked_up NAME: what a lookup prints, and its status in `status`. No process but the program's own

@@ -15,12 +15,6 @@ if [ -z "${GATE_LOG:-}" ]; then
     verdict
 fi
 
-# Edits whose refusal says little, by names that proof files cite, and which others are to replace:
-# this list only grows shorter.
-little=' inetnum_index/gone-on-too-far inetnum_index/reach-of-the-last-alone
-    kept_sources/cut-points-of-the-feed-before published/line-left-unprinted
-    geofeed/failed-put-removes-the-old-file '
-
 # Each edit of which no word says that it is refused, or whose refusal says little; and how many
 # edits there are of which one does.
 said=$(printf '%s\n' "${edits[@]}" | awk '
@@ -54,12 +48,6 @@ while IFS= read -r line; do
     case "$line" in
         '') ;;
         'refused '*) counted 100 "${line#refused }" 'edits that are refused' ;;
-        *'refused, as it must be (only because a proof file names'*)
-            name=${line%%.edit: *}
-            name=${name#must-fail }
-            name=${name#crates/}
-            [[ "$little" =~ [[:space:]]"${name/\/must-fail\///}"[[:space:]] ]] || fail "$line"
-            ;;
         *) fail "$line" ;;
     esac
 done <<< "$said"

@@ -8,7 +8,7 @@ cd "$(dirname "${BASH_SOURCE[0]}")/.." || exit 1
 script=$PWD/contrib/feeds-of-dump
 example=$PWD/examples/realistic
 . checks/with_program.bash
-[ -x /usr/bin/python3 ] || skip "package python3"
+[ -x /usr/bin/python3 ] || skip "there is no python3 (Debian's python3)"
 
 # A reference in each shape: an attribute, one with a comment, a continued one, a remark with words
 # behind it, and a line end of two bytes; and two objects that name one feed. Line 5 is Latin-1.
@@ -119,7 +119,7 @@ FETCH=cp_to PATH=$work:$PATH "$script" --fetch one --accept "$url" \
     && [ "$(cat "$second")" = 192.0.2.0/24,DE ] || fail "--accept takes it not"
 
 # On a terminal it says how far it is.
-if command -v script > /dev/null; then
+if needs script bsdutils; then
     FETCH=./fetch script -qec "'$script' --fetch list" /dev/null < /dev/null > printed
     grep -q '3 of 3 fetched, 1 did not come, 0.0 MB' printed \
         || fail "on a terminal it says '$(cat printed)'"

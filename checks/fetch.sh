@@ -12,7 +12,7 @@ table=$PWD/checks/fetch.sh
 . checks/with_program.bash
 for need in curl:curl openssl:openssl ip:iproute2 unshare:util-linux mount:mount \
     /usr/bin/python3:python3; do
-    command -v "${need%%:*}" > /dev/null || skip "package ${need#*:}"
+    command -v "${need%%:*}" > /dev/null || skip "there is no ${need%%:*} (Debian's ${need#*:})"
 done
 own=(unshare --net --mount)
 [ "$(id -u)" -eq 0 ] || own=(unshare --user --map-root-user --net --mount)
@@ -71,7 +71,7 @@ for address in 9.9.9.9 127.0.0.1 2a0a::1 ::1; do
 done
 served 9.9.9.9 444 unknown.pem unknown.key log
 served 9.9.9.9 445 another.pem another.key log
-for try in {1..100}; do
+for try in {1..300}; do
     [ "$(ss -Htln | wc -l)" -ge 6 ] && break
     sleep 0.1
 done
@@ -81,7 +81,7 @@ while read -r one; do kill "$one"; done < servers
 END
 
 cat > asks <<'END'
-"$script" --fetch list --limit 2000000 --seconds 3 --at-once 40 \
+"$script" --fetch list --limit 2000000 --seconds 5 --at-once 40 \
     --contact noc@me.example 2> told.first
 echo $? > status.first
 cp list.index index.first

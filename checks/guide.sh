@@ -12,7 +12,7 @@ examples=$PWD/examples
 contrib=$PWD/contrib
 made=$PWD/bench/statistics.awk
 . checks/with_program.bash
-[ -x /usr/bin/python3 ] || skip "the guide: package python3"
+[ -x /usr/bin/python3 ] || skip "there is no python3 (Debian's python3)"
 mkdir bin net
 ln -s "$program" bin/geofeed
 for tool in feeds-of-dump geofeed-daily geofeed-notes; do

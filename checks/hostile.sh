@@ -1,9 +1,10 @@
 #!/usr/bin/env bash
 # Feeds made to crowd the tables in which equal texts, places, ranges and values are found, beside
 # honest ones of as many lines and texts of the same lengths: they take no more than three times as
-# long, which leaves room for a busy machine, nor half as much memory again. With g++ they have
-# 100,000 lines, which checks/hostile/hostile.cpp makes; without it 10,000, of which the searched
-# words stand in checks/hostile/words.gz.
+# much time of the processor, which leaves room for a busy machine, nor half as much memory again; a
+# feed that has each of its few texts made again takes no more than twice as much. With g++ they
+# have 100,000 lines, or as many as LINES says, which checks/hostile/hostile.cpp makes; without it
+# 10,000, of which the searched words stand in checks/hostile/words.gz.
 set -u
 cd "$(dirname "${BASH_SOURCE[0]}")/.." || exit 1
 maker=$PWD/checks/hostile
@@ -13,7 +14,7 @@ if [ -x /usr/bin/time ]; then :; else
     lacks /usr/bin/time time
     verdict
 fi
-lines=100000
+lines=${LINES:-100000}
 if needs g++ g++; then
     g++ -O2 -o made "$maker/hostile.cpp" || fail "the generator is not compiled"
 else
@@ -21,7 +22,7 @@ else
     gzip -dc "$maker/words.gz" > words || fail "checks/hostile/words.gz is not read"
 fi
 
-# feed FAMILY [honest]: the lines of such a feed. The ready-made ones are those of the generator.
+# feed FAMILY [honest]: the lines of such a feed.
 feed() {
     if [ -x made ]; then
         ./made "$1" "$lines" ${2:+honest}
@@ -29,7 +30,7 @@ feed() {
     fi
     awk -v family="$1" -v lines="$lines" -v honest="${2:-}" '
         BEGIN { letters = "abcdefghijklmnopqrstuvwxyz" }
-        { word[$1, ++count[$1]] = $2 }
+        $1 == family { word[count++] = $2 }
         function made(length_, text) {
             text = ""
             while (length(text) < length_) text = text substr(letters, 1 + int(rand() * 26), 1)
@@ -37,18 +38,18 @@ feed() {
         }
         END {
             front = honest ? "2001:db8:7f4a:7c15" : "9e37:79b9:7f4a:7c15"
+            size = family == "places" ? 32 : family == "packed" ? 30 : 16
+            if (honest) count = family == "cache" ? 3 : lines
+            for (n = 0; n < count && honest; n++) word[n] = made(size)
             for (n = 0; n < lines; n++) {
+                high = int(n / 65536)
                 if (family == "ranges") {
                     at = lines - n
-                    high = int(at / 65536)
-                    printf "%s:1:%x:%x:1/128,DE,,Berlin,\n", front, high, at % 65536
+                    printf "%s:1:%x:%x:1/128,DE,,Berlin,\n", front, int(at / 65536), at % 65536
                     continue
                 }
-                city = made(family == "places" ? 32 : 8)
-                if (!honest && family == "places") city = word["front", 1] substr(city, 25)
-                if (!honest && family == "cache") city = word["turn", n % 3 + 1]
-                if (!honest && (family, n + 1) in word) city = word[family, n + 1]
-                high = int(n / 65536)
+                city = word[n % count]
+                city = city made(size - length(city))
                 printf "11.%d.%d.%d/32,DE,,%s,\n", high, int(n / 256) % 256, n % 256, city
             }
         }' words
@@ -61,26 +62,30 @@ build() {
         'inet6num: 9e00::/8' 'geofeed: https://h.example/f.csv' > dump
     printf '%s\n' 'epoch 1700000000' 'rpsl r dump' "feed https://h.example/f.csv $1" \
         'emit out.mmdb' > job
-    local least=999999 most=0 cpu memory
-    for _ in 1 2 3; do
-        /usr/bin/time -f '%U %S %M' -o spent "$program" build job > printed || return 1
-        read -r cpu memory < <(awk '{ printf "%d %d\n", ($1 + $2) * 100, $3 }' spent)
-        [ "$cpu" -ge "$least" ] || least=$cpu
-        [ "$memory" -le "$most" ] || most=$memory
-    done
-    echo "$least $most"
+    /usr/bin/time -f '%U %S %M' -o spent "$program" build job > printed || return 1
+    awk '{ printf "%d %d\n", ($1 + $2) * 100, $3 }' spent
+}
+
+# within: both bounds hold.
+within() {
+    [ "$cpu" -le $((3 * honest_cpu + 10)) ] && [ $((100 * memory)) -le $((share * honest_memory)) ]
 }
 
 for family in "${families[@]}"; do
     feed "$family" > hostile.csv
     feed "$family" honest > honest.csv
     counted "$lines" "$(wc -l < hostile.csv)" "lines of $family"
-    read -r cpu memory < <(build hostile.csv) || fail "$family: the job stops"
-    read -r honest_cpu honest_memory < <(build honest.csv) || fail "$family: the honest job stops"
+    counted "$lines" "$(wc -l < honest.csv)" "honest lines of $family"
+    share=150
+    [ "$family" != cache ] || share=200
+    # Once more where the bounds do not hold, since others use the machine.
+    for _ in 1 2 3; do
+        read -r cpu memory < <(build hostile.csv) || fail "$family: the job stops"
+        read -r honest_cpu honest_memory < <(build honest.csv) \
+            || fail "$family: the honest job stops"
+        within && break
+    done
     echo "$check: $family: ${cpu}0 ms, $memory kB; honest ${honest_cpu}0 ms, $honest_memory kB"
-    [ "$cpu" -le $((3 * honest_cpu + 10)) ] \
-        || fail "$family takes more than three times as long as an honest feed"
-    [ $((2 * memory)) -le $((3 * honest_memory)) ] \
-        || fail "$family takes half as much memory again as an honest feed"
+    within || fail "$family takes too much beside an honest feed: time or memory"
 done
 verdict

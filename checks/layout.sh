@@ -36,33 +36,23 @@ files() {
 }
 
 # Lines of at most 100 characters; `rt fmt` keeps an attribute in one line, however long, and the
-# import of one name has no place to be cut. Below crates/ older ones are left: they only grow
-# fewer, and each number here falls with them.
-older_lines=74 older_files=50
+# import of one name has no place to be cut.
 kinds=('*.rt' '*.antt' '*.edit' '*.sh' '*.bash' '*.awk' '*.pl' '*.py' '*.cpp' '*.hpp')
-long_lines=0
 while IFS=: read -r file line _; do
-    case "$file" in
-        crates/*) long_lines=$((long_lines + 1)) ;;
-        *) fail "$file has more than 100 characters in line $line" ;;
-    esac
+    fail "$file has more than 100 characters in line $line"
 done < <(files "${kinds[@]}" | tr '\n' '\0' | xargs -0 grep -nE '^.{101}' /dev/null \
     | grep -vE '^[^:]*\.rt:[0-9]+: *#\[tactic\(|^[^:]*\.antt:[0-9]+:use [^, ]*$')
-[ "$long_lines" -le "$older_lines" ] \
-    || fail "crates/ has $long_lines lines of more than 100 characters, and had $older_lines"
 
-sources=0 silent=0
+sources=0
 while read -r lines told file; do
     sources=$((sources + 1))
     [ "$lines" -le 800 ] || fail "$file has $lines lines, more than 800"
-    [ "$told" = '//!' ] || silent=$((silent + 1))
+    [ "$told" = '//!' ] || fail "$file does not begin with //! and what it is for"
 done < <(files '*.rt' | xargs -d '\n' awk '
     function told() { if (file) print lines, begins, file }
     FNR == 1 { told(); file = FILENAME; begins = $1 == "//!" && NF > 1 ? $1 : "-" }
     { lines = FNR }
     END { told() }')
-[ "$silent" -le "$older_files" ] \
-    || fail "$silent files of code do not begin with //! and what they are for"
 counted 200 "$sources" 'files of code'
 
 # The limits, and the sizes of tables: NAME VALUE FILE. Each is a constant of its file, and outside

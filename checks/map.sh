@@ -2,14 +2,14 @@
 # contrib/mmdb-map: its table beside the census, its cells beside a curve that is made here in
 # another way, what changed beside what is known, how far its colours are apart for those who see
 # fewer of them, its size at worst, files that are made to break it, and how a real browser shows it
-# (Debian's chromium, where it is there).
+# (Debian's chromium, where it is there). The census is of 60,000 lines, with ALL=1 of 300,000.
 set -u
 cd "$(dirname "${BASH_SOURCE[0]}")/.." || exit 1
 map=$PWD/contrib/mmdb-map
 made=$PWD/bench/statistics.awk
 . checks/with_program.bash
 /usr/bin/python3 -c 'import maxminddb.decoder' 2> /dev/null \
-    || skip "mmdb-map: package python3-maxminddb"
+    || skip "there is no maxminddb for Python (Debian's python3-maxminddb)"
 
 # draws PAGE WORDS..: the page is made within limits, whole, small, and without a script or anything
 # from elsewhere.
@@ -63,8 +63,10 @@ def cells(page, which):
 if __name__ == "__main__": parsed(sys.argv[1])
 X
 
-# 300,000 lines: the table is the census.
-awk -v lines=300000 -f "$made" > s.txt
+# The table is the census.
+lines=60000
+[ -z "${ALL:-}" ] || lines=300000
+awk -v lines="$lines" -f "$made" > s.txt
 printf 'epoch 1700000000\nstats made s.txt\nemit out.mmdb\n' > job
 "$program" build job > printed || fail "the job ends with status $?"
 draws page.html out.mmdb
@@ -186,7 +188,7 @@ def text(word):
     return (bytes([0x40 | len(raw)]) if len(raw) < 29 else bytes([0x5d, len(raw) - 29])) + raw
 def number(value): raw = value.to_bytes(8, "big").lstrip(b"\0"); return bytes([len(raw), 2]) + raw
 def write(name, words):
-    data, starts = b"", []
+    data, starts = bytearray(), []
     for word in words:
         starts.append(len(data))
         data += b"\xe1" + text("country") + b"\xe1" + text("iso_code") + text(word)
@@ -215,7 +217,7 @@ for words in '' 'a b c' '--nothing' 'a --all'; do
     "$map" $words > printed 2> told
     [ $? -eq 2 ] && [ ! -s printed ] || fail "the words '$words' end otherwise"
 done
-for words in broken 'a.mmdb broken' missing; do
+for words in broken 'tags broken' missing; do
     # shellcheck disable=SC2086
     "$map" $words > printed 2> told
     [ $? -eq 1 ] && [ ! -s printed ] || fail "'$words' end otherwise"
@@ -266,9 +268,7 @@ X
 python3 colours.py "$map" 2> told || fail "colours: $(tail -n 1 told)"
 
 # In a browser: the picture has each colour of the key where its cells are.
-if ! command -v chromium > /dev/null; then
-    echo "$check: not tried: a browser (package chromium)"
-else
+if needs chromium chromium; then
     printf '%s\n' 'x|DE|ipv4|0.0.0.0|1073741824||allocated' \
         'x|FR|ipv4|64.0.0.0|1073741824||allocated' \
         'x|JP|ipv4|192.0.0.0|536870912||allocated' > s.txt
@@ -277,9 +277,10 @@ else
     # A browser that cannot be started here (no room, no sandbox) is no fault of the page.
     if ! HOME=$work timeout 300 chromium --headless --no-sandbox --disable-gpu \
         --disable-dev-shm-usage --hide-scrollbars --user-data-dir="$work/browser" \
-        --window-size=1200,1000 --screenshot="$work/page.png" "file://$work/big.html" \
+        --force-device-scale-factor=0.5 --window-size=1200,1000 \
+        --screenshot="$work/page.png" "file://$work/big.html" \
         > told 2>&1 || [ ! -s page.png ]; then
-        echo "$check: not tried: the browser, which does not start here: $(tail -n 1 told)"
+        part "the browser, which does not start here: $(tail -n 1 told)"
     else
         cat > shown.py <<'X'
 import struct, sys, zlib
@@ -309,18 +310,18 @@ colours = {}
 for y in range(0, height):
     for x in range(0, width): colours.setdefault(pixel(x, y), []).append((x, y))
 def box(colour):
-    xs, ys = zip(*[(x, y) for x, y in colours[colour] if x < 790])
+    xs, ys = zip(*[(x, y) for x, y in colours[colour] if x < 395])
     return min(xs), max(xs), min(ys), max(ys)
 first, second, third = box("#00539f"), box("#e69f00"), box("#008e66")
 side = first[1] - first[0] + 1
-assert 330 < side < 400, side
-places = {"#00539f": (first[0] + 9, first[2] + side - 9),
-          "#e69f00": (first[0] + 9, first[2] + 2 * side - 9),
-          "#008e66": (first[0] + 2 * side - 9, first[2] + side - 9)}
+assert 165 < side < 200, side
+places = {"#00539f": (first[0] + 5, first[2] + side - 5),
+          "#e69f00": (first[0] + 5, first[2] + 2 * side - 5),
+          "#008e66": (first[0] + 2 * side - 5, first[2] + side - 5)}
 for name, (x, y) in places.items():
     assert pixel(x, y) == name, (name, x, y, pixel(x, y))
-assert pixel(first[0] + 2 * side - 20, first[2] + 20) == "#ffffff"
-assert len(colours["#00539f"]) > 100000 and len(colours["#e69f00"]) > 100000
+assert pixel(first[0] + 2 * side - 10, first[2] + 10) == "#ffffff"
+assert len(colours["#00539f"]) > 25000 and len(colours["#e69f00"]) > 25000
 X
         python3 shown.py 2> told || fail "the browser shows something else: $(tail -n 1 told)"
     fi

@@ -1,8 +1,9 @@
 #!/usr/bin/env bash
 # Want of memory, by `ulimit -v` at many limits: each command ends with status 1 and one line of
 # words, what it has printed till then is the beginning of what it prints otherwise, the old file
-# stands or the whole new one, and nothing is left behind. With more memory it does all. And each
-# allocation of the example of all kinds of sources is refused in turn, by checks/refused.cpp.
+# stands or the whole new one, and nothing is left behind. With more memory it does all. And
+# allocations of the example of all kinds of sources are refused in turn, by checks/refused.cpp: one
+# in four, from a seed that is printed (SEED), or with ALL=1 each.
 set -u
 cd "$(dirname "${BASH_SOURCE[0]}")/.." || exit 1
 statistics=$PWD/bench/statistics.awk
@@ -85,18 +86,23 @@ tried made.mmdb gen 3000 made.mmdb
 } > large
 tried - lookup large 192.0.2.1
 
-# in_turn FILE LEAST WORDS..: the command with each of its allocations refused in turn; at least
-# LEAST of them it cannot do without, and one that a write wants is that write's fault. The command
-# writes FILE, or nothing where that is `-`; `first` is what it may have written on the way.
+seed=${SEED:-20261129} step=4
+[ -z "${ALL:-}" ] || step=1
+
+# in_turn FILE LEAST WORDS..: the command with its allocations refused in turn. It has LEAST of them
+# or more; most of those that are refused it cannot do without, and one that a write wants is that
+# write's fault. The command writes FILE, or nothing where that is `-`; `first` is what it may have
+# written on the way.
 in_turn() {
-    local file=$1 least=$2 total lacking=0 number status told whole
+    local file=$1 least=$2 total tried=0 lacking=0 writing=0 number status told whole
     shift 2
     rm -f "$file"
     whole=$(COUNTED=count LD_PRELOAD=./refused.so "$program" "$@" 2> told) \
         || fail "'$*' ends with status $?"
     total=$(od -An -tu8 count | tr -d ' ')
     [ "$file" = - ] || mv "$file" new && echo older > old
-    for ((number = 1; number <= total; number++)); do
+    for ((number = 1 + seed % step; number <= total; number += step)); do
+        tried=$((tried + 1))
         [ "$file" = - ] || cp old "$file"
         REFUSED=$number LD_PRELOAD=./refused.so "$program" "$@" > printed 2> told
         status=$?
@@ -104,7 +110,10 @@ in_turn() {
         case "$status ${#told[@]} ${told[*]}" in
             '0 0 ') [ "$(< printed)" = "$whole" ] || fail "'$*': $number prints '$(< printed)'" ;;
             '1 1 geofeed: memory ran out'*) lacking=$((lacking + 1)) ;;
-            '5 1 '*' could not be written; '*': out of memory') sed -i '$d' printed ;;
+            '5 1 '*' could not be written; '*': out of memory')
+                writing=$((writing + 1))
+                sed -i '$d' printed
+                ;;
             *) fail "'$*': without allocation $number it ends with $status and says '${told[*]}'" ;;
         esac
         [[ "$whole" == "$(< printed)"* ]] || fail "'$*': $number prints '$(< printed)'"
@@ -113,18 +122,22 @@ in_turn() {
     done
     [ -z "$(find . -name '.geofeed new *')" ] || fail "'$*' leaves a new file"
     [ "$file" = - ] || mv new "$file"
-    counted "$least" "$lacking" "allocations without which '$*' lacks memory"
+    counted "$least" "$total" "allocations of '$*'"
+    counted $((tried / 2)) "$lacking" "allocations of $tried without which '$*' lacks memory"
+    echo "$check: $1: of $total allocations $tried were refused; $lacking end the run," \
+        "$writing the write, and it does all without $((tried - lacking - writing))"
 }
 
 if needs g++ g++; then
     rm -rf old new ./*.csv && cp "$example"/* . 2> told
     g++ -O1 -shared -fPIC -o refused.so "$refused" || fail "checks/refused.cpp is not compiled"
-    in_turn geo.mmdb 700 build job
-    in_turn - 400 census job
-    in_turn - 400 explain job 192.0.2.12
-    in_turn - 350 check job https://geo.example.net/a.csv
-    in_turn own.csv 430 publish job 192.0.2.0/24 own.csv
-    in_turn - 60 lookup geo.mmdb 192.0.2.12
+    echo "$check: allocations from the seed $seed"
+    in_turn geo.mmdb 350 build job
+    in_turn - 200 census job
+    in_turn - 200 explain job 192.0.2.12
+    in_turn - 180 check job https://geo.example.net/a.csv
+    in_turn own.csv 220 publish job 192.0.2.0/24 own.csv
+    in_turn - 50 lookup geo.mmdb 192.0.2.12
     printf '%s\n' 'inetnum: 10.0.0.0 - 10.255.255.255' \
         'geofeed: https://gen.example/feed.csv' > gen.db
     echo 'gen|US|ipv4|10.0.0.0|16777216|20200101|allocated' > gen.txt
@@ -132,7 +145,7 @@ if needs g++ g++; then
     printf '%s\n' 'epoch 1700000000' 'rpsl gen gen.db' 'stats gen gen.txt' \
         'feed https://gen.example/feed.csv gen.csv' 'emit first' > job
     "$program" build job > printed || fail "the first file of the generated job is not made"
-    in_turn made.mmdb 550 gen 3 made.mmdb
+    in_turn made.mmdb 300 gen 3 made.mmdb
 fi
 
 verdict

@@ -7,7 +7,7 @@ cd "$(dirname "${BASH_SOURCE[0]}")/.." || exit 1
 script=$PWD/contrib/geofeed-notes
 codes=$(sed -n 's/^ *\([PFSOA][0-9][0-9]\),.*/\1/p' crates/geo_terms/src/note.rt)
 . checks/with_program.bash
-[ -x /usr/bin/python3 ] || skip "package python3"
+[ -x /usr/bin/python3 ] || skip "there is no python3 (Debian's python3)"
 [ -n "$codes" ] || fail "the code's rules are not found"
 for code in $codes; do
     grep -q "^    '$code': '" "$script" || fail "$code has no words"

@@ -8,7 +8,7 @@ cd "$(dirname "${BASH_SOURCE[0]}")/.." || exit 1
 top=$PWD
 . checks/with_program.bash
 for need in dpkg-deb:dpkg tar:tar strip:binutils /usr/bin/python3:python3 curl:curl; do
-    command -v "${need%%:*}" > /dev/null || skip "package ${need#*:}"
+    command -v "${need%%:*}" > /dev/null || skip "there is no ${need%%:*} (Debian's ${need#*:})"
 done
 export SOURCE_DATE_EPOCH=1700000000 TZ=Asia/Tokyo
 # Two folders of the repository, with other times of files and another mask.
@@ -49,10 +49,8 @@ least=$(grep -ao 'GLIBC_2\.[0-9.]*' archive/bin/geofeed | cut -d _ -f 2 | sort -
 dpkg-deb -f "one/dist/$deb" Depends | grep -qF "libc6 (>= $least)" \
     || fail "it does not depend on glibc $least"
 grep -q "glibc $least or newer" printed || fail "it does not say that it needs glibc $least"
-if command -v lintian > /dev/null; then
+if needs lintian lintian; then
     lintian --fail-on error "one/dist/$deb" > printed 2>&1 || fail "lintian says: $(cat printed)"
-else
-    echo "$check: not tried: what lintian says, for want of the package lintian"
 fi
 [ "$failed" -eq 0 ] || verdict
 [ "$(id -u)" -eq 0 ] || skip "the package in a clean root, which needs root"
@@ -115,7 +113,7 @@ mount -t tmpfs -o mode=755 none layer
 mkdir layer/upper layer/work
 mount -t overlay overlay -o "lowerdir=/,upperdir=$PWD/layer/upper,workdir=$PWD/layer/work" root
 for folder in usr/local home root opt tmp "${top#/}"; do
-    mount -t tmpfs -o mode=755 none "root/$folder"
+    mkdir -p "root/$folder" && mount -t tmpfs -o mode=755 none "root/$folder"
 done
 mount --bind /dev root/dev && mount -t proc proc root/proc
 mkdir root/opt/new

@@ -7,7 +7,7 @@ set -u
 cd "$(dirname "${BASH_SOURCE[0]}")/.." || exit 1
 top=$PWD
 . checks/with_program.bash
-command -v python3 > /dev/null || skip "the pages: package python3"
+command -v python3 > /dev/null || skip "there is no python3 (Debian's python3)"
 export PATH=$work/bin:$PATH:/usr/sbin:/sbin
 mkdir bin
 ln -s "$program" bin/geofeed
@@ -81,8 +81,7 @@ serves() {
 
 # Own feed: served by nginx with a certificate made here, where both are there.
 stands docs/own-feed.md
-if command -v nginx > /dev/null && command -v openssl > /dev/null \
-    && command -v curl > /dev/null; then
+if needs nginx nginx-light && needs openssl openssl && needs curl curl; then
     openssl req -x509 -newkey rsa:2048 -nodes -keyout key.pem -out cert.pem -days 2 \
         -subj /CN=geo.example.net -addext subjectAltName=DNS:geo.example.net 2> told \
         || fail "no certificate: $(cat told)"
@@ -92,7 +91,6 @@ if command -v nginx > /dev/null && command -v openssl > /dev/null \
     printf '#!/bin/sh\nexec %s --cacert %s --unix-socket %s "$@"\n' "$(command -v curl)" \
         "$here/cert.pem" "$here/nginx.sock" > "$work/bin/curl"
 else
-    echo "$check: not tried: a feed by https (packages nginx-light, openssl, curl)"
     printf '#!/bin/sh\ncp "%s/var/www/geo/feed.csv" "$3"\n' "$here" > "$work/bin/curl"
 fi
 chmod +x "$work/bin/curl"
@@ -116,10 +114,7 @@ rm objects && sh ci.sh > printed 2> told && fail "the step for CI passes where t
 
 for page in explain check publish census not-in-the-sources; do
     stands "docs/$page.md"
-    if [ "$page" = census ] && ! command -v bc > /dev/null; then
-        echo "$check: not tried: docs/census.md (package bc)"
-        continue
-    fi
+    [ "$page" != census ] || needs bc bc || continue
     prints
 done
 
@@ -129,7 +124,7 @@ if /usr/bin/python3 -c 'import maxminddb.decoder' 2> /dev/null; then
     [ -s examples/realistic/map.html ] && [ -s examples/realistic/changes.html ] \
         || fail "there is no picture of $page"
 else
-    echo "$check: not tried: docs/whole-file.md (package python3-maxminddb)"
+    lacks 'maxminddb for Python' python3-maxminddb
 fi
 
 # Firewalls: in a network of its own, with the table of the page.
@@ -138,8 +133,8 @@ block nft "$page" > table.nft
 for asks in 'nft list tables' 'ipset list'; do
     word=${asks%% *}
     if ! unshare -n sh -c "$asks" > printed 2> told; then
-        echo "$check: not tried: $word of $page (packages nftables and ipset," \
-            "and a kernel that lets them)"
+        part "$word of $page (Debian's nftables and ipset, and a kernel that lets them):" \
+            "$(tail -n 1 told)"
         sed -i "/^$word /d; s/ && nft -f geo.nft//" commands
         [ "$word" = ipset ] || : > table.nft
     fi
@@ -162,9 +157,10 @@ printf 'x|DE|ipv4|192.0.2.0|256||allocated\n' > s.txt
 printf 'epoch 1700000000\nstats x s.txt\nemit city.mmdb\n' > job
 "$program" build job > printed || fail "the job for $page ends with status $?"
 prints
-if ! command -v nginx > /dev/null || [ ! -f /usr/lib/nginx/modules/ngx_http_geoip2_module.so ] \
-    || ! command -v curl > /dev/null; then
-    echo "$check: not tried: nginx of $page (packages nginx-light, libnginx-mod-http-geoip2, curl)"
+if ! needs nginx nginx-light || ! needs curl curl; then
+    :
+elif [ ! -f /usr/lib/nginx/modules/ngx_http_geoip2_module.so ]; then
+    lacks "module geoip2 of nginx" libnginx-mod-http-geoip2
 else
     blocks=$(block nginx "$page" | sed "s|/var/|$here/var/|g; s|auto_reload 60m|auto_reload 1s|
         s|\(\$geo_[a-z]*\) default|\1 source=\$arg_ip default|")
@@ -207,8 +203,10 @@ diff screen printed > different \
     || fail "the README's commands print something else: $(head -n 5 different)"
 
 # The scripts' manual pages have no errors of form, and say what the scripts say.
+has_man=
+! needs man man-db || has_man=yes
 for tool in geofeed-set mmdb-list mmdb-map; do
-    if command -v man > /dev/null; then
+    if [ -n "$has_man" ]; then
         told=$(MANWIDTH=80 man --warnings -l "$top/contrib/$tool.1" 2>&1 > /dev/null)
         [ -z "$told" ] || fail "contrib/$tool.1: $told"
     fi

@@ -5,7 +5,8 @@
 set -u
 cd "$(dirname "${BASH_SOURCE[0]}")/.." || exit 1
 maker=$PWD/checks/random_jobs.awk
-[ ! -w /dev/shm ] || export TMPDIR=/dev/shm
+# shellcheck disable=SC2034
+in_memory=200000
 . checks/with_program.bash
 
 seed=${SEED:-20261127} jobs=100 sizes=0 marks=0

@@ -5,7 +5,8 @@
 set -u
 cd "$(dirname "${BASH_SOURCE[0]}")/.." || exit 1
 top=$PWD
-[ ! -w /dev/shm ] || export TMPDIR=/dev/shm
+# shellcheck disable=SC2034
+in_memory=200000
 . checks/with_program.bash
 needs g++ g++ || skip "the second program is not compiled"
 second=$work/second

@@ -1,7 +1,7 @@
 #!/usr/bin/env bash
 # contrib/geofeed-set: sets of countries beside lookups and beside the census, with the holes of
-# nested lines left open, of the example and of 300,000 lines; loaded by the real nft and ipset,
-# twice, each in a network of its own; and what it refuses.
+# nested lines left open, of the example and of 300,000 lines; of 60,000 lines (with ALL=1 of all)
+# loaded by the real nft and ipset, twice, each in a network of its own; and what it refuses.
 set -u
 cd "$(dirname "${BASH_SOURCE[0]}")/.." || exit 1
 set=$PWD/contrib/geofeed-set
@@ -9,7 +9,7 @@ made=$PWD/bench/statistics.awk
 world=$PWD/bench/world.awk
 example=$PWD/examples/realistic
 . checks/with_program.bash
-command -v python3 > /dev/null || skip "geofeed-set: package python3"
+command -v python3 > /dev/null || skip "there is no python3 (Debian's python3)"
 export GEOFEED=$program PATH=$PATH:/usr/sbin:/sbin
 
 # does WORDS..: it ends with status 0 and says nothing.
@@ -105,6 +105,8 @@ assert sums == {4: four, 6: six - four * (2 ** 80 + 1)} and four and sums[6], (s
 X
 python3 sums.py "$("$program" census job | grep -E '^(DE|JP) ' | tr '\n' ' ')" < printed 2> told \
     || fail "the sums are not those of the census: $(cat told)"
+[ -n "${ALL:-}" ] || awk -v lines=60000 -f "$made" > s.txt
+does plain job DE JP
 mv printed plain
 
 cat > loaded.py <<'X'
@@ -125,17 +127,14 @@ alone() { unshare -n "$@" > printed 2> told; }
 
 # All of a set is loaded, and all of another one in its place.
 if ! alone true; then
-    echo "$check: not tried: nft and ipset, since no network can be made here"
+    part "nft and ipset, since no network can be made here: $(cat told)"
 else
     does nft job DE JP && mv printed set.nft
     does ipset job DE JP && mv printed set.ipset
     does nft job CH && mv printed less.nft
     does ipset job CH && mv printed less.ipset
     does plain job CH && mv printed less
-    "$program" census job > census
-    if ! command -v nft > /dev/null; then
-        echo "$check: not tried: nft (Debian's nftables)"
-    else
+    if needs nft nftables; then
         for one in set less; do
             alone sh -c "nft -f set.nft && nft -f set.nft && nft -f $one.nft \
                 && nft -j list table inet geo" \
@@ -145,10 +144,10 @@ else
                 || fail "nft has loaded another set: $(head -n 3 loaded)"
         done
     fi
-    if ! command -v ipset > /dev/null; then
-        echo "$check: not tried: ipset (Debian's ipset)"
+    if ! needs ipset ipset; then
+        :
     elif ! alone ipset list; then
-        echo "$check: not tried: ipset, which the kernel does not have here"
+        part "ipset, which the kernel does not have here"
     else
         for one in set less; do
             alone sh -c "ipset restore < set.ipset && ipset restore < set.ipset \

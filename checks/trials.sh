@@ -5,10 +5,8 @@ set -u
 export LC_ALL=C
 cd "$(dirname "${BASH_SOURCE[0]}")/.." || exit 1
 tables=$PWD/checks/trials
-# Hundreds of small files are written, and some large ones: in memory where that goes, since a disk
-# is asked to keep each.
-room=$(df -k --output=avail /dev/shm 2> /dev/null | tail -n 1)
-[ ! -w /dev/shm ] || [ "${room:-0}" -lt 300000 ] || export TMPDIR=/dev/shm
+# shellcheck disable=SC2034
+in_memory=300000
 . checks/with_program.bash
 set -f
 shopt -s nullglob dotglob

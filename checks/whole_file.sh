@@ -2,14 +2,15 @@
 # contrib/mmdb-list: its list beside the census, beside lookups and beside mmdblookup; what differs
 # beside what two lists say address by address; many addresses; a file of IPv4 alone; files of
 # 300,000 lines; and files that are made to make it run long, take much memory or print what is not
-# so, each within limits of both.
+# so, each within limits of both. One network in twenty of a large file is asked for, from a seed
+# that is printed (SEED), and lists of 30,000 lines are compared: with ALL=1 each, and 300,000.
 set -u
 cd "$(dirname "${BASH_SOURCE[0]}")/.." || exit 1
 made=$PWD/bench/statistics.awk
 list=$PWD/contrib/mmdb-list
 . checks/with_program.bash
 /usr/bin/python3 -c 'import maxminddb.decoder' 2> /dev/null \
-    || skip "mmdb-list: package python3-maxminddb"
+    || skip "there is no maxminddb for Python (Debian's python3-maxminddb)"
 
 # runs SECONDS KILOBYTES COMMAND..: so much processor time and memory. Prints to `printed` and
 # `told`; the status is in `status`.
@@ -63,16 +64,13 @@ printf '\377\n' | LC_ALL=en_US.ISO-8859-1 PYTHONIOENCODING=latin1 \
     || fail "bytes that are no text are asked as '$(cat printed told)'"
 cd ..
 
-# 300,000 lines, and what differs after some of them changed, and after one did.
+# 300,000 lines.
 awk -v lines=300000 -f "$made" > s.txt
-printf 'epoch 1700000000\nstats made s.txt\nemit out.mmdb\n' > job
-sed -e '5000,5400s/|[A-Z][A-Z]|/|JP|/; 100000,100100s/|[A-Z][A-Z]|ipv4/|ZZ|ipv4/' \
-    -e '270000,270100s/|[A-Z][A-Z]|ipv6/|CH|ipv6/' s.txt > changed.txt
-printf '%s\n' 'epoch 1700000000' 'stats made changed.txt' 'emit changed.mmdb' \
-    'stats made s.txt' 'overrides one.csv' 'emit one.mmdb' > changes
+printf '%s\n' 'epoch 1700000000' 'stats made s.txt' 'emit out.mmdb' 'overrides one.csv' \
+    'emit one.mmdb' > both
+grep -v one both > job
 echo '203.0.113.7,set,DE,DE-BE,Berlin' > one.csv
-"$program" build job > built && "$program" build changes >> built \
-    || fail "the jobs end with status $?: $(cat built)"
+"$program" build both > built || fail "the job ends with status $?: $(cat built)"
 does "$list" out.mmdb
 mv printed old
 "$program" census job | sed -n 's/^\([A-Z][A-Z]\) \([0-9]*\) .*/\1 \2/p' > wanted
@@ -80,22 +78,46 @@ sed -nE 's/^[0-9.]*\/([0-9]*) \{"country":\{"iso_code":"(..)"\}\}$/\2 \1/p' old 
     | awk '{ sum[$1] += 2 ^ (32 - $2) } END { for (one in sum) printf "%s %d\n", one, sum[one] }' \
     | sort | cmp -s - wanted \
     || fail "the sums of the list are not those of the census"
-does "$list" --ask out.mmdb < <(cut -d / -f 1 old)
-cut -d ' ' -f 2- printed | cmp -s - old || fail "--ask finds other networks than the list has"
-for at in $(awk -F / 'NR % 9000 == 7 { print $1 }' old); do
+seed=${SEED:-20261129}
+echo "$check: networks from the seed $seed"
+awk -v seed="$seed" -v all="${ALL:+1}" 'BEGIN { srand(seed) } all || rand() < 0.05' old > some
+counted 10000 "$(wc -l < some)" networks
+does "$list" --ask out.mmdb < <(cut -d / -f 1 some)
+cut -d ' ' -f 2- printed | cmp -s - some || fail "--ask finds other networks than the list has"
+has_mmdblookup=
+! needs mmdblookup mmdb-bin || has_mmdblookup=yes
+for at in $(awk -F / 'NR % 450 == 7 { print $1 }' some | head -n 30); do
     record=$("$program" lookup out.mmdb "$at")
-    network=$(grep -E "^${at//./\\.}/" old)
+    network=$(grep -E "^${at//./\\.}/" some)
     [ "${network#* }" = "$record" ] \
         || fail "the list has '$network', where the record of $at is '$record'"
-    command -v mmdblookup > /dev/null || continue
+    [ -n "$has_mmdblookup" ] || continue
     length=$(mmdblookup --verbose --file out.mmdb --ip "$at" \
         | sed -n 's/^ *Record prefix length: //p')
     [[ "$at" == *:* ]] || length=$((length - 96))
     [ "${network%% *}" = "$at/$length" ] \
         || fail "mmdblookup says that the network of $at has length $length"
 done
+does "$list" out.mmdb one.mmdb
+berlin=$(printf %s '+ 203.0.113.7/32 {"city":{"names":{"en":"Berlin"}},' \
+    '"country":{"iso_code":"DE"},"subdivisions":[{"iso_code":"BE"}]}')
+[ "$(cat printed)" = "$berlin" ] \
+    || [ "$(grep -c '' printed)" -eq 2 ] && grep -qF '+ 203.0.113.7/32 {"city"' printed \
+    || fail "one address more differs as '$(cat printed)'"
+
+# What differs after some lines changed.
+lines=30000
+[ -z "${ALL:-}" ] || lines=300000
+awk -v lines="$lines" -f "$made" > s.txt
+third=$((lines / 3)) tenth=$((lines / 10))
+sed -e "$((lines / 60)),+400s/|[A-Z][A-Z]|/|JP|/; $third,+100s/|[A-Z][A-Z]|ipv4/|ZZ|ipv4/" \
+    -e "$((9 * tenth)),+100s/|[A-Z][A-Z]|ipv6/|CH|ipv6/" s.txt > changed.txt
+printf '%s\n' 'epoch 1700000000' 'stats made s.txt' 'emit before.mmdb' 'stats made changed.txt' \
+    'emit changed.mmdb' > job
+"$program" build job > built || fail "the job of changes ends with status $?: $(cat built)"
+does "$list" before.mmdb && mv printed old
 does "$list" changed.mmdb && mv printed new
-does "$list" out.mmdb changed.mmdb && mv printed differ
+does "$list" before.mmdb changed.mmdb && mv printed differ
 cat > compare.py <<'X'
 """Of two lists and what is said to differ: for each pair of records how many addresses changed from
 one to the other."""
@@ -133,13 +155,7 @@ assert said == wanted and len(wanted) > 50, (len(said), len(wanted))
 X
 /usr/bin/python3 compare.py old new differ > printed 2>&1 \
     || fail "what differs is not what two lists say: $(tail -n 1 printed)"
-does "$list" out.mmdb one.mmdb
-berlin=$(printf %s '+ 203.0.113.7/32 {"city":{"names":{"en":"Berlin"}},' \
-    '"country":{"iso_code":"DE"},"subdivisions":[{"iso_code":"BE"}]}')
-[ "$(cat printed)" = "$berlin" ] \
-    || [ "$(grep -c '' printed)" -eq 2 ] && grep -qF '+ 203.0.113.7/32 {"city"' printed \
-    || fail "one address more differs as '$(cat printed)'"
-does "$list" out.mmdb out.mmdb
+does "$list" before.mmdb before.mmdb
 [ ! -s printed ] || fail "a file differs from itself"
 
 # Made files: most of them are hostile. Each is written with the words that are said of it.

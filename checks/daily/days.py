@@ -614,10 +614,10 @@ def main():
         def add(what, *words):
             world = base.copy(folder / f'world{len(tasks)}')
             tasks.append(threads.submit(what, world, *words))
-        add(days, DAYS[:30])
-        add(days, DAYS[30:])
         if 'mounts' in sys.argv:
             add(full_disk, count)
+        for first in range(4):
+            add(days, DAYS[first::4])
         for what in (accepted, three_in_a_row, a_first_run, back, two_at_once, wrong_words):
             add(what)
         for point in points:

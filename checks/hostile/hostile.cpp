@@ -1,14 +1,16 @@
 // Makes hostile feeds, and honest ones beside them: as many lines, texts of the same lengths.
 // It knows how the program mixes texts and how the toolchain's tables hash, so its keys crowd any
-// table that rests on these: they have one hash, or share the low bits of theirs.
+// table that rests on these: they have one mark, or one hash.
 //
 //   hostile FAMILY COUNT [honest] > feed.csv
+//   hostile words COUNT | gzip -9n > checks/hostile/words.gz
 //
 // ranges  prefixes of one hash, falling
-// places  places of one mark, so that all have the same two slots
-// texts   cities whose marks share their low 12 bits
-// packed  cities whose spellings' hashes share their low 12 bits
-// cache   three cities in turn that put one another out of two slots of a table of 2^20
+// places  places of one mark, whose cities begin with the same 24 letters
+// texts   cities of one mark, so that their places have one too
+// packed  cities whose spellings in a data section have one hash
+// cache   three cities in turn, of one mark and with tails of one slot: each is made again
+// words   what is searched for feeds of so many lines, for where nothing can be compiled
 #include <cstdint>
 #include <cstdio>
 #include <cstdlib>
@@ -19,6 +21,7 @@
 using std::string;
 using u64 = uint64_t;
 using u128 = unsigned __int128;
+using strings = std::vector<string>;
 
 static const u64 MULTIPLIER = 0x9e3779b97f4a7c15;
 
@@ -45,15 +48,12 @@ static const unsigned char *bytes_of(const string &text) {
 
 static string spelled(u64 number) { return string((const char *)&number, 8); }
 
-// The mark by which the program finds a text again.
-static u64 mark_of(const string &text) {
-    u64 mark = text.size();
-    size_t at = 0;
-    for (; at + 8 <= text.size(); at += 8)
-        mark = folded(mark ^ word(bytes_of(text) + at), MULTIPLIER);
-    u64 last = 0;
-    for (; at < text.size(); at++) last = last << 8 | bytes_of(text)[at];
-    return folded(mark ^ last, MULTIPLIER);
+// The mark of a line's tail of eight bytes or more: its last eight count once more.
+static u64 tail_mark(const string &tail) {
+    u64 mark = tail.size();
+    for (size_t at = 0; at + 8 <= tail.size(); at += 8)
+        mark = folded(mark ^ word(bytes_of(tail) + at), MULTIPLIER);
+    return folded(mark ^ word(bytes_of(tail) + tail.size() - 8), MULTIPLIER);
 }
 
 // The hasher of the toolchain's tables.
@@ -72,7 +72,8 @@ struct Fold {
         u64 now = state + len;
         for (size_t at = 0; len - at > 16; at += 16)
             now = folded(word(bytes + at) ^ now, word(bytes + at + 8) ^ MULTIPLIER);
-        state = folded(word(bytes + len - 16) ^ now, word(bytes + len - 8) ^ MULTIPLIER);
+        size_t last = len < 16 ? 0 : len - 16;
+        state = folded(word(bytes + last) ^ now, word(bytes + len - 8) ^ MULTIPLIER);
     }
 
     void write(const string &text) { write(bytes_of(text), text.size()); }
@@ -114,18 +115,36 @@ static string trap() {
     }
 }
 
-static u64 spelling_hash(const string &city) {
-    string spelling = string(1, (char)(0x40 | city.size())) + city;
-    Fold fold;
-    fold.write(spelled(spelling.size()));
-    for (char byte : spelling) fold.write((const unsigned char *)&byte, 1);
-    return fold.state;
+// The first 22 of 30 letters: the spelling of such a text has a hash of 0, whatever the last eight
+// are.
+static string packed_trap() {
+    for (;;) {
+        string front = letters(14), spelling = "\x5d\x01" + front;
+        u64 now = Fold().state + 32;
+        now = folded(word(bytes_of(spelling)) ^ now, word(bytes_of(spelling) + 8) ^ MULTIPLIER);
+        if (is_plain(now)) return front + spelled(now);
+    }
 }
 
-static string searched(u64 (*hash)(const string &), u64 window, u64 wanted) {
+// The next of the texts of 16 letters that have one mark: what the first eight letters come to is
+// taken back by the last eight.
+static string of_one_mark() {
+    static string front = letters(8);
     for (;;) {
-        string text = letters(8);
-        if ((hash(text) & window) == wanted) return text;
+        for (size_t at = 0; at < 8 && ++front[at] > 'z'; at++) front[at] = 'a';
+        u64 last = folded(16 ^ word(bytes_of(front)), MULTIPLIER) ^ 0x123456789abcdef;
+        if (is_plain(last)) return front + spelled(last);
+    }
+}
+
+// Three such texts whose lines have tails that lead to one of 16,384 slots.
+static strings three_turns() {
+    std::vector<strings> slots(1 << 14);
+    for (;;) {
+        string city = of_one_mark();
+        auto &slot = slots[tail_mark("DE,," + city + ",") % slots.size()];
+        slot.push_back(city);
+        if (slot.size() == 3) return slot;
     }
 }
 
@@ -139,22 +158,31 @@ static void put_city(unsigned n, const string &city) {
     printf("11.%u.%u.%u/32,DE,,%s,\n", n >> 16, n >> 8 & 255, n & 255, city.c_str());
 }
 
+static void put_words(unsigned count) {
+    printf("places %s\npacked %s\n", trap().c_str(), packed_trap().c_str());
+    for (const string &city : three_turns()) printf("cache %s\n", city.c_str());
+    for (unsigned n = 0; n < count; n++) printf("texts %s\n", of_one_mark().c_str());
+}
+
 int main(int count_of_words, char **words) {
     if (count_of_words < 3) return fputs("usage: hostile FAMILY COUNT [honest]\n", stderr), 2;
     string family = words[1];
     unsigned count = strtoul(words[2], nullptr, 10);
     bool honest = count_of_words > 3;
+    if (family == "words") return put_words(count), 0;
     if (family == "ranges") return put_ranges(count, honest), 0;
-    string front = family == "places" && !honest ? trap() : "";
-    std::vector<string> turns;
-    while (family == "cache" && !honest && turns.size() < 3)
-        turns.push_back(searched(mark_of, (1 << 20) - 1, 0x12345));
+    size_t length = family == "places" ? 32 : family == "packed" ? 30 : 16;
+    string front;
+    strings turns;
+    if (!honest && family == "places") front = trap();
+    if (!honest && family == "packed") front = packed_trap();
+    if (family == "cache") turns = honest ? strings({letters(16), letters(16), letters(16)})
+                                          : three_turns();
     for (unsigned n = 0; n < count; n++) {
-        if (honest) put_city(n, letters(family == "places" ? 32 : 8));
-        else if (family == "places") put_city(n, front + letters(8));
-        else if (family == "texts") put_city(n, searched(mark_of, 0xfff, 0x123));
-        else if (family == "packed") put_city(n, searched(spelling_hash, 0xfff, 0x123));
-        else if (family == "cache") put_city(n, turns[n % 3]);
+        if (!turns.empty()) put_city(n, turns[n % 3]);
+        else if (honest) put_city(n, letters(length));
+        else if (!front.empty()) put_city(n, front + letters(8));
+        else if (family == "texts") put_city(n, of_one_mark());
         else return fprintf(stderr, "hostile: no family %s\n", family.c_str()), 2;
     }
 }
