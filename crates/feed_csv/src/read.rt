@@ -80,8 +80,8 @@ struct Reading<'a> {
     row: ByteRecord,
 }
 
-/// The entries and the faults of the lines of a part by themselves, where at most `limit` lines pass
-/// the line rules: with room for the entries of `size` bytes, and for so many faults.
+/// The entries and the faults of the lines of a part by themselves, where at most `limit` lines
+/// pass the line rules: with room for the entries of `size` bytes, and for so many faults.
 pub(crate) fn read_lines(
     alloc: Global,
     part: LinePart,

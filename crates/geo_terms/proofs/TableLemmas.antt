@@ -438,7 +438,8 @@ table_next list n p slots slots' others others' within is apart table put =
     let new = none_at p (take n list) (none_before list p n apart read) in
     subst (λ (es : List PlaceParts). IsTable es slots' others') (sym one)
     (table_longer (take n list) slots others table p new slots' others'
-    (subst (λ (k : ℕ). IsPut slots slots' others others' k p (slots_of p (length slots))) count put))
+    (subst (λ (k : ℕ). IsPut slots slots' others others' k p (slots_of p (length slots))) count
+    put))
 
 long_zeros : (m : ℕ) → length (replicate {A = ℕ} m 0) ≡ m
 long_zeros zero = refl
@@ -458,9 +459,9 @@ table_none m others many empty = record {
 }
 
 -- the same with a map of the same entries
-pub table_same : (places : List PlaceParts) (slots : List ℕ) (others others' : BTreeMap PlaceParts ℕ)
-    → others'.entries ≡ others.entries → IsTable places slots others
-    → IsTable places slots others'
+pub table_same : (places : List PlaceParts) (slots : List ℕ)
+    (others others' : BTreeMap PlaceParts ℕ) → others'.entries ≡ others.entries
+    → IsTable places slots others → IsTable places slots others'
 table_same places slots others others' same table = record {
   some = table.some;
   within = table.within;

@@ -25,7 +25,8 @@ abbrev pub said_or : PlaceParts → ℕ → Option PlaceParts → Option ℕ →
 said_or p number None rest = rest
 said_or p number (Some q) rest = cond (same_place p q) (Some number) rest
 
--- what a slot says: 0 that no place with this slot has come, and a number to look at its place first
+-- what a slot says: 0 that no place with this slot has come, and a number to look at its place
+-- first
 abbrev pub said : List PlaceParts → PlaceParts → ℕ → Option ℕ → Option ℕ
 said places p zero rest = None
 said places p (suc k) rest = said_or p (suc k) (slice_get places k) rest

@@ -1,7 +1,7 @@
 //! Places of texts, and numbers for them.
 ghost use Rattle.std.specs.Prelude.{◌≡◌, ℕ, ◌+◌, ◌-◌, ◌*◌, ◌^◌, ◌<◌, ◌≤◌, ◌↔◌, ◌++◌, ◌∷◌, []};
-ghost use Rattle.std.specs.Prelude.{length, get_or, IfOk, OnOk, OnErr, IsNone, IfSome, IsTrue, Some};
-ghost use Rattle.std.specs.Prelude.{None, Option};
+ghost use Rattle.std.specs.Prelude.{length, get_or, IfOk, OnOk, OnErr, IsNone, IfSome, IsTrue};
+ghost use Rattle.std.specs.Prelude.{None, Option, Some};
 ghost use Rattle.std.specs.Option.{option_copied, unwrap_or};
 ghost use Rattle.std.specs.List.{IsDistinct};
 ghost use Rattle.geo_terms.specs.Numbers.{number_of, place_at, same_place, with_place};

@@ -20,8 +20,8 @@ is_part part = not (is_empty part || same_text part (codes ".") || same_text par
 -- the name of a file: a text of some such bytes, not too many, of parts between single slashes
 unfoldable pub is_name : List ℕ → Bool
 is_name name =
-    nat_le 1 (length name) && nat_le (length name) LONGEST_NAME && is_utf8 name && list_all is_name_byte name
-    && list_all is_part (pieces 47 name)
+    nat_le 1 (length name) && nat_le (length name) LONGEST_NAME && is_utf8 name
+    && list_all is_name_byte name && list_all is_part (pieces 47 name)
 
 -- a byte of a slot: an ASCII letter, a digit, a dash, a dot or a low line
 abbrev pub is_slot_byte : ℕ → Bool
@@ -29,7 +29,8 @@ is_slot_byte b = is_ascii_alphanumeric b || b == 45 || b == 46 || b == 95
 
 -- a slot: some such bytes, not too many
 unfoldable pub is_slot : List ℕ → Bool
-is_slot slot = nat_le 1 (length slot) && nat_le (length slot) LONGEST_WORD && list_all is_slot_byte slot
+is_slot slot =
+    nat_le 1 (length slot) && nat_le (length slot) LONGEST_WORD && list_all is_slot_byte slot
 
 -- a byte from `!` to `~`
 abbrev pub is_visible : ℕ → Bool
@@ -37,4 +38,5 @@ is_visible b = nat_le 33 b && nat_le b 126
 
 -- a database type: some such bytes, not too many
 unfoldable pub is_type_name : List ℕ → Bool
-is_type_name name = nat_le 1 (length name) && nat_le (length name) LONGEST_WORD && list_all is_visible name
+is_type_name name =
+    nat_le 1 (length name) && nat_le (length name) LONGEST_WORD && list_all is_visible name

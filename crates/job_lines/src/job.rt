@@ -31,11 +31,11 @@ pub const LONGEST_JOB: usize = 1_048_576;
 
 /// Reads a job, whole.
 ///
-/// A job is UTF-8 text of at most `LONGEST_JOB` bytes. A byte order mark at its start and a carriage
-/// return at the end of a line are dropped. Blank lines, and lines whose first byte after blanks is
-/// `#`, are passed over. Every other line is words between blanks: `epoch N` first; then, before
-/// every step, at most one `type NAME` and at most one `pieces N`; and then the steps, in any
-/// number and order: `rpsl SLOT FILE`, `stats SLOT FILE`, `feed URL FILE`, `overrides FILE`,
+/// A job is UTF-8 text of at most `LONGEST_JOB` bytes. A byte order mark at its start and a
+/// carriage return at the end of a line are dropped. Blank lines, and lines whose first byte after
+/// blanks is `#`, are passed over. Every other line is words between blanks: `epoch N` first; then,
+/// before every step, at most one `type NAME` and at most one `pieces N`; and then the steps, in
+/// any number and order: `rpsl SLOT FILE`, `stats SLOT FILE`, `feed URL FILE`, `overrides FILE`,
 /// `drop rpsl SLOT`, `drop stats SLOT`, `drop feed URL`, `drop overrides`, `emit FILE`, `report`,
 /// `mark NAME`, `back NAME` and `compact`. NAME has the form of SLOT.
 #[tactic(auto, unfolding(crate::specs::Job::job))]

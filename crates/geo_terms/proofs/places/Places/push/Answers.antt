@@ -64,7 +64,8 @@ invariant_of-self-2 c =
     let count : c.len-count.result + 1 ≡ suc (length xs) =
     omega (arith, c.len-count.ensures, c.self.inside.list.ok.0) in
     let put = subst (λ (n : ℕ). IsPut inside.slots.items c.note.new.slots.items inside.others
-    c.note.new.others n p (slots_of p (length inside.slots.items))) count c.in_ok-note.ensures.put in
+    c.note.new.others n p (slots_of p (length inside.slots.items))) count
+    c.in_ok-note.ensures.put in
     rw pushed (
       IsDistinct-push place_equiv xs p c.self.invariant.0 (absent_any xs p none),
       search rules,
