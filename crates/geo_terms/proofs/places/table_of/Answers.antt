@@ -1,5 +1,5 @@
 -- The table leads to one place more after each step.
-use Rattle.std.proofs.Common.{◌∙◌}
+use Rattle.std.proofs.Common.{arith}
 use Rattle.geo_terms.proofs.TableLemmas.{table_next}
 use Rattle.geo_terms.proofs.places.table_of.Goals as goal
 
@@ -9,5 +9,5 @@ loop-at-preserved c = record {
       table_next c.args.list.now c.loop-at.at c.index-list-at.result c.loop-at.slots.items
       c.note.new.slots.items c.loop-at.others c.note.new.others c.loop-at-test.true
       c.index-list-at.is c.requires.distinct c.loop-at.invariant.table c.in_ok-note.ensures.put;
-  room = c.in_ok-note.ensures.len ∙ c.loop-at.invariant.room;
+  some = omega (arith, c.in_ok-note.ensures.len, c.loop-at.invariant.some);
 }

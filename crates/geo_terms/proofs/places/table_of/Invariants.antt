@@ -1,9 +1,9 @@
-use Rattle.std.proofs.Common.{◌≡◌, ◌*◌, ◌+◌, length, take}
+use Rattle.std.proofs.Common.{◌<◌, length, take}
 use Rattle.geo_terms.specs.PlaceTable.{IsTable}
 use Rattle.geo_terms.proofs.places.table_of.Given as goal
 
 abbrev pub invariant-loop-at : goal.invariant-loop-at
 invariant-loop-at l = record {
   table : IsTable (take l.at l.list) l.slots.items l.others;
-  room : length l.slots.items ≡ 8 * length l.list + 64;
+  some : 1 < length l.slots.items;
 }
