@@ -37,6 +37,7 @@ feed() {
         }
         END {
             front = honest ? "2001:db8:7f4a:7c15" : "9e37:79b9:7f4a:7c15"
+            begin = word[family "-front", 1]
             for (n = 0; n < lines; n++) {
                 if (family == "ranges") {
                     at = lines - n
@@ -44,8 +45,8 @@ feed() {
                     printf "%s:1:%x:%x:1/128,DE,,Berlin,\n", front, high, at % 65536
                     continue
                 }
-                city = made(family == "places" ? 32 : 8)
-                if (!honest && family == "places") city = word["front", 1] substr(city, 25)
+                city = made(family == "places" ? 32 : family == "packed" ? 30 : 8)
+                if (!honest) city = begin substr(city, length(begin) + 1)
                 if (!honest && family == "cache") city = word["turn", n % 3 + 1]
                 if (!honest && (family, n + 1) in word) city = word[family, n + 1]
                 high = int(n / 65536)

@@ -7,7 +7,7 @@
 // ranges  prefixes of one hash, falling
 // places  places of one mark, so that all have the same two slots
 // texts   cities whose marks share their low 12 bits
-// packed  cities whose spellings' hashes share their low 12 bits
+// packed  cities whose spellings have one hash
 // cache   three cities in turn that put one another out of two slots of a table of 2^20
 #include <cstdint>
 #include <cstdio>
@@ -114,12 +114,16 @@ static string trap() {
     }
 }
 
-static u64 spelling_hash(const string &city) {
-    string spelling = string(1, (char)(0x40 | city.size())) + city;
-    Fold fold;
-    fold.write(spelled(spelling.size()));
-    for (char byte : spelling) fold.write((const unsigned char *)&byte, 1);
-    return fold.state;
+// Fourteen letters behind which the hasher's state over the spelling of a city of thirty bytes is a
+// plain text, and that text: the spelling's hash is then 0, whatever the last eight bytes are.
+static string spelling_trap() {
+    for (;;) {
+        string front = letters(14);
+        string spelling = "\x5d\x01" + front;
+        u64 now = Fold().state + 32;
+        now = folded(word(bytes_of(spelling)) ^ now, word(bytes_of(spelling) + 8) ^ MULTIPLIER);
+        if (is_plain(now)) return front + spelled(now);
+    }
 }
 
 static string searched(u64 (*hash)(const string &), u64 window, u64 wanted) {
@@ -145,15 +149,16 @@ int main(int count_of_words, char **words) {
     unsigned count = strtoul(words[2], nullptr, 10);
     bool honest = count_of_words > 3;
     if (family == "ranges") return put_ranges(count, honest), 0;
-    string front = family == "places" && !honest ? trap() : "";
+    string front;
+    if (family == "places" && !honest) front = trap();
+    if (family == "packed" && !honest) front = spelling_trap();
     std::vector<string> turns;
     while (family == "cache" && !honest && turns.size() < 3)
         turns.push_back(searched(mark_of, (1 << 20) - 1, 0x12345));
     for (unsigned n = 0; n < count; n++) {
-        if (honest) put_city(n, letters(family == "places" ? 32 : 8));
-        else if (family == "places") put_city(n, front + letters(8));
+        if (honest) put_city(n, letters(family == "places" ? 32 : family == "packed" ? 30 : 8));
+        else if (family == "places" || family == "packed") put_city(n, front + letters(8));
         else if (family == "texts") put_city(n, searched(mark_of, 0xfff, 0x123));
-        else if (family == "packed") put_city(n, searched(spelling_hash, 0xfff, 0x123));
         else if (family == "cache") put_city(n, turns[n % 3]);
         else return fprintf(stderr, "hostile: no family %s\n", family.c_str()), 2;
     }
