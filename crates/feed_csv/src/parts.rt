@@ -18,8 +18,8 @@ use std::thread::Threads;
 /// The least bytes of a part before others: a feed of at most so many is one part.
 pub const FEED_PART: usize = LEAST_PART;
 
-/// The least bytes of a part where each piece has several. The C library gives back the room for the
-/// faults of so long a part when they have been put to the others.
+/// The least bytes of a part where each piece has several. The C library gives back the room for
+/// the faults of so long a part when they have been put to the others.
 const LONG_PART: usize = 4_194_304;
 
 /// Work that reads the lines of a part of a feed, which has `size` bytes.
