@@ -10,7 +10,7 @@ ghost use Rattle.job_lines.specs.declared.job.Step as steps_of;
 ghost use Rattle.job_run.specs.Moves.{read_rooms, source_moves};
 ghost use Rattle.job_run.specs.Sources.{file_named};
 ghost use Rattle.job_run.specs.Stops.{DoesAll};
-ghost use Rattle.command_words.specs.Commands.{Command};
+ghost use Rattle.job_lines.specs.Commands.{Command};
 ghost use Rattle.geofeed_cmd.specs.Run.Answers.{Comes};
 ghost use Rattle.geofeed_cmd.specs.Run.Closes.{Closes};
 ghost use Rattle.geofeed_cmd.specs.Run.Lines.{status_of, stop_line};

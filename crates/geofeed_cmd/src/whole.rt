@@ -6,7 +6,7 @@ ghost use Rattle.job_run.specs.Moves.{LacksAt, moves_of, read_rooms};
 ghost use Rattle.job_run.specs.Seen.{seen};
 ghost use Rattle.job_run.specs.Stops.{IsIn};
 ghost use Rattle.job_run.specs.World.{World};
-ghost use Rattle.command_words.specs.Commands.{Command};
+ghost use Rattle.job_lines.specs.Commands.{Command};
 ghost use Rattle.geofeed_cmd.specs.Run.Answers.{Comes};
 ghost use Rattle.geofeed_cmd.specs.Run.Plans.{plan_of, planned};
 

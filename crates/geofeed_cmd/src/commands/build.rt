@@ -5,7 +5,7 @@ ghost use Rattle.geo_outside.specs.Files.{Told};
 ghost use Rattle.job_run.specs.Seen.{seen};
 ghost use Rattle.job_lines.specs.Said.{IsWithinLimits};
 ghost use Rattle.job_run.specs.Moves.{moves_of, read_rooms};
-ghost use Rattle.command_words.specs.Commands.{Command, build};
+ghost use Rattle.job_lines.specs.Commands.{Command, build};
 ghost use Rattle.geofeed_cmd.specs.Run.Answers.{Comes};
 ghost use Rattle.geofeed_cmd.specs.Run.Plans.{plan_of, planned, room_of, start_of};
 

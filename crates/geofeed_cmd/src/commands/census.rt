@@ -6,7 +6,7 @@ ghost use Rattle.geo_outside.specs.Files.{Told};
 ghost use Rattle.geo_terms.specs.Sources.{InForce};
 ghost use Rattle.check_census.specs.Census.{census};
 ghost use Rattle.check_census.specs.Texts.{count_lines};
-ghost use Rattle.command_words.specs.Commands.{Command, census as census_command};
+ghost use Rattle.job_lines.specs.Commands.{Command, census as census_command};
 ghost use Rattle.job_lines.specs.Said.{IsWithinLimits};
 ghost use Rattle.job_run.specs.Acts.{effect, shows};
 ghost use Rattle.job_run.specs.Moves.{read_rooms, source_moves};

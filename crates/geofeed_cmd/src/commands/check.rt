@@ -6,7 +6,7 @@ ghost use Rattle.geo_outside.specs.Files.{Told};
 ghost use Rattle.geo_terms.specs.Sources.{feed_of};
 ghost use Rattle.check_census.specs.Texts.{verdict_lines};
 ghost use Rattle.check_census.specs.Verdicts.{verdicts};
-ghost use Rattle.command_words.specs.Commands.{Command, check, check_key};
+ghost use Rattle.job_lines.specs.Commands.{Command, check, check_key};
 ghost use Rattle.job_lines.specs.Acts.{feed_key};
 ghost use Rattle.job_lines.specs.Said.{IsWithinLimits};
 ghost use Rattle.job_run.specs.Acts.{shows};

@@ -9,7 +9,7 @@ ghost use Rattle.job_run.specs.Acts.{shows};
 ghost use Rattle.job_run.specs.Moves.{read_rooms, source_moves};
 ghost use Rattle.job_run.specs.Seen.{Prints};
 ghost use Rattle.job_run.specs.Stops.{Tail};
-ghost use Rattle.command_words.specs.Commands.{Command, explain};
+ghost use Rattle.job_lines.specs.Commands.{Command, explain};
 ghost use Rattle.explained.specs.Explanation.{explanation};
 ghost use Rattle.geo_terms.specs.Precedence.{reasons_at};
 ghost use Rattle.geofeed_cmd.specs.Commands.Explain.{explaining};

@@ -3,7 +3,7 @@ ghost use Rattle.std.specs.Prelude.{◌≡◌, ◌⊎◌, ◌≤◌, ◌≢◌, 
 ghost use Rattle.geo_outside.specs.Count.{Rose};
 ghost use Rattle.geo_outside.specs.Files.{Told};
 ghost use Rattle.job_run.specs.Seen.{seen};
-ghost use Rattle.command_words.specs.Commands.{gen};
+ghost use Rattle.job_lines.specs.Commands.{gen};
 ghost use Rattle.geofeed_cmd.specs.Run.Answers.{Comes};
 
 use crate::status::Status;

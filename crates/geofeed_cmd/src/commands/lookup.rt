@@ -3,7 +3,7 @@ ghost use Rattle.std.specs.Prelude.{◌≡◌, ◌≢◌, ◌≤◌, ◌+◌, �
 ghost use Rattle.std.specs.FinMap as map;
 ghost use Rattle.geo_outside.specs.Count.{Rose};
 ghost use Rattle.geo_outside.specs.Files.{Told};
-ghost use Rattle.command_words.specs.Commands.{lookup};
+ghost use Rattle.job_lines.specs.Commands.{lookup};
 ghost use Rattle.job_run.specs.Acts.{shows};
 ghost use Rattle.geofeed_cmd.specs.Run.Answers.{Comes};
 ghost use Rattle.geofeed_cmd.specs.Run.Plans.{alone, lookup_plan, planned, refused};

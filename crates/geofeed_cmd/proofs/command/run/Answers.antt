@@ -2,7 +2,7 @@
 use Rattle.std.proofs.Common.{ap, subst}
 use Rattle.std.specs.Prelude.{map, string_bytes, Option}
 use Rattle.geofeed_cmd.specs.declared.status.Status.TheVariants as statuses
-use Rattle.command_words.specs.Commands.{Command, command_of}
+use Rattle.job_lines.specs.Commands.{Command, command_of}
 use Rattle.geofeed_cmd.specs.Run.Answers.{IsAnswer}
 use Rattle.geofeed_cmd.specs.Run.Plans.{reads_folder}
 use Rattle.geofeed_cmd.proofs.AnswerLemmas.{answered}

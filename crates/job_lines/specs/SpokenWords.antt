@@ -1,11 +1,13 @@
 -- A command as the words spoke it.
-use Rattle.std.specs.Prelude.{ℕ, ◌≤◌, if◌then◌else◌, Option, Some, None, option_and_then}
-use Rattle.command_words.specs.declared.spoken.Spoken.{Spoken}
-use Rattle.command_words.specs.declared.spoken.Spoken.TheVariants.{Build, Lookup, Explain, Gen}
-use Rattle.command_words.specs.declared.spoken.Spoken.TheVariants.{Publish, Check, Census}
+use Rattle.std.specs.Prelude.{◌≡◌, ◌≤◌, ℕ, if◌then◌else◌, Option, Some, None, option_and_then}
+use Rattle.std.specs.Prelude.{Result, Ok, Err}
+use Rattle.job_lines.specs.declared.line_fault.LineFault.{LineFault}
+use Rattle.job_lines.specs.declared.spoken.Spoken.{Spoken}
+use Rattle.job_lines.specs.declared.spoken.Spoken.TheVariants.{Build, Lookup, Explain, Gen}
+use Rattle.job_lines.specs.declared.spoken.Spoken.TheVariants.{Publish, Check, Census}
 use Rattle.job_lines.specs.Acts.{feed_key}
-use Rattle.command_words.specs.Commands.{Command, build, lookup, explain, gen, publish, check_key}
-use Rattle.command_words.specs.Commands.{census, is_plain}
+use Rattle.job_lines.specs.Commands.{Command, build, lookup, explain, gen, publish, check_key}
+use Rattle.job_lines.specs.Commands.{census, is_plain}
 
 -- the command that was spoken; the word of a URL may be none,
 -- and a block may be none that has a feed
@@ -36,3 +38,8 @@ HasFewLines (Some spoken) = lines_said spoken ≤ 1000000
 
 abbrev pub spoken_by : Option Spoken → Option Command
 spoken_by spoken = option_and_then named spoken
+
+-- the words were read as this command, or were refused where they are none
+abbrev pub IsRead : Result Spoken LineFault → Option Command → Type 0
+IsRead (Ok spoken) command = (named spoken ≡ command) × (lines_said spoken ≤ 1000000)
+IsRead (Err fault) command = command ≡ None

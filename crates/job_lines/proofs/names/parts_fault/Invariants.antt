@@ -3,8 +3,8 @@ use Rattle.std.proofs.Common.{◌≡◌, ℕ, true, List, length}
 use Rattle.std.specs.List.{list_all}
 use Rattle.geo_addr.specs.Lines.{pieces}
 use Rattle.job_lines.specs.Names.{is_part}
-use Rattle.stop_words.specs.Faults.{has_part}
-use Rattle.stop_words.proofs.names.parts_fault.Given as goal
+use Rattle.job_lines.specs.Faults.{has_part}
+use Rattle.job_lines.proofs.names.parts_fault.Given as goal
 
 abbrev pub invariant-parts : goal.invariant-parts
 invariant-parts l =

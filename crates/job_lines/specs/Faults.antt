@@ -12,9 +12,9 @@ use Rattle.feed_refs.specs.Urls.{url_read}
 use Rattle.feed_refs.specs.declared.feed_url.UrlRead.TheVariants.{Refused, OtherScheme}
 use Rattle.job_lines.specs.Forms.{pieces_form}
 use Rattle.job_lines.specs.Names.{is_name_byte, is_slot_byte, is_visible}
-use Rattle.command_words.specs.Commands.{is_plain, lines_in}
-use Rattle.stop_words.specs.declared.fault.WordFault.{WordFault}
-use Rattle.stop_words.specs.declared.fault.WordFault.TheVariants as faults
+use Rattle.job_lines.specs.Commands.{is_plain, lines_in}
+use Rattle.job_lines.specs.declared.word_fault.WordFault.{WordFault}
+use Rattle.job_lines.specs.declared.word_fault.WordFault.TheVariants as faults
 
 -- whether a word begins with a slash
 abbrev pub is_absolute : List ℕ → Bool

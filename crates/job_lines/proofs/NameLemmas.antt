@@ -3,7 +3,7 @@ use Rattle.std.proofs.Common.{◌≡◌, ℕ, ◌||◌, Bool, true, false, List,
 use Rattle.std.specs.List.{list_any}
 use Rattle.geo_addr.specs.Lines.{pieces}
 use Rattle.geo_terms.specs.PlaceForm.{same_text}
-use Rattle.stop_words.specs.Faults.{has_part}
+use Rattle.job_lines.specs.Faults.{has_part}
 
 or_right : (a b : Bool) → b ≡ true → (a || b) ≡ true
 or_right true b is = refl

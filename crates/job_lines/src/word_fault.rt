@@ -1,6 +1,20 @@
-//! What is wrong with a word.
+//! What is wrong with a word, and what it has to be.
 use geo_addr::{AddrFault, BlockFault};
 use thiserror::Error;
+
+/// What one word of a job or of the command line has to be.
+#[derive(Clone, Copy, Debug, PartialEq, Eq)]
+pub enum Shape {
+    Epoch,
+    TypeName,
+    Pieces,
+    Slot,
+    File,
+    Url,
+    Address,
+    Block,
+    Count,
+}
 
 /// What is wrong with a word, as a person reads it behind the word.
 #[derive(Clone, Copy, Debug, PartialEq, Eq, Error)]
