@@ -1,6 +1,8 @@
 -- What is true of a word of which a fault is said.
 use Rattle.std.specs.Prelude.{◌≡◌, ◌<◌, ◌≤◌, ℕ, ◌==◌, ◌^◌, Bool, true, false, List, [], ◌∷◌, codes}
 use Rattle.std.specs.Prelude.{length, None, Some, Ok, Err, IsSomeAnd, IfOk}
+use Rattle.job_lines.specs.declared.line_fault.LineFault.{LineFault}
+use Rattle.job_lines.specs.declared.line_fault.LineFault.TheVariants as lines
 use Rattle.std.specs.List.{list_all, list_any}
 use Rattle.std.specs.Str.{is_utf8}
 use Rattle.geo_addr.specs.AddressTexts.{address_in}
@@ -47,3 +49,18 @@ IsSo faults.Scheme word = url_read word ≡ OtherScheme
 IsSo (faults.Address fault) word = address_in word ≡ Err fault
 IsSo (faults.Block fault) word = block_in word ≡ Err fault
 IsSo faults.LowBlock word = IfOk (block_in word) (λ block. is_plain block ≡ false)
+
+-- what is said of a word is so
+abbrev pub IsSaid : LineFault → List ℕ → Type 0
+IsSaid lines.Utf8 word = Unit {0}
+IsSaid lines.Nothing word = Unit {0}
+IsSaid lines.Unknown word = Unit {0}
+IsSaid lines.Kind word = Unit {0}
+IsSaid (lines.Few at) word = Unit {0}
+IsSaid (lines.Many at) word = Unit {0}
+IsSaid (lines.Word at shape fault) word = IsSo fault word
+IsSaid lines.NoEpoch word = Unit {0}
+IsSaid lines.SecondEpoch word = Unit {0}
+IsSaid lines.Behind word = Unit {0}
+IsSaid lines.Twice word = Unit {0}
+IsSaid lines.Memory word = Unit {0}

@@ -4,6 +4,7 @@ ghost use Rattle.std.specs.Prelude.{false, true};
 ghost use Rattle.std.specs.Str.{is_utf8};
 ghost use Rattle.job_lines.specs.Acts.{feed_key, file_alone, file_word, slot_alone, slot_and_file};
 ghost use Rattle.job_lines.specs.Acts.{slot_file_words, slot_word, url_alone};
+ghost use Rattle.job_lines.specs.Faults.{IsSaid};
 ghost use Rattle.job_lines.specs.Words.{both, has_none, only, words};
 
 use crate::line_fault::LineFault;
@@ -114,6 +115,7 @@ fn slot_file_words(alloc: Global, slot: &[u8], file: &[u8]) -> Result<(Text, Tex
 pub(crate) fn file_at(alloc: Global, word: &[u8], at: u8) -> Result<Text, LineFault>
     ensures ok { IfOk result (λ file. file_word word.now ≡ Some file) }
     ensures err { IfErr result (λ why. (why ≡ LineFault.Memory) ⊎ (file_word word.now ≡ None)) }
+    ensures so { IfErr result (λ why. IsSaid why word.now) }
 {
     match name_fault(word) {
         Some(fault) => Err(LineFault::Word {
@@ -130,6 +132,7 @@ pub(crate) fn file_at(alloc: Global, word: &[u8], at: u8) -> Result<Text, LineFa
 fn slot_at(alloc: Global, word: &[u8], at: u8) -> Result<Text, LineFault>
     ensures ok { IfOk result (λ slot. slot_word word.now ≡ Some slot) }
     ensures err { IfErr result (λ why. (why ≡ LineFault.Memory) ⊎ (slot_word word.now ≡ None)) }
+    ensures so { IfErr result (λ why. IsSaid why word.now) }
 {
     match slot_fault(word) {
         Some(fault) => Err(LineFault::Word {
@@ -146,6 +149,7 @@ fn slot_at(alloc: Global, word: &[u8], at: u8) -> Result<Text, LineFault>
 pub fn url_at(alloc: Global, word: &[u8], at: u8) -> Result<Text, LineFault>
     ensures ok { IfOk result (λ key. feed_key word.now ≡ Some key) }
     ensures err { IfErr result (λ why. (why ≡ LineFault.Memory) ⊎ (feed_key word.now ≡ None)) }
+    ensures so { IfErr result (λ why. IsSaid why word.now) }
 {
     match read_url(alloc, word)? {
         UrlRead::Https(key) => Ok(key),
@@ -154,7 +158,9 @@ pub fn url_at(alloc: Global, word: &[u8], at: u8) -> Result<Text, LineFault>
     }
 }
 
-fn url_fault(at: u8, fault: WordFault) -> LineFault {
+fn url_fault(at: u8, fault: WordFault) -> LineFault
+    ensures { result ≡ LineFault.Word at Shape.Url fault }
+{
     LineFault::Word {
         at,
         shape: Shape::Url,

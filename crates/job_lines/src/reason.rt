@@ -77,12 +77,24 @@ impl Reason {
     /// Why the words of the command line are no command.
     pub fn of_words(alloc: Global, words: &[String], fault: LineFault) -> Result<Reason, Memory> {
         let at = fault.at() as usize;
+        let before = word_of(words, at.saturating_sub(1));
+        Reason::of_word(alloc, fault, word_of(words, 0), before, word_of(words, at))
+    }
+
+    /// The same, of the first of these words, the one before the word that is refused, and that.
+    pub fn of_word(
+        alloc: Global,
+        fault: LineFault,
+        first: &str,
+        before: &str,
+        word: &str,
+    ) -> Result<Reason, Memory> {
         Ok(Reason {
             line: 0,
             fault,
-            first: Excerpt::of(alloc, word_of(words, 0))?,
-            before: Excerpt::of(alloc, word_of(words, at.saturating_sub(1)))?,
-            word: Excerpt::of(alloc, word_of(words, at))?,
+            first: Excerpt::of(alloc, first.as_bytes())?,
+            before: Excerpt::of(alloc, before.as_bytes())?,
+            word: Excerpt::of(alloc, word.as_bytes())?,
         })
     }
 
@@ -99,10 +111,10 @@ impl Reason {
     }
 }
 
-fn word_of(words: &[String], at: usize) -> &[u8] {
+fn word_of(words: &[String], at: usize) -> &str {
     match words.get(at) {
-        Some(word) => word.as_str().as_bytes(),
-        None => &[],
+        Some(word) => word.as_str(),
+        None => "",
     }
 }
 

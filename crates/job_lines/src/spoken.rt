@@ -1,10 +1,12 @@
 //! The command that the words of the command line are.
-ghost use Rattle.std.specs.Prelude.{◌≡◌, ◌≤◌, IfErr, IfOk, OnErr, OnOk, Some, None, map, true};
-ghost use Rattle.std.specs.Prelude.{string_bytes, false};
+ghost use Rattle.std.specs.Prelude.{◌≡◌, ◌≤◌, IfErr, IfOk, IfSome, None, Ok, OnErr, OnOk, Some};
+ghost use Rattle.std.specs.Prelude.{false, is_ok, map, string_bytes, true};
+ghost use Rattle.geo_addr.specs.AddressTexts.{address_in};
+ghost use Rattle.geo_addr.specs.Prefixes.{block_in};
 ghost use Rattle.job_lines.specs.Commands.{build_of, census_of, check_of, command_of};
 ghost use Rattle.job_lines.specs.Commands.{explain_of, gen_of, is_plain, lines_in, lookup_of};
 ghost use Rattle.job_lines.specs.Commands.{publish_of, with_one, with_three, with_two};
-ghost use Rattle.job_lines.specs.Faults.{IsSo};
+ghost use Rattle.job_lines.specs.Faults.{IsSaid};
 ghost use Rattle.job_lines.specs.Names.{is_name};
 ghost use Rattle.job_lines.specs.SpokenWords.{HasFewLines, IsRead, spoken_by};
 
@@ -133,36 +135,24 @@ fn lookup_of<'a>(file: &'a str, address: &str) -> Result<Spoken<'a>, LineFault>
     ensures { IsRead result (lookup_of file.now address.now) }
 {
     file_name(file, 1)?;
-    match parse_addr(address.as_bytes()) {
-        Ok(at) => Ok(Spoken::Lookup(file, at)),
-        Err(fault) => Err(address_fault(WordFault::Address(fault))),
-    }
+    let at = address_at(address, 2)?;
+    Ok(Spoken::Lookup(file, at))
 }
 
 fn explain_of<'a>(job: &'a str, address: &str) -> Result<Spoken<'a>, LineFault>
     ensures { IsRead result (explain_of job.now address.now) }
 {
     file_name(job, 1)?;
-    match parse_addr(address.as_bytes()) {
-        Ok(at) => Ok(Spoken::Explain(job, at)),
-        Err(fault) => Err(address_fault(WordFault::Address(fault))),
-    }
+    let at = address_at(address, 2)?;
+    Ok(Spoken::Explain(job, at))
 }
 
 fn gen_of<'a>(lines: &str, file: &'a str) -> Result<Spoken<'a>, LineFault>
     ensures { IsRead result (gen_of lines.now file.now) }
 {
-    match lines_in(lines.as_bytes()) {
-        Ok(lines) => {
-            file_name(file, 2)?;
-            Ok(Spoken::Gen(lines, file))
-        }
-        Err(fault) => Err(LineFault::Word {
-            at: 1,
-            shape: Shape::Count,
-            fault,
-        }),
-    }
+    let lines = lines_at(lines, 1)?;
+    file_name(file, 2)?;
+    Ok(Spoken::Gen(lines, file))
 }
 
 fn check_of<'a>(job: &'a str, url: &'a str) -> Result<Spoken<'a>, LineFault>
@@ -176,22 +166,16 @@ fn publish_of<'a>(job: &'a str, block: &str, file: &'a str) -> Result<Spoken<'a>
     ensures { IsRead result (publish_of job.now block.now file.now) }
 {
     file_name(job, 1)?;
-    match parse_block(block.as_bytes()) {
-        Ok(block) => {
-            if !is_plain(block) {
-                return Err(block_fault(WordFault::LowBlock));
-            }
-            file_name(file, 3)?;
-            Ok(Spoken::Publish(job, block, file))
-        }
-        Err(fault) => Err(block_fault(WordFault::Block(fault))),
-    }
+    let block = block_at(block, 2)?;
+    file_name(file, 3)?;
+    Ok(Spoken::Publish(job, block, file))
 }
 
 // The name of a file as the word of this number.
 fn file_name(word: &str, at: u8) -> Result<(), LineFault>
     ensures ok { OnOk result (is_name word.now ≡ true) }
     ensures err { OnErr result (is_name word.now ≡ false) }
+    ensures so { IfErr result (λ why. IsSaid why word.now) }
 {
     match name_fault(word.as_bytes()) {
         Some(fault) => Err(LineFault::Word {
@@ -203,41 +187,73 @@ fn file_name(word: &str, at: u8) -> Result<(), LineFault>
     }
 }
 
-fn address_fault(fault: WordFault) -> LineFault {
-    LineFault::Word {
-        at: 2,
-        shape: Shape::Address,
-        fault,
+fn address_at(word: &str, at: u8) -> Result<Addr, LineFault>
+    ensures ok { IfOk result (λ address. address_in word.now ≡ Ok address) }
+    ensures err { OnErr result (is_ok (address_in word.now) ≡ false) }
+    ensures so { IfErr result (λ why. IsSaid why word.now) }
+{
+    match parse_addr(word.as_bytes()) {
+        Ok(address) => Ok(address),
+        Err(fault) => Err(LineFault::Word {
+            at,
+            shape: Shape::Address,
+            fault: WordFault::Address(fault),
+        }),
     }
 }
 
-fn block_fault(fault: WordFault) -> LineFault {
-    LineFault::Word {
-        at: 2,
+// A block that has a feed.
+fn block_at(word: &str, at: u8) -> Result<Block, LineFault>
+    ensures ok { IfOk result (λ block. block_in word.now ≡ Ok block) }
+    ensures plain { IfOk result (λ block. is_plain block ≡ true) }
+    ensures err { OnErr result (IfOk (block_in word.now) (λ block. is_plain block ≡ false)) }
+    ensures so { IfErr result (λ why. IsSaid why word.now) }
+{
+    let fault = match parse_block(word.as_bytes()) {
+        Ok(block) => {
+            if is_plain(block) {
+                return Ok(block);
+            }
+            WordFault::LowBlock
+        }
+        Err(fault) => WordFault::Block(fault),
+    };
+    Err(LineFault::Word {
+        at,
         shape: Shape::Block,
         fault,
+    })
+}
+
+// The number from 1 to a million that digits without leading zeros write.
+fn lines_at(word: &str, at: u8) -> Result<u32, LineFault>
+    ensures ok { IfOk result (λ n. lines_in word.now ≡ Some n) }
+    ensures few { IfOk result (λ n. n ≤ 1000000) }
+    ensures err { OnErr result (lines_in word.now ≡ None) }
+    ensures so { IfErr result (λ why. IsSaid why word.now) }
+{
+    match lines_in(word.as_bytes()) {
+        Some(number) => Ok(number),
+        None => Err(LineFault::Word {
+            at,
+            shape: Shape::Count,
+            fault: WordFault::Count,
+        }),
     }
 }
 
-/// The number from 1 to a million that digits without leading zeros write.
-fn lines_in(digits: &[u8]) -> Result<u32, WordFault>
-    ensures ok { IfOk result (λ n. lines_in digits.now ≡ Some n) }
-    ensures few { IfOk result (λ n. n ≤ 1000000) }
-    ensures err { OnErr result (lines_in digits.now ≡ None) }
-    ensures so { IfErr result (λ fault. IsSo fault digits.now) }
+fn lines_in(digits: &[u8]) -> Option<u32>
+    ensures number { result ≡ lines_in digits.now }
+    ensures few { IfSome result (λ n. n ≤ 1000000) }
 {
     if !begins_plain(digits) {
-        return Err(WordFault::Count);
+        return None;
     }
-    match decimal(digits, 1, 7) {
-        Some(number) => {
-            if number < 1 || number > 1_000_000 {
-                return Err(WordFault::Count);
-            }
-            Ok(number as u32)
-        }
-        None => Err(WordFault::Count),
+    let number = decimal(digits, 1, 7)?;
+    if number < 1 || number > 1_000_000 {
+        return None;
     }
+    Some(number as u32)
 }
 
 /// Whether a block lies in the IPv4 space, or does not reach into it.

@@ -28,8 +28,8 @@ use fan_work::Forks;
 use geo_addr::{Memory, Text};
 use geo_outside::{Folder, Gate, Sink, Steps};
 use geo_terms::Feed;
-use job_lines::{Job, feed_key};
-use job_run::{Cause, Stop, print};
+use job_lines::{Job, LineFault, Reason, url_at};
+use job_run::{Cause, Journal, Stop, print};
 use precedence::Sources;
 use std::alloc::Global;
 use std::marker::Sync;
@@ -48,6 +48,7 @@ pub(crate) fn check<R: Threads + Sync, F: Folder, O: Sink, G: Gate, L: Ledger>(
     out: &mut O,
     gate: &G,
     steps: &mut Steps<L>,
+    journal: &mut Journal,
 ) -> Status
     ensures comes { (first : Told) → F.told folder.old ≡ Some first
         → Comes result (check_key name.now (feed_key word.now)) first
@@ -72,9 +73,13 @@ pub(crate) fn check<R: Threads + Sync, F: Folder, O: Sink, G: Gate, L: Ledger>(
         → F.given folder.new ≤ F.given folder.old
         + room_of first (check_key name.now (feed_key word.now)) }
 {
-    match feed_key(alloc, word.as_bytes()) {
-        Ok(key) => check_keyed(rt, alloc, name, key, folder, out, gate, steps),
-        Err(Memory) => Status::Memory,
+    match url_at(alloc, word.as_bytes(), 2) {
+        Ok(key) => check_keyed(rt, alloc, name, Some(key), folder, out, gate, steps, journal),
+        Err(LineFault::Memory) => Status::Memory,
+        Err(fault) => {
+            journal.refuse(Reason::of_word(alloc, fault, "check", name, word).ok());
+            check_keyed(rt, alloc, name, None, folder, out, gate, steps, journal)
+        }
     }
 }
 
@@ -89,6 +94,7 @@ fn check_keyed<R: Threads + Sync, F: Folder, O: Sink, G: Gate, L: Ledger>(
     out: &mut O,
     gate: &G,
     steps: &mut Steps<L>,
+    journal: &mut Journal,
 ) -> Status
     ensures comes { (first : Told) → F.told folder.old ≡ Some first
         → Comes result (check_key name.now key) first
@@ -111,8 +117,8 @@ fn check_keyed<R: Threads + Sync, F: Folder, O: Sink, G: Gate, L: Ledger>(
         → F.given folder.new ≤ F.given folder.old + room_of first (check_key name.now key) }
 {
     match key {
-        Some(url) => check_feed(rt, alloc, name, url.as_str(), folder, out, gate, steps),
-        None => no_command(alloc, out),
+        Some(url) => check_feed(rt, alloc, name, url.as_str(), folder, out, gate, steps, journal),
+        None => no_command(alloc, out, journal),
     }
 }
 
@@ -128,6 +134,7 @@ fn check_feed<R: Threads + Sync, F: Folder, O: Sink, G: Gate, L: Ledger>(
     out: &mut O,
     gate: &G,
     steps: &mut Steps<L>,
+    journal: &mut Journal,
 ) -> Status
     ensures comes { (first : Told) → F.told folder.old ≡ Some first
         → Comes result (Some (check name.now url.now)) first
@@ -144,9 +151,9 @@ fn check_feed<R: Threads + Sync, F: Folder, O: Sink, G: Gate, L: Ledger>(
     ensures given { (first : Told) → F.told folder.old ≡ Some first
         → F.given folder.new ≤ F.given folder.old + room_of first (Some (check name.now url.now)) }
 {
-    match job_in(alloc, name, folder) {
-        Ok(job) => check_by(rt, alloc, job, url, folder, out, gate, steps),
-        Err(why) => stop_at(alloc, why, 0, name, out),
+    match job_in(alloc, name, folder, journal) {
+        Ok(job) => check_by(rt, alloc, job, url, folder, out, gate, steps, journal),
+        Err(why) => stop_at(alloc, why, 0, name, out, journal),
     }
 }
 
@@ -161,6 +168,7 @@ fn check_by<R: Threads + Sync, F: Folder, O: Sink, G: Gate, L: Ledger>(
     out: &mut O,
     gate: &G,
     steps: &mut Steps<L>,
+    journal: &mut Journal,
 ) -> Status
     requires { IsWithinLimits job }
     ensures comes { (first : Told) → F.told folder.old ≡ Some first
@@ -186,7 +194,7 @@ fn check_by<R: Threads + Sync, F: Folder, O: Sink, G: Gate, L: Ledger>(
         gate,
         pieces: job.pieces,
     };
-    let session = match sources_of(&forks, job, folder, out, steps) {
+    let session = match sources_of(&forks, job, folder, out, steps, journal) {
         Ok(session) => session,
         Err(status) => return status,
     };
@@ -195,7 +203,7 @@ fn check_by<R: Threads + Sync, F: Folder, O: Sink, G: Gate, L: Ledger>(
     forget(session);
     match printed {
         Ok(()) => Status::Done,
-        Err(why) => stop_at(alloc, why, 0, url, out),
+        Err(why) => stop_at(alloc, why, 0, url, out, journal),
     }
 }
 
@@ -205,6 +213,7 @@ fn print_verdicts<O: Sink>(
     url: &str,
     session: &Session,
     out: &mut O,
+    journal: &mut Journal,
 ) -> Result<(), Stop>
     ensures done { (told : Option Told) (steps : ℕ) (world : World)
         → IsIn [] told session.now world

@@ -16,7 +16,7 @@ use crate::stop::{status_of, stop_at};
 use file_lookup::{LookupFault, lookup_text};
 use geo_addr::{Addr, Text};
 use geo_outside::{Folder, Sink};
-use job_run::{Cause, Stop, print, read_file};
+use job_run::{Cause, Journal, Stop, print, read_file};
 use std::alloc::Global;
 
 /// The most bytes of a file to be looked up in.
@@ -30,6 +30,7 @@ pub(crate) fn lookup<F: Folder, O: Sink>(
     at: Addr,
     folder: &mut F,
     out: &mut O,
+    journal: &mut Journal,
 ) -> Status
     ensures comes { (first : Told) (steps : ℕ) → F.told folder.old ≡ Some first
         → Comes result (Some (lookup name.now at.0)) first
@@ -47,9 +48,12 @@ pub(crate) fn lookup<F: Folder, O: Sink>(
     match answer_in(alloc, name, at, folder) {
         Ok(text) => match print(out, text.as_str()) {
             Ok(()) => Status::Done,
-            Err(why) => status_of(why),
+            Err(why) => {
+                journal.end(why);
+                status_of(why)
+            }
         },
-        Err(why) => stop_at(alloc, why, 0, name, out),
+        Err(why) => stop_at(alloc, why, 0, name, out, journal),
     }
 }
 

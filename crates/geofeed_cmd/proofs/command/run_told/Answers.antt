@@ -10,7 +10,7 @@ use Rattle.geofeed_cmd.proofs.CauseLemmas.{caused, certain}
 use Rattle.geofeed_cmd.proofs.GenEndLemmas.{gen_ends}
 use Rattle.geofeed_cmd.proofs.HeadlineLemmas.{done_of, least_by_value, no_fault, published_at}
 use Rattle.geofeed_cmd.proofs.WordLemmas.{command_few}
-use Rattle.geofeed_cmd.proofs.command.run.Goals as goal
+use Rattle.geofeed_cmd.proofs.command.run_told.Goals as goal
 
 pub returns-clause-done : goal.returns-clause-done
 returns-clause-done g c =
