@@ -1,4 +1,7 @@
 //! Words of a stranger as they are shown: nothing in them acts on a terminal, and none is endless.
+ghost use Rattle.std.specs.Prelude.{◌≡◌, false};
+ghost use Rattle.stop_words.specs.Letters.{acts};
+
 use geo_addr::Memory;
 use job_lines::Excerpt;
 use std::alloc::Global;
@@ -43,13 +46,23 @@ fn push_shown(line: &mut String, word: &str) -> Result<(), Memory> {
     Ok(())
 }
 
-// The character, or another in place of one that a terminal acts on: controls, what turns the
-// direction of a line, and what ends it.
-fn visible(letter: char) -> char {
+// The character, or another in place of one that a terminal acts on.
+fn visible(letter: char) -> char
+    ensures quiet { acts result ≡ false }
+    ensures same { acts letter ≡ false → result ≡ letter }
+{
+    if acts(letter) { '\u{FFFD}' } else { letter }
+}
+
+// Whether a terminal acts on a character: controls, what turns the direction of a line, and what
+// ends it.
+fn acts(letter: char) -> bool
+    ensures { result ≡ acts letter }
+{
     match letter {
-        '\0'..='\u{1F}' | '\u{7F}'..='\u{9F}' => '\u{FFFD}',
-        '\u{61C}' | '\u{200E}' | '\u{200F}' => '\u{FFFD}',
-        '\u{2028}'..='\u{202E}' | '\u{2066}'..='\u{2069}' => '\u{FFFD}',
-        _ => letter,
+        '\0'..='\u{1F}' | '\u{7F}'..='\u{9F}' | '\u{61C}' => true,
+        '\u{200E}'..='\u{200F}' | '\u{2028}'..='\u{202E}' => true,
+        '\u{2066}'..='\u{2069}' => true,
+        _ => false,
     }
 }

@@ -124,7 +124,6 @@ fn print_counts<R: Threads + Sync, O: Sink, G: Gate, L: Ledger>(
     session: &mut Session,
     out: &mut O,
     steps: &mut Steps<L>,
-    journal: &mut Journal,
 ) -> Result<(), Stop>
     ensures done { (told : Option Told) (world : World) → IsIn [] told session.old world
         → OnOk result (Does (shows counting) world session.new

@@ -213,7 +213,6 @@ fn print_verdicts<O: Sink>(
     url: &str,
     session: &Session,
     out: &mut O,
-    journal: &mut Journal,
 ) -> Result<(), Stop>
     ensures done { (told : Option Told) (steps : ℕ) (world : World)
         → IsIn [] told session.now world
