@@ -27,9 +27,9 @@ use crate::commands::lookup::lookup;
 use crate::commands::publish::publish;
 use crate::status::Status;
 use crate::stop::no_command;
+use geo_outside::{Folder, Gate, Sink, Steps};
 use job_lines::{Reason, Spoken, command_or_reason};
 use job_run::Journal;
-use geo_outside::{Folder, Gate, Sink, Steps};
 use published::is_plain;
 use std::alloc::Global;
 use std::marker::Sync;
@@ -313,16 +313,24 @@ fn do_spoken<R: Threads + Sync, F: Folder, O: Sink, G: Gate, L: Ledger>(
     match spoken {
         Spoken::Build(name) => build(rt, alloc, name, folder, out, gate, steps, journal),
         Spoken::Lookup(name, at) => lookup(alloc, name, at, folder, out, journal),
-        Spoken::Explain(name, at) => explain(rt, alloc, name, at, folder, out, gate, steps, journal),
-        Spoken::Gen(lines, name) => generate(rt, alloc, lines, name, folder, out, gate, steps, journal),
+        Spoken::Explain(name, at) => explain(
+            rt, alloc, name, at, folder, out, gate, steps, journal,
+        ),
+        Spoken::Gen(lines, name) => generate(
+            rt, alloc, lines, name, folder, out, gate, steps, journal,
+        ),
         Spoken::Publish(name, block, file) => {
             if is_plain(block) {
-                publish(rt, alloc, name, block, file, folder, out, gate, steps, journal)
+                publish(
+                    rt, alloc, name, block, file, folder, out, gate, steps, journal,
+                )
             } else {
                 no_command(alloc, out, journal)
             }
         }
-        Spoken::Check(name, word) => check(rt, alloc, name, word, folder, out, gate, steps, journal),
+        Spoken::Check(name, word) => check(
+            rt, alloc, name, word, folder, out, gate, steps, journal,
+        ),
         Spoken::Census(name) => census(rt, alloc, name, folder, out, gate, steps, journal),
     }
 }

@@ -1,5 +1,5 @@
 -- Lemmas on the parts of a name.
-use Rattle.std.proofs.Common.{◌≡◌, ℕ, ◌||◌, Bool, true, false, List, [], ◌∷◌, refl, sym, subst}
+use Rattle.std.proofs.Common.{◌≡◌, ℕ, ◌||◌, Bool, true, false, List, ◌∷◌, refl, sym, subst}
 use Rattle.std.specs.List.{list_any}
 use Rattle.geo_addr.specs.Lines.{pieces}
 use Rattle.geo_terms.specs.PlaceForm.{same_text}

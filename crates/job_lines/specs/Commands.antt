@@ -1,7 +1,7 @@
 -- The commands, and the command that words are.
 use Rattle.std.specs.Prelude.{ℕ, Bool, ◌&&◌, ◌||◌, ◌^◌, nat_le, List, [], ◌∷◌, codes, Option, Some}
 use Rattle.std.specs.Prelude.{None}
-use Rattle.std.specs.Prelude.{option_map, Result, Ok, Err, if◌then◌else◌}
+use Rattle.std.specs.Prelude.{Result, Ok, Err, if◌then◌else◌}
 use Rattle.geo_addr.specs.AddressTexts.{address_in}
 use Rattle.geo_addr.specs.Decimals.{decimal}
 use Rattle.geo_addr.specs.Prefixes.{block_in}

@@ -1,6 +1,6 @@
 -- What is true of a word of which a fault is said.
 use Rattle.std.specs.Prelude.{◌≡◌, ◌<◌, ◌≤◌, ℕ, ◌==◌, ◌^◌, Bool, true, false, List, [], ◌∷◌, codes}
-use Rattle.std.specs.Prelude.{length, None, Some, Ok, Err, IsSomeAnd, IfOk}
+use Rattle.std.specs.Prelude.{length, None, Err, IsSomeAnd, IfOk}
 use Rattle.job_lines.specs.declared.line_fault.LineFault.{LineFault}
 use Rattle.job_lines.specs.declared.line_fault.LineFault.TheVariants as lines
 use Rattle.std.specs.List.{list_all, list_any}

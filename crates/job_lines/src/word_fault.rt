@@ -29,9 +29,9 @@ pub enum WordFault {
     Utf8,
     #[error("has a blank or a line end in it")]
     Blank,
-    #[error("is absolute; names are at or below the current folder")]
+    #[error("is absolute; names are at or below the current folder: run geofeed there, or link it")]
     Absolute,
-    #[error("has an empty part; parts stand between single slashes, and none at an end")]
+    #[error("has an empty part; write single slashes, and none at the end")]
     EmptyPart,
     #[error("has the part \".\"; leave it out")]
     DotPart,
@@ -41,7 +41,7 @@ pub enum WordFault {
     SlotByte,
     #[error("has a character that is not one of \"!\" to \"~\"")]
     TypeByte,
-    #[error("is not 1 to 20 decimal digits")]
+    #[error("is not 1 to 20 decimal digits; it is in seconds, as date +%s prints them")]
     EpochDigits,
     #[error("is 2^64 or more")]
     EpochLarge,
@@ -57,7 +57,6 @@ pub enum WordFault {
     Address(AddrFault),
     #[error("is not a prefix: {0}")]
     Block(BlockFault),
-    #[error("reaches from the IPv4 addresses into the IPv6 addresses; \
-it begins at ::1:0:0 or above")]
+    #[error("reaches from the IPv4 addresses into the IPv6 addresses")]
     LowBlock,
 }

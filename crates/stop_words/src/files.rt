@@ -98,5 +98,9 @@ pub(crate) fn name_in(journal: &Journal) -> &str {
 
 // A job that no step reads is the job itself.
 fn noun(journal: &Journal) -> &'static str {
-    if journal.job.is_some() && journal.step.is_none() { "the job" } else { "the file" }
+    if journal.job.is_some() && journal.step.is_none() {
+        "the job"
+    } else {
+        "the file"
+    }
 }

@@ -13,10 +13,7 @@ pub(crate) fn word_hint(
     let word = reason.word.text.as_str();
     match fault {
         WordFault::DotPart => dot_hint(alloc, word),
-        WordFault::LowBlock if word == "::/0" => Ok(String::from_str(
-            alloc,
-            ": use 0.0.0.0/0 and 2000::/3, one at a time",
-        )?),
+        WordFault::LowBlock => Ok(String::from_str(alloc, low_hint(word))?),
         WordFault::Url => url_hint(alloc, reason.line, word),
         _ => Ok(String::new(alloc)),
     }
@@ -31,6 +28,13 @@ fn dot_hint(alloc: Global, word: &str) -> Result<String, Memory> {
         }
         _ => Ok(String::new(alloc)),
     }
+}
+
+fn low_hint(word: &str) -> &'static str {
+    if word == "::/0" {
+        return "; use 0.0.0.0/0 and 2000::/3, one at a time";
+    }
+    "; the IPv6 addresses begin at ::1:0:0"
 }
 
 fn url_hint(alloc: Global, line: u64, word: &str) -> Result<String, Memory> {
@@ -54,7 +58,7 @@ pub(crate) fn address_words(
     let word = excerpt(alloc, &reason.word)?;
     let word = word.as_str();
     if parse_addr(reason.before.text.as_str().as_bytes()).is_ok() {
-        return Ok(format!(in alloc; "the address comes last; usage: geofeed {form}")?);
+        return Ok(format!(in alloc; "the address comes last; usage: {form}")?);
     }
     let hint = address_hint(reason.word.text.as_str());
     if !hint.is_empty() {

@@ -14,6 +14,10 @@ pub(crate) fn line_words(alloc: Global, reason: &Reason) -> Result<String, Memor
     match reason.fault {
         LineFault::Nothing | LineFault::Unknown => unknown_keyword(alloc, reason),
         LineFault::Kind => unknown_kind(alloc, reason),
+        LineFault::Few { at: 1 } if reason.first.text.as_str() == "drop" => Ok(format!(in alloc;
+            "the kind of source is missing; the line is one of: {}",
+            form_of_line(reason)
+        )?),
         LineFault::Few { at } => too_few(alloc, "the line is", form_of_line(reason), at as usize),
         LineFault::Many { .. } => too_many(alloc, "the line is", form_of_line(reason), reason),
         LineFault::Word { shape, fault, .. } => word_words(alloc, reason, shape, fault),
@@ -98,12 +102,7 @@ and census"
 }
 
 // A word that is missing, which has this number in the form.
-fn too_few(
-    alloc: Global,
-    before: &str,
-    form: &'static str,
-    at: usize,
-) -> Result<String, Memory> {
+fn too_few(alloc: Global, before: &str, form: &'static str, at: usize) -> Result<String, Memory> {
     let part = part_of(form, at);
     Ok(format!(in alloc; "{part} is missing; {before}: {form}")?)
 }
@@ -117,16 +116,21 @@ fn too_many(
 ) -> Result<String, Memory> {
     let word = reason.word.text.as_str();
     if reason.line > 0 && word.starts_with("#") {
-        return Ok(format!(in alloc;
-            "a comment needs a line of its own; {before}: {form}"
-        )?);
+        return Ok(format!(in alloc; "a comment needs a line of its own; {before}: {form}")?);
     }
     if word == "-h" || word == "--help" {
         return said(alloc, "--help stands alone: geofeed --help");
     }
     let word = excerpt(alloc, &reason.word)?;
-    let blanks = if form.ends_with("FILE") { "; names have no blanks" } else { "" };
-    Ok(format!(in alloc; "one word too many: {}; {before}: {form}{blanks}", word.as_str())?)
+    let blanks = if form.ends_with("FILE") {
+        "; names have no blanks"
+    } else {
+        ""
+    };
+    Ok(format!(in alloc;
+        "one word too many: {}; {before}: {form}{blanks}",
+        word.as_str()
+    )?)
 }
 
 fn word_words(

@@ -1,5 +1,6 @@
 //! The line of words for a stop.
 use crate::causes::cause_words;
+pub use crate::files::System;
 use crate::files::{missing_words, name_in, unprinted_words, unread_words, unwritten_words};
 use crate::refused::{command_words, line_words, said};
 use crate::shown::{bare, quoted};
@@ -10,15 +11,9 @@ use job_lines::JobFault;
 use job_run::{Cause, Journal, Stop};
 use std::alloc::Global;
 
-pub use crate::files::System;
-
 /// One line for the person who ran the program: what journal the command, in which line of the job,
 /// and what to do.
-pub fn stop_text(
-    alloc: Global,
-    journal: &Journal,
-    system: Option<System>,
-) -> Result<Text, Memory> {
+pub fn stop_text(alloc: Global, journal: &Journal, system: Option<System>) -> Result<Text, Memory> {
     let what = told(alloc, journal, system)?;
     let text = located(alloc, journal, what.as_str())?;
     let text = Text::from_string(text)?;
@@ -65,7 +60,8 @@ fn job_words(alloc: Global, journal: &Journal, fault: JobFault) -> Result<String
         JobFault::TooLong => "the job has more than 1,048,576 bytes",
         JobFault::Utf8 => "the job is not UTF-8",
         JobFault::Line(_) => "the line fits no form, or stands where it may not",
-        JobFault::Epoch => "the job has no line but blank ones and comments; it begins with: epoch N",
+        JobFault::Epoch =>
+            "the job has no line but blank ones and comments; it begins with: epoch N",
         JobFault::Memory => "memory ran out",
     };
     said(alloc, what)

@@ -1,6 +1,8 @@
 //! The forms of commands and of lines, as a person writes them.
 
-static COMMANDS: [&str; 7] = ["build", "lookup", "explain", "gen", "publish", "check", "census"];
+static COMMANDS: [&str; 7] = [
+    "build", "lookup", "explain", "gen", "publish", "check", "census",
+];
 
 static KEYWORDS: [&str; 13] = [
     "epoch",
@@ -38,14 +40,14 @@ pub(crate) fn kinds() -> &'static [&'static str] {
 /// The form of a command that begins with this word.
 pub(crate) fn command_form(word: &str) -> &'static str {
     match word {
-        "build" => "build JOB",
-        "lookup" => "lookup FILE ADDR",
-        "explain" => "explain JOB ADDR",
-        "gen" => "gen N FILE",
-        "publish" => "publish JOB BLOCK FILE",
-        "check" => "check JOB URL",
-        "census" => "census JOB",
-        _ => "COMMAND",
+        "build" => "geofeed build JOB",
+        "lookup" => "geofeed lookup FILE ADDR",
+        "explain" => "geofeed explain JOB ADDR",
+        "gen" => "geofeed gen N FILE",
+        "publish" => "geofeed publish JOB BLOCK FILE",
+        "check" => "geofeed check JOB URL",
+        "census" => "geofeed census JOB",
+        _ => "geofeed COMMAND ..",
     }
 }
 

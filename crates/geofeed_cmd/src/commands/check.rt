@@ -74,7 +74,17 @@ pub(crate) fn check<R: Threads + Sync, F: Folder, O: Sink, G: Gate, L: Ledger>(
         + room_of first (check_key name.now (feed_key word.now)) }
 {
     match url_at(alloc, word.as_bytes(), 2) {
-        Ok(key) => check_keyed(rt, alloc, name, Some(key), folder, out, gate, steps, journal),
+        Ok(key) => check_keyed(
+            rt,
+            alloc,
+            name,
+            Some(key),
+            folder,
+            out,
+            gate,
+            steps,
+            journal,
+        ),
         Err(LineFault::Memory) => Status::Memory,
         Err(fault) => {
             journal.refuse(Reason::of_word(alloc, fault, "check", name, word).ok());
@@ -117,7 +127,17 @@ fn check_keyed<R: Threads + Sync, F: Folder, O: Sink, G: Gate, L: Ledger>(
         → F.given folder.new ≤ F.given folder.old + room_of first (check_key name.now key) }
 {
     match key {
-        Some(url) => check_feed(rt, alloc, name, url.as_str(), folder, out, gate, steps, journal),
+        Some(url) => check_feed(
+            rt,
+            alloc,
+            name,
+            url.as_str(),
+            folder,
+            out,
+            gate,
+            steps,
+            journal,
+        ),
         None => no_command(alloc, out, journal),
     }
 }

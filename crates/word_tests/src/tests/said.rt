@@ -1,6 +1,6 @@
 //! What is said of stops, where the program cannot be brought to them.
 use geo_addr::{Memory, Text};
-use job_run::{ActKind, Journal, NotDone, Stop, Cause};
+use job_run::{ActKind, Cause, Journal, NotDone, Stop};
 use std::alloc::Global;
 use std::io::ErrorKind;
 use std::test::Fail;
