@@ -42,6 +42,9 @@ pub struct Journal {
     pub name: Option<Text>,
     /// Why the words, or a line of the job, are refused.
     pub reason: Option<Reason>,
+    /// The URLs of feeds in force next below and next above one that is not.
+    pub below: Option<Text>,
+    pub above: Option<Text>,
 }
 
 impl Journal {
@@ -53,6 +56,8 @@ impl Journal {
             step: None,
             name: None,
             reason: None,
+            below: None,
+            above: None,
         }
     }
 
@@ -75,6 +80,12 @@ impl Journal {
     pub fn end_at(&mut self, alloc: Global, why: Stop, name: &str) {
         self.why = Some(why);
         self.name = Text::of(alloc, name).ok();
+    }
+
+    /// Notes the URLs of feeds in force next below and next above one that is not.
+    pub fn offer(&mut self, below: Option<Text>, above: Option<Text>) {
+        self.below = below;
+        self.above = above;
     }
 
     /// Notes the step that was not done.

@@ -59,13 +59,17 @@ pub(crate) fn unwritten_words(
     let name = name_in(journal);
     let shown = quoted(alloc, name)?;
     let shown = shown.as_str();
-    if let (Some(why), Some((folder, _))) = (system, name.rsplit_once('/'))
-        && why.kind == ErrorKind::NotFound
+    if let (true, Some((folder, _))) = (is_kind(system, ErrorKind::NotFound), name.rsplit_once('/'))
     {
         let folder = quoted(alloc, folder)?;
         return Ok(format!(in alloc;
             "the file {shown} could not be written: there is no folder {}",
             folder.as_str()
+        )?);
+    }
+    if is_kind(system, ErrorKind::IsADirectory) {
+        return Ok(format!(in alloc;
+            "the file {shown} could not be written: a folder has this name"
         )?);
     }
     let why = because(alloc, system)?;
@@ -79,6 +83,13 @@ pub(crate) fn unwritten_words(
 pub(crate) fn unprinted_words(alloc: Global, system: Option<System>) -> Result<String, Memory> {
     let why = because(alloc, system)?;
     Ok(format!(in alloc; "standard output could not be written{}", why.as_str())?)
+}
+
+fn is_kind(system: Option<System>, kind: ErrorKind) -> bool {
+    match system {
+        Some(why) => why.kind == kind,
+        None => false,
+    }
 }
 
 fn because(alloc: Global, system: Option<System>) -> Result<String, Memory> {

@@ -1,6 +1,8 @@
 //! What was meant by a word that is not what has to stand there.
 use crate::shown::{bare, excerpt, quoted};
-use geo_addr::{Addr, AddrFault, Memory, addr_text, cut_at, decimal, is_six, parse_addr, span_of};
+use geo_addr::{
+    Addr, AddrFault, Memory, addr_text, are_digits, cut_at, decimal, is_six, parse_addr, span_of,
+};
 use job_lines::{Excerpt, Reason, WordFault, is_name};
 use std::alloc::Global;
 
@@ -15,6 +17,10 @@ pub(crate) fn word_hint(
         WordFault::DotPart => dot_hint(alloc, word),
         WordFault::LowBlock => Ok(String::from_str(alloc, low_hint(word))?),
         WordFault::Url => url_hint(alloc, reason.line, word),
+        WordFault::Count if !are_digits(word.as_bytes()) => Ok(String::from_str(
+            alloc,
+            "; usage: geofeed gen N FILE",
+        )?),
         _ => Ok(String::new(alloc)),
     }
 }

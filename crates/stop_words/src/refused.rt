@@ -2,7 +2,7 @@
 use crate::hints::{address_words, host_bits_words, word_hint};
 use crate::near::nearest;
 use crate::shown::excerpt;
-use crate::usage::{command_form, commands, keywords, kinds, line_form, part_of};
+use crate::usage::{command_form, commands, keywords, kinds, last_part, line_form, operands_of};
 use geo_addr::{BlockFault, Memory};
 use job_lines::{LineFault, Reason, Shape, WordFault};
 use std::alloc::Global;
@@ -18,7 +18,10 @@ pub(crate) fn line_words(alloc: Global, reason: &Reason) -> Result<String, Memor
             "the kind of source is missing; the line is one of: {}",
             form_of_line(reason)
         )?),
-        LineFault::Few { at } => too_few(alloc, "the line is", form_of_line(reason), at as usize),
+        LineFault::Few { .. } => {
+            let form = form_of_line(reason);
+            too_few(alloc, "the line is", form, operands_of(form))
+        }
         LineFault::Many { .. } => too_many(alloc, "the line is", form_of_line(reason), reason),
         LineFault::Word { shape, fault, .. } => word_words(alloc, reason, shape, fault),
         LineFault::NoEpoch => Ok(format!(in alloc;
@@ -40,7 +43,7 @@ pub(crate) fn command_words(alloc: Global, reason: &Reason) -> Result<String, Me
     match reason.fault {
         LineFault::Nothing => said(alloc, "a command is missing; see geofeed --help"),
         LineFault::Unknown => unknown_command(alloc, reason),
-        LineFault::Few { at } => too_few(alloc, "usage", form, at as usize + 1),
+        LineFault::Few { .. } => too_few(alloc, "usage", form, operands_of(form)),
         LineFault::Many { .. } => too_many(alloc, "usage", form, reason),
         LineFault::Word { shape, fault, .. } => word_words(alloc, reason, shape, fault),
         _ => said(alloc, "the words are no command; see geofeed --help"),
@@ -101,9 +104,17 @@ and census"
     }
 }
 
-// A word that is missing, which has this number in the form.
-fn too_few(alloc: Global, before: &str, form: &'static str, at: usize) -> Result<String, Memory> {
-    let part = part_of(form, at);
+// A word that is missing: the last of the form, where that has no other one that can be.
+fn too_few(
+    alloc: Global,
+    before: &str,
+    form: &'static str,
+    operands: usize,
+) -> Result<String, Memory> {
+    let part = match operands {
+        1 => last_part(form),
+        _ => "a word",
+    };
     Ok(format!(in alloc; "{part} is missing; {before}: {form}")?)
 }
 

@@ -69,10 +69,28 @@ fn job_words(alloc: Global, journal: &Journal, fault: JobFault) -> Result<String
 
 fn absent_words(alloc: Global, journal: &Journal) -> Result<String, Memory> {
     let url = quoted(alloc, name_in(journal))?;
+    let near = near_words(alloc, journal)?;
     Ok(format!(in alloc;
-        "no feed of the URL {} is in force at the job's end; the URL is that of a feed line",
-        url.as_str()
+        "no feed of the URL {} is in force at the job's end; {}",
+        url.as_str(),
+        near.as_str()
     )?)
+}
+
+// Which feeds are in force near one that is not.
+fn near_words(alloc: Global, journal: &Journal) -> Result<String, Memory> {
+    match (&journal.below, &journal.above) {
+        (Some(below), Some(above)) => {
+            let below = quoted(alloc, below.as_str())?;
+            let above = quoted(alloc, above.as_str())?;
+            Ok(format!(in alloc; "the nearest are {} and {}", below.as_str(), above.as_str())?)
+        }
+        (Some(near), None) | (None, Some(near)) => {
+            let near = quoted(alloc, near.as_str())?;
+            Ok(format!(in alloc; "the nearest is {}", near.as_str())?)
+        }
+        (None, None) => said(alloc, "the job sets no feed"),
+    }
 }
 
 // A file that was looked up in.

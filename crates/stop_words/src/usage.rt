@@ -75,7 +75,22 @@ pub(crate) fn line_form(first: &str, second: &str) -> &'static str {
     }
 }
 
-/// What the word of this number stands for in a form.
-pub(crate) fn part_of(form: &'static str, at: usize) -> &'static str {
-    form.split(' ').nth(at).unwrap_or("a word")
+/// The last word of a form.
+pub(crate) fn last_part(form: &'static str) -> &'static str {
+    match form.rsplit_once(' ') {
+        Some((_, last)) => last,
+        None => form,
+    }
+}
+
+/// How many words of a form stand for others, which are those in capitals.
+pub(crate) fn operands_of(form: &'static str) -> usize {
+    form.split(' ').filter(|word| is_operand(word)).count()
+}
+
+fn is_operand(word: &str) -> bool {
+    match word.as_bytes() {
+        [first, ..] => first.is_ascii_uppercase(),
+        [] => false,
+    }
 }

@@ -23,6 +23,7 @@ use crate::job_file::job_in;
 use crate::sourced::sources_of;
 use crate::status::Status;
 use crate::stop::{no_command, stop_at};
+use authority::search_feeds;
 use check_census::verdict_text;
 use fan_work::Forks;
 use geo_addr::{Memory, Text};
@@ -34,6 +35,7 @@ use precedence::Sources;
 use std::alloc::Global;
 use std::marker::Sync;
 use std::mem::forget;
+use std::sync::Arc;
 use std::sync::ledger::Ledger;
 use std::thread::Threads;
 use update_session::Session;
@@ -73,22 +75,27 @@ pub(crate) fn check<R: Threads + Sync, F: Folder, O: Sink, G: Gate, L: Ledger>(
         → F.given folder.new ≤ F.given folder.old
         + room_of first (check_key name.now (feed_key word.now)) }
 {
+    match key_of(alloc, name, word, journal) {
+        Ok(key) => check_keyed(rt, alloc, name, key, folder, out, gate, steps, journal),
+        Err(Memory) => Status::Memory,
+    }
+}
+
+/// The key of a feed that a word is, or `None`, of which the reason is noted.
+fn key_of(
+    alloc: Global,
+    name: &str,
+    word: &str,
+    journal: &mut Journal,
+) -> Result<Option<Text>, Memory>
+    ensures { IfOk result (λ key. key ≡ feed_key word.now) }
+{
     match url_at(alloc, word.as_bytes(), 2) {
-        Ok(key) => check_keyed(
-            rt,
-            alloc,
-            name,
-            Some(key),
-            folder,
-            out,
-            gate,
-            steps,
-            journal,
-        ),
-        Err(LineFault::Memory) => Status::Memory,
+        Ok(key) => Ok(Some(key)),
+        Err(LineFault::Memory) => Err(Memory),
         Err(fault) => {
             journal.refuse(Reason::of_word(alloc, fault, "check", name, word).ok());
-            check_keyed(rt, alloc, name, None, folder, out, gate, steps, journal)
+            Ok(None)
         }
     }
 }
@@ -219,6 +226,9 @@ fn check_by<R: Threads + Sync, F: Folder, O: Sink, G: Gate, L: Ledger>(
         Err(status) => return status,
     };
     let printed = print_verdicts(alloc, url, &session, out);
+    if printed.is_err() {
+        offer_feeds(url, &session, journal);
+    }
     // The process ends: its memory goes back whole, not source by source.
     forget(session);
     match printed {
@@ -269,4 +279,21 @@ fn text_of(alloc: Global, sources: &Sources, feed: &Feed) -> Result<Text, Memory
 {
     let verdicts = check_census::check(alloc, sources, feed)?;
     verdict_text(alloc, verdicts.as_slice())
+}
+
+// Notes the feeds in force between which one of this URL would stand.
+fn offer_feeds(url: &str, session: &Session, journal: &mut Journal) {
+    let feeds = session.sources().feeds();
+    let at = match search_feeds(feeds, url) {
+        Ok(at) => at,
+        Err(at) => at,
+    };
+    journal.offer(url_of(feeds[..at].last()), url_of(feeds[at..].first()));
+}
+
+fn url_of(feed: Option<&Arc<Feed>>) -> Option<Text> {
+    match feed {
+        Some(feed) => feed.url.copied().ok(),
+        None => None,
+    }
 }
