@@ -50,20 +50,13 @@ pub(crate) fn job_in<F: Folder>(
     accepted_job_is_within_limits();
     match job_or_reason(alloc, bytes.as_slice()) {
         Ok(job) => Ok(job),
-        Err(refusal) => Err(refused(refusal, journal)),
-    }
-}
-
-// Why a text is no job, of which the reason is noted.
-fn refused(refusal: JobRefusal, journal: &mut Journal) -> Stop
-    ensures memory { refusal.fault ≡ JobFault.Memory → result ≡ Stop.Memory }
-    ensures job { (refusal.fault ≢ JobFault.Memory)
-        → result ≡ Stop.Blocked (Cause.Job refusal.fault) }
-{
-    let JobRefusal { fault, reason } = refusal;
-    journal.refuse(reason);
-    match fault {
-        JobFault::Memory => Stop::Memory,
-        _ => Stop::Blocked(Cause::Job(fault)),
+        Err(refusal) => {
+            let JobRefusal { fault, reason } = refusal;
+            journal.refuse(reason);
+            match fault {
+                JobFault::Memory => Err(Stop::Memory),
+                _ => Err(Stop::Blocked(Cause::Job(fault))),
+            }
+        }
     }
 }

@@ -118,10 +118,11 @@ fn located(alloc: Global, journal: &Journal, what: &str) -> Result<String, Memor
 }
 
 fn line_in(journal: &Journal) -> Option<u64> {
-    match (&journal.step, &journal.reason, journal.why) {
-        (Some(step), _, _) => Some(step.line),
-        (None, Some(reason), _) if reason.line > 0 => Some(reason.line),
-        (None, _, Some(Stop::Blocked(Cause::Job(JobFault::Line(line))))) => Some(line),
+    match (journal.why, &journal.step, &journal.reason) {
+        (Some(Stop::SinkFailed | Stop::Memory) | None, _, _) => None,
+        (_, Some(step), _) => Some(step.line),
+        (_, None, Some(reason)) if reason.line > 0 => Some(reason.line),
+        (Some(Stop::Blocked(Cause::Job(JobFault::Line(line)))), None, _) => Some(line),
         _ => None,
     }
 }

@@ -1,6 +1,6 @@
 //! `check JOB URL`: prints what becomes of each line of a feed of a job.
 ghost use Rattle.std.specs.Prelude.{◌≡◌, ◌⊎◌, ◌≤◌, ◌≢◌, ◌+◌, ℕ, [], ◌∷◌, ◌++◌, false, IfErr, IfOk};
-ghost use Rattle.std.specs.Prelude.{OnOk, Option, Some};
+ghost use Rattle.std.specs.Prelude.{OnOk, Option, Some, length};
 ghost use Rattle.geo_outside.specs.Count.{Rose};
 ghost use Rattle.geo_outside.specs.Files.{Told};
 ghost use Rattle.geo_terms.specs.Sources.{feed_of};
@@ -226,9 +226,7 @@ fn check_by<R: Threads + Sync, F: Folder, O: Sink, G: Gate, L: Ledger>(
         Err(status) => return status,
     };
     let printed = print_verdicts(alloc, url, &session, out);
-    if printed.is_err() {
-        offer_feeds(url, &session, journal);
-    }
+    offer_feeds(&printed, url, &session, journal);
     // The process ends: its memory goes back whole, not source by source.
     forget(session);
     match printed {
@@ -281,14 +279,24 @@ fn text_of(alloc: Global, sources: &Sources, feed: &Feed) -> Result<Text, Memory
     verdict_text(alloc, verdicts.as_slice())
 }
 
-// Notes the feeds in force between which one of this URL would stand.
-fn offer_feeds(url: &str, session: &Session, journal: &mut Journal) {
+// Where no feed of this URL is in force, notes those between which it would stand.
+fn offer_feeds(printed: &Result<(), Stop>, url: &str, session: &Session, journal: &mut Journal) {
+    if !matches!(printed, Err(Stop::Blocked(Cause::NoFeed))) {
+        return;
+    }
     let feeds = session.sources().feeds();
-    let at = match search_feeds(feeds, url) {
+    let at = place_in(feeds, url);
+    journal.offer(url_of(feeds[..at].last()), url_of(feeds[at..].first()));
+}
+
+// Where a feed of this URL stands, or where it would.
+fn place_in(feeds: &[Arc<Feed>], url: &str) -> usize
+    ensures { result ≤ length feeds.now }
+{
+    match search_feeds(feeds, url) {
         Ok(at) => at,
         Err(at) => at,
-    };
-    journal.offer(url_of(feeds[..at].last()), url_of(feeds[at..].first()));
+    }
 }
 
 fn url_of(feed: Option<&Arc<Feed>>) -> Option<Text> {
