@@ -52,8 +52,9 @@ stops 4 'stop missing job' \
 
 refuses 'epoch 1\nstats x /etc/s.txt' \
     "the file name \"/etc/s.txt\" $absolute"
-lines='epoch, type, pieces, rpsl, stats, feed, overrides, drop, emit, report, mark, back and compact'
-refuses 'epoch 1\nstatistics x s.txt' "unknown keyword \"statistics\"; keywords are $lines"
+lines='epoch, type, pieces, rpsl, stats, feed, overrides, drop, emit, report, mark'
+refuses 'epoch 1\nstatistics x s.txt' \
+    "unknown keyword \"statistics\"; keywords are $lines, back and compact"
 refuses 'epoch 1\nstat x s.txt' 'unknown keyword "stat"; did you mean stats?'
 refuses 'epoch 1\nstats x s.txt # mine' \
     'a comment needs a line of its own; the line is: stats SLOT FILE'

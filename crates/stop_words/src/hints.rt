@@ -1,4 +1,6 @@
 //! What was meant by a word that is not what has to stand there.
+ghost use Rattle.std.specs.Prelude.{◌≤◌, IfSome};
+
 use crate::shown::{bare, excerpt, quoted};
 use geo_addr::{
     Addr, AddrFault, Memory, addr_text, are_digits, cut_at, decimal, is_six, parse_addr, span_of,
@@ -114,15 +116,29 @@ fn meant_prefix(alloc: Global, word: &str) -> Result<Option<String>, Memory> {
         return Ok(None);
     };
     let six = is_six(front);
-    let most = if six { 128 } else { 32 };
-    if length > most {
+    let Some(bits) = bits_of(six, length) else {
         return Ok(None);
-    }
-    let bits = length as u8 + (128 - most) as u8;
+    };
     let first = at.0 & !span_of(bits);
     if six != (first >= 1 << 32) {
         return Ok(None);
     }
     let first = addr_text(alloc, Addr(first))?;
     Ok(Some(format!(in alloc; "{}/{length}", first.as_str())?))
+}
+
+// The length of a prefix of a family as that of a block.
+fn bits_of(six: bool, length: u128) -> Option<u8>
+    ensures { IfSome result (λ bits. bits ≤ 128) }
+{
+    if six {
+        if length > 128 {
+            return None;
+        }
+        return Some(length as u8);
+    }
+    if length > 32 {
+        return None;
+    }
+    Some(length as u8 + 96)
 }
