@@ -98,6 +98,13 @@ if [ -c /dev/full ]; then
     [ "$ended $(cat told)" = "5 $said" ] \
         || fail "of a full output it says '$(cat told)'"
     cat told >> all
+    # Where a put fails and its stop line then too, the put is what is told.
+    printf 'epoch 1\nemit out/a.mmdb\n' > job
+    "$program" build job > /dev/full 2> told
+    said='job:2: the file "out/a.mmdb" could not be written: there is no folder "out"'
+    [ "$? $(cat told)" = "5 $said" ] || fail "of a put and a full output it says '$(cat told)'"
+    "$program" build job >&- 2> told
+    [ "$? $(cat told)" = "5 $said" ] || fail "of a put and a closed output it says '$(cat told)'"
 fi
 
 # All kinds of sources and all commands.

@@ -89,7 +89,7 @@ fn near_words(alloc: Global, journal: &Journal) -> Result<String, Memory> {
             let near = quoted(alloc, near.as_str())?;
             Ok(format!(in alloc; "the nearest is {}", near.as_str())?)
         }
-        (None, None) => said(alloc, "the job sets no feed"),
+        (None, None) => said(alloc, "no other feed is"),
     }
 }
 
