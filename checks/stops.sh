@@ -100,8 +100,8 @@ if [ -c /dev/full ]; then
     cat told >> all
     # Where a put fails and its stop line then too, the put is what is told.
     printf 'epoch 1\nemit out/a.mmdb\n' > job
-    "$program" build job > /dev/full 2> told
     said='job:2: the file "out/a.mmdb" could not be written: there is no folder "out"'
+    "$program" build job > /dev/full 2> told
     [ "$? $(cat told)" = "5 $said" ] || fail "of a put and a full output it says '$(cat told)'"
     "$program" build job >&- 2> told
     [ "$? $(cat told)" = "5 $said" ] || fail "of a put and a closed output it says '$(cat told)'"
