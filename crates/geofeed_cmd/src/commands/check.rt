@@ -23,7 +23,6 @@ use crate::job_file::job_in;
 use crate::sourced::sources_of;
 use crate::status::Status;
 use crate::stop::{no_command, stop_at};
-use authority::search_feeds;
 use check_census::verdict_text;
 use fan_work::Forks;
 use geo_addr::{Memory, Text};
@@ -293,7 +292,7 @@ fn offer_feeds(printed: &Result<(), Stop>, url: &str, session: &Session, journal
 fn place_in(feeds: &[Arc<Feed>], url: &str) -> usize
     ensures { result ≤ length feeds.now }
 {
-    match search_feeds(feeds, url) {
+    match feeds.binary_search_by(|feed| feed.url.as_str().cmp(url)) {
         Ok(at) => at,
         Err(at) => at,
     }
