@@ -1,6 +1,6 @@
 //! Named things of one kind in the order of their names.
 ghost use Rattle.std.specs.Prelude.{◌≡◌, ◌<◌, ℕ, List, find, length, IfOk, IsTrue, Ok, OnOk, OnErr};
-ghost use Rattle.std.specs.Prelude.{Some, option_and_then, remove, slice_get, slice_set};
+ghost use Rattle.std.specs.Prelude.{None, Some, option_and_then, remove, slice_get, slice_set};
 ghost use Rattle.std.specs.Arc.{arc_value};
 ghost use Rattle.std.specs.List.Sorted.{IsBinarySearchResult, IsSearchInRange};
 ghost use Rattle.std.specs.Option.{option_copied};
@@ -108,6 +108,7 @@ pub fn take<T: Named + Drop>(shelf: &mut Vec<T>, name: &str) -> Option<T>
     ensures new { shelf.new.items ≡ removed T.name name.now shelf.old.items }
     ensures order { AreInOrder T.name shelf.new.items }
     ensures old { result ≡ find (λ t. same_text (T.name t) name.now) shelf.old.items }
+    ensures absent { result ≡ None → shelf.new.items ≡ shelf.old.items }
 {
     match search(shelf.as_slice(), name) {
         Ok(index) => {
