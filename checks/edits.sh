@@ -18,7 +18,7 @@ fi
 # Edits whose refusal says little, by names that proof files cite, and which others are to replace:
 # this list only grows shorter.
 little=' inetnum_index/gone-on-too-far inetnum_index/reach-of-the-last-alone
-    kept_sources/cut-points-of-the-feed-before published/line-left-unprinted
+    published/line-left-unprinted
     geofeed/failed-put-removes-the-old-file '
 
 # Each edit of which no word says that it is refused, or whose refusal says little; and how many

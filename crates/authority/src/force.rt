@@ -146,10 +146,10 @@ impl Authority {
             × (named url_of url.now self.old.feeds ≡ None)) }
         ensures err { OnErr result (self.new ≡ self.old) }
     {
-        match shelf::take(&mut self.feeds, url) {
-            Some(old) => Ok(old.into_feed()),
-            None => Err(DropFault::NotThere),
-        }
+        let Some(old) = feed_alone(shelf::take(&mut self.feeds, url)) else {
+            return Err(DropFault::NotThere);
+        };
+        Ok(old)
     }
 
     /// Makes what answers are looked up in, where sources changed since: the index of all
@@ -183,6 +183,18 @@ impl Authority {
             speakers: shared(&self.speakers)?,
             feeds: self.feeds.clone()?,
         })
+    }
+
+    /// How many cut points of references are kept, or how many references there are.
+    pub fn count(&self) -> usize {
+        if let Some(made) = &self.speakers {
+            return made.cuts.len();
+        }
+        let mut count: usize = 0;
+        for dump in self.dumps.as_slice() {
+            count = count.saturating_add(dump.refs.as_slice().len());
+        }
+        count
     }
 
     /// The dumps in force, ascending by the bytes of their slots.
@@ -316,7 +328,6 @@ fn entry_of<'a>(
         (entries_in (find (λ f. same_text f.url speaker.now.url) feeds.entry.now))
         speaker.now.range at.0) }
 {
-    let index = shelf::position_near(feeds, speaker.url.as_str(), &mut near.feed)?;
-    let feed = feeds.get(index)?;
+    let feed = shelf::get_near(feeds, speaker.url.as_str(), &mut near.feed)?;
     feed.entry_within(speaker.range, at, &mut near.entry)
 }

@@ -149,6 +149,7 @@ impl Session {
         // With nothing touched no step is taken and nothing is made.
         ensures idle { self.old.touched ≡ [] → (self.new ≡ self.old) × (steps.new ≡ steps.old) }
     {
+        ready(&mut self.sources, self.touched.as_slice())?;
         let root = repaint(
             forks,
             &self.sources,
@@ -180,6 +181,7 @@ impl Session {
         ensures err { OnErr result (IsAsBefore self.old self.new) }
         ensures idle { self.old.touched ≡ [] → (self.new ≡ self.old) × (steps.new ≡ steps.old) }
     {
+        ready(&mut self.sources, self.touched.as_slice())?;
         let root = repaint(
             forks,
             &self.sources,
@@ -228,4 +230,14 @@ impl Session {
     {
         self.touched.as_slice()
     }
+}
+
+// Makes ready what an emit looks up in, where something is touched.
+fn ready(sources: &mut Sources, touched: &[Range]) -> Result<(), Memory>
+    ensures { sources.new ≡ sources.old }
+{
+    if touched.is_empty() {
+        return Ok(());
+    }
+    sources.make_ready()
 }

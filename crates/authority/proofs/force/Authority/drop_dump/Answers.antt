@@ -11,8 +11,8 @@ use Rattle.authority.proofs.HeldLemmas.{dumps_placed, dumps_removed, dump_found}
 
 use Rattle.authority.proofs.force.Authority.drop_dump.Goals as goal
 
-pub invariant_of-self-in-Some : goal.invariant_of-self-in-Some
-invariant_of-self-in-Some c = record {
+pub invariant_of-self : goal.invariant_of-self
+invariant_of-self c = record {
   slots = c.take.ensures.order;
   urls = c.self.invariant.urls;
   made = tt;
