@@ -149,10 +149,9 @@ impl Session {
         // With nothing touched no step is taken and nothing is made.
         ensures idle { self.old.touched ≡ [] → (self.new ≡ self.old) × (steps.new ≡ steps.old) }
     {
-        ready(&mut self.sources, self.touched.as_slice())?;
         let root = repaint(
             forks,
-            &self.sources,
+            &mut self.sources,
             self.touched.as_slice(),
             &mut self.store,
             &mut self.places,
@@ -181,10 +180,9 @@ impl Session {
         ensures err { OnErr result (IsAsBefore self.old self.new) }
         ensures idle { self.old.touched ≡ [] → (self.new ≡ self.old) × (steps.new ≡ steps.old) }
     {
-        ready(&mut self.sources, self.touched.as_slice())?;
         let root = repaint(
             forks,
-            &self.sources,
+            &mut self.sources,
             self.touched.as_slice(),
             &mut self.store,
             &mut self.places,
@@ -230,14 +228,4 @@ impl Session {
     {
         self.touched.as_slice()
     }
-}
-
-// Makes ready what an emit looks up in, where something is touched.
-fn ready(sources: &mut Sources, touched: &[Range]) -> Result<(), Memory>
-    ensures { sources.new ≡ sources.old }
-{
-    if touched.is_empty() {
-        return Ok(());
-    }
-    sources.make_ready()
 }
