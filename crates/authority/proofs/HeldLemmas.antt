@@ -77,7 +77,6 @@ module _ {A X : Type 0} (v : A → X) where
   clones_same (x ∷ xs) [] h = absurd h
   clones_same (x ∷ xs) (y ∷ ys) h = rw (h.0, clones_same xs ys h.1) refl
 
-
 module _ {Z : Type 0} where
   -- what holds of an index that is made holds of the same index once more
   pub made_same : (rs : List Reference) (old new : Option (Arc Speakers Z))

@@ -27,10 +27,7 @@ impl KindIndex {
     }
 
     /// The index of these statements, which may lie in several lists.
-    pub fn of_borrowed<S: Statement>(
-        alloc: Global,
-        statements: &[&S],
-    ) -> Result<KindIndex, Memory>
+    pub fn of_borrowed<S: Statement>(alloc: Global, statements: &[&S]) -> Result<KindIndex, Memory>
         ensures index { IfOk result
             (λ index. IsKindIndex S.order S.range (map (λ s. s.now) statements.entry.now) index) }
         ensures kept { OnOk result (All S.kept (map (λ s. s.now) statements.entry.now)) }

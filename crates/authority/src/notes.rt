@@ -24,11 +24,7 @@ use std::cmp::Ordering;
 ///
 /// References are sorted by range, each of them and each entry is looked up by halving, and the
 /// notes are sorted: nothing is looked at for each pair.
-pub fn joint_notes(
-    alloc: Global,
-    index: &Index,
-    feeds: &[ReadyFeed],
-) -> Result<Vec<Note>, Memory>
+pub fn joint_notes(alloc: Global, index: &Index, feeds: &[ReadyFeed]) -> Result<Vec<Note>, Memory>
     requires { AreInOrder url_of feeds.now }
     ensures { IfOk result (λ notes. notes.items
         ≡ in_order note_cmp (joint_in index.now feeds.now)) }
@@ -155,11 +151,7 @@ fn has_feed(feeds: &[ReadyFeed], reference: &Reference) -> bool
 }
 
 // The notes on the entries of all feeds that no reference to their feed covers.
-fn push_uncovered(
-    notes: &mut Vec<Note>,
-    index: &Index,
-    feeds: &[ReadyFeed],
-) -> Result<(), Memory>
+fn push_uncovered(notes: &mut Vec<Note>, index: &Index, feeds: &[ReadyFeed]) -> Result<(), Memory>
     ensures { OnOk result (notes.new.items ≡ notes.old.items
         ++ flat_map (uncovered_in index.now) feeds.now) }
 {
@@ -169,11 +161,7 @@ fn push_uncovered(
     Ok(())
 }
 
-fn push_uncovered_in(
-    notes: &mut Vec<Note>,
-    index: &Index,
-    feed: &Feed,
-) -> Result<(), Memory>
+fn push_uncovered_in(notes: &mut Vec<Note>, index: &Index, feed: &Feed) -> Result<(), Memory>
     ensures { OnOk result
         (notes.new.items ≡ notes.old.items ++ uncovered_in index.now feed.now) }
 {

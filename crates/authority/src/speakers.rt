@@ -109,11 +109,7 @@ pub fn first_of_all(dumps: &[Arc<Dump>], at: Addr) -> Option<&Reference>
 }
 
 /// The first reference of these dumps of a URL that covers a block: each one is looked at.
-pub fn covering_of_all<'a>(
-    dumps: &'a [Arc<Dump>],
-    block: Block,
-    url: &str,
-) -> Option<&'a Reference>
+pub fn covering_of_all<'a>(dumps: &'a [Arc<Dump>], block: Block, url: &str) -> Option<&'a Reference>
     ensures { option_copied result
         ≡ covering (references_in (map arc_value dumps.entry.now)) url.entry.now block }
 {

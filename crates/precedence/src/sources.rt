@@ -474,7 +474,10 @@ impl Sources {
 
     // About how many cut points the sources have, those of each kind by themselves.
     fn count(&self) -> usize {
-        let mut count = self.authority.count().saturating_add(self.statistics.count());
+        let mut count = self
+            .authority
+            .count()
+            .saturating_add(self.statistics.count());
         for feed in self.authority.feeds() {
             count = count.saturating_add(feed.cuts().len());
         }

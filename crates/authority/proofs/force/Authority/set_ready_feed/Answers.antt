@@ -8,7 +8,6 @@ use Rattle.geo_terms.specs.SourceForm.{DumpParts, FeedParts}
 use Rattle.geo_terms.specs.Sources.{InForce}
 use Rattle.authority.specs.Held.{IsHeld, in_force, slot_of, url_of}
 use Rattle.authority.proofs.HeldLemmas.{dumps_placed, dumps_removed, dump_found}
-
 use Rattle.authority.proofs.force.Authority.set_ready_feed.Goals as goal
 
 pub invariant_of-self-2 : goal.invariant_of-self-2

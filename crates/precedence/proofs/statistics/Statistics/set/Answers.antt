@@ -8,7 +8,6 @@ use Rattle.geo_terms.specs.SourceForm.{StatsParts}
 use Rattle.authority.proofs.HeldLemmas.{clones_same, order_same}
 use Rattle.precedence.specs.Delegations.{AreFiles, AreIndexed, slot_of}
 use Rattle.precedence.proofs.StatisticsLemmas.{file_found, files_placed, files_removed, made_same}
-
 use Rattle.precedence.proofs.statistics.Statistics.set.Goals as goal
 
 pub invariant_of-self : goal.invariant_of-self
