@@ -73,11 +73,13 @@ LEAST_PART 262144 line_parts/src/part.rt
 MOST_FIELDS 8 csv_lines/src/bare.rt
 MOST_TAILS 16384 csv_lines/src/tails.rt
 LONGEST 1024 geo_terms/src/places/fields.rt
+FIRST_SLOTS 64 geo_terms/src/places.rt
 FIRST 64 geo_terms/src/places/slots.rt
 MOST 1048576 geo_terms/src/places/slots.rt
 FIRST_SLOTS 1024 trie_core/src/others.rt
 MOST_PIECES 64 fan_work/src/forks.rt
 MOST_TOGETHER 16 job_run/src/course.rt
+FIRST_SLOTS 64 mmdb_data/src/full_values.rt
 VALUES 100000 mmdb_data/src/budget.rt
 BYTES 67108864 mmdb_data/src/budget.rt
 MOST 16843036 mmdb_data/src/sizes.rt

@@ -1,5 +1,6 @@
 -- What is read of a part of a feed.
 use Rattle.std.specs.Prelude.{◌≡◌, ℕ, List, filter_map}
+use Rattle.std.specs.List.{flat_map}
 use Rattle.geo_terms.specs.declared.statement.Entry.{Entry}
 use Rattle.geo_terms.specs.declared.note.LineNote.{LineNote}
 use Rattle.line_parts.specs.Parts.{lines_in}
@@ -13,6 +14,13 @@ accepted_in part = filter_map entry_of (lines_in part)
 
 abbrev pub refused_in : LinePart → List LineNote
 refused_in part = filter_map fault_of (lines_in part)
+
+-- those of some parts
+abbrev pub accepted_of : List LinePart → List Entry
+accepted_of parts = filter_map entry_of (flat_map lines_in parts)
+
+abbrev pub refused_of : List LinePart → List LineNote
+refused_of parts = filter_map fault_of (flat_map lines_in parts)
 
 -- what was found is what the lines of a part say by themselves
 abbrev pub IsPartRead : LinePart → Gathered → Type 0

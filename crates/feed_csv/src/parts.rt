@@ -2,7 +2,7 @@
 ghost use Rattle.std.specs.Prelude.{◌≡◌, ◌<◌, ◌≤◌, ◌↔◌, ◌++◌, IfOk, OnOk, length};
 ghost use Rattle.std.specs.List.{flat_map};
 ghost use Rattle.feed_csv.specs.File.{AreClean, accepted, feed, longest, most};
-ghost use Rattle.feed_csv.specs.Parts.{found_entries, found_faults};
+ghost use Rattle.feed_csv.specs.Parts.{accepted_of, found_entries, found_faults, refused_of};
 ghost use Rattle.feed_csv.specs.declared.parts.TheConstants.{FEED_PART};
 
 use crate::read::{Gathered, LONGEST_FEED, MOST, faults_with_room, feed_of, read_lines};
@@ -18,9 +18,8 @@ use std::thread::Threads;
 /// The least bytes of a part before others: a feed of at most so many is one part.
 pub const FEED_PART: usize = LEAST_PART;
 
-/// The least bytes of a part where each piece has several: when what was found in all parts is put
-/// together, what was found in one stands there twice. The C library gives back the room for the
-/// faults of so long a part, and might keep that of a shorter one.
+/// The least bytes of a part where each piece has several. The C library gives back the room for
+/// the faults of so long a part when they have been put to the others.
 const LONG_PART: usize = 4_194_304;
 
 /// Work that reads the lines of a part of a feed, which has `size` bytes.
@@ -42,9 +41,8 @@ impl<'a> Work<LinePart<'a>, Gathered> for PartReading {
         } else {
             item.text.len()
         };
-        // A line with a fault has at least two bytes, or is the last. Room that is not used costs
-        // nothing, and a list that grows leaves what it had.
-        let faults = item.text.len() / 2 + 1;
+        // Room that is not used costs nothing, and a list that grows leaves what it had.
+        let faults = most_faults(item.text.len());
         match read_lines(self.alloc, *item, room, faults, usize::MAX) {
             Ok(found) => Ok(found),
             Err(_) => Err(Memory),
@@ -72,19 +70,7 @@ pub fn read_feed_by_parts<R: Threads + Sync, G: Gate>(
     }
     let size = part_size(bytes.len(), forks.pieces as usize);
     let parts = parts_of(forks.alloc, bytes, size)?;
-    let work = PartReading {
-        alloc: forks.alloc,
-        size: bytes.len(),
-    };
-    let found = map_pieces(
-        forks.rt,
-        forks.alloc,
-        forks.gate,
-        forks.pieces,
-        parts.as_slice(),
-        &work,
-    )?;
-    let all = joined(forks.alloc, found)?;
+    let all = read_parts(forks, parts.as_slice(), bytes.len())?;
     if all.entries.len() > MOST {
         return Err(SourceFault::TooMany);
     }
@@ -102,52 +88,126 @@ fn part_size(size: usize, pieces: usize) -> usize
     (share / rounds).max(FEED_PART)
 }
 
-// What was found in all parts.
-fn joined(alloc: Global, parts: Vec<Gathered>) -> Result<Gathered, Memory>
-    ensures entries { IfOk result (λ all. all.entries.items ≡ flat_map found_entries parts.items) }
-    ensures faults { IfOk result (λ all. all.faults.items ≡ flat_map found_faults parts.items) }
+// What is found in all parts of a feed of `size` bytes. As many are read at a time as there are
+// pieces, and what was found in them is put to the rest before the next are read.
+fn read_parts<R: Threads + Sync, G: Gate>(
+    forks: &Forks<R, G>,
+    parts: &[LinePart],
+    size: usize,
+) -> Result<Gathered, Memory>
+    ensures entries { IfOk result (λ all. all.entries.items ≡ accepted_of parts.now) }
+    ensures faults { IfOk result (λ all. all.faults.items ≡ refused_of parts.now) }
 {
-    let faults = faults_with_room(alloc, fault_count(parts.as_slice()))?;
+    let faults = faults_with_room(forks.alloc, most_faults(size))?;
     let mut all = Gathered {
-        entries: Vec::new(alloc),
+        entries: Vec::new(forks.alloc),
         faults,
     };
-    for part in parts {
-        all = joined_two(all, part)?;
-    }
+    read_left(forks, parts, size, &mut all)?;
+    all.faults.shrink_to_fit();
     Ok(all)
 }
 
-// How many faults all parts have.
-fn fault_count(parts: &[Gathered]) -> usize {
-    let mut count: usize = 0;
+// Puts what is found in the parts that are left to what was found in those before.
+fn read_left<R: Threads + Sync, G: Gate>(
+    forks: &Forks<R, G>,
+    left: &[LinePart],
+    size: usize,
+    all: &mut Gathered,
+) -> Result<(), Memory>
+    ensures entries { OnOk result
+        (all.new.entries.items ≡ all.old.entries.items ++ accepted_of left.now) }
+    ensures faults { OnOk result
+        (all.new.faults.items ≡ all.old.faults.items ++ refused_of left.now) }
+{
+    if left.is_empty() {
+        return Ok(());
+    }
+    let (some, rest) = first_parts(left, forks.pieces as usize);
+    read_some(forks, some, size, all)?;
+    read_left(forks, rest, size, all)?;
+    Ok(())
+}
+
+// The most faults of so many bytes: each has a line of at least two, but for the last.
+fn most_faults(size: usize) -> usize {
+    size / 2 + 1
+}
+
+// The first of some parts, at most so many, and the others.
+fn first_parts<'a, 'b>(
+    parts: &'b [LinePart<'a>],
+    count: usize,
+) -> (&'b [LinePart<'a>], &'b [LinePart<'a>])
+    requires some { 0 < length parts.now }
+    requires count { 0 < count }
+    ensures joined { result.0.now ++ result.1.now ≡ parts.now }
+    ensures fewer { length result.1.now < length parts.now }
+{
+    parts.split_at(parts.len().min(count))
+}
+
+// Puts what is found in parts, each read by a piece, to what was found in those before.
+fn read_some<R: Threads + Sync, G: Gate>(
+    forks: &Forks<R, G>,
+    parts: &[LinePart],
+    size: usize,
+    all: &mut Gathered,
+) -> Result<(), Memory>
+    ensures entries { OnOk result
+        (all.new.entries.items ≡ all.old.entries.items ++ accepted_of parts.now) }
+    ensures faults { OnOk result
+        (all.new.faults.items ≡ all.old.faults.items ++ refused_of parts.now) }
+{
+    let work = PartReading {
+        alloc: forks.alloc,
+        size,
+    };
+    let found = map_pieces(
+        forks.rt,
+        forks.alloc,
+        forks.gate,
+        forks.pieces,
+        parts,
+        &work,
+    )?;
+    put_all(found, all)?;
+    Ok(())
+}
+
+// Puts what was found in parts to what was found in those before.
+fn put_all(parts: Vec<Gathered>, all: &mut Gathered) -> Result<(), Memory>
+    ensures entries { OnOk result (all.new.entries.items
+        ≡ all.old.entries.items ++ flat_map found_entries parts.items) }
+    ensures faults { OnOk result (all.new.faults.items
+        ≡ all.old.faults.items ++ flat_map found_faults parts.items) }
+{
     for part in parts {
-        count = count.saturating_add(part.faults.len());
+        put(part, all)?;
     }
-    count
+    Ok(())
 }
 
-// What was found in two parts: the faults in the room of the first, and the entries there too where
-// it has any.
-fn joined_two(first: Gathered, second: Gathered) -> Result<Gathered, Memory>
-    ensures entries { IfOk result
-        (λ all. all.entries.items ≡ first.entries.items ++ second.entries.items) }
-    ensures faults { IfOk result
-        (λ all. all.faults.items ≡ first.faults.items ++ second.faults.items) }
+fn put(part: Gathered, all: &mut Gathered) -> Result<(), Memory>
+    ensures entries { OnOk result
+        (all.new.entries.items ≡ all.old.entries.items ++ part.entries.items) }
+    ensures faults { OnOk result
+        (all.new.faults.items ≡ all.old.faults.items ++ part.faults.items) }
 {
-    let (mut faults, mut more) = (first.faults, second.faults);
-    faults.append(&mut more)?;
-    let entries = joined_entries(first.entries, second.entries)?;
-    Ok(Gathered { entries, faults })
+    let mut faults = part.faults;
+    all.faults.append(&mut faults)?;
+    put_entries(part.entries, &mut all.entries)
 }
 
-fn joined_entries(first: Vec<Entry>, second: Vec<Entry>) -> Result<Vec<Entry>, Memory>
-    ensures { IfOk result (λ all. all.items ≡ first.items ++ second.items) }
+// Puts entries to those before, in the room of the first that are any.
+fn put_entries(entries: Vec<Entry>, all: &mut Vec<Entry>) -> Result<(), Memory>
+    ensures { OnOk result (all.new.items ≡ all.old.items ++ entries.items) }
 {
-    if first.is_empty() {
-        return Ok(second);
+    if all.is_empty() {
+        *all = entries;
+        return Ok(());
     }
-    let (mut all, mut second) = (first, second);
-    all.append(&mut second)?;
-    Ok(all)
+    let mut entries = entries;
+    all.append(&mut entries)?;
+    Ok(())
 }

@@ -1,5 +1,5 @@
 -- The number of a place that was just put into the list, and of one that stands in it.
-use Rattle.std.proofs.Common.{◌≡◌, ℕ, suc, ◌+◌, ◌<◌, Bool, true, false, cond, not, ◌&&◌, ◌||◌, ltb}
+use Rattle.std.proofs.Common.{◌≡◌, ℕ, suc, ◌+◌, ◌<◌, Bool, true, false, cond, not, ◌||◌, ltb}
 use Rattle.std.proofs.Common.{zero, eqb, get_or, length-append, List, [], ◌∷◌, ◌++◌, length}
 use Rattle.std.proofs.Common.{position}
 use Rattle.std.proofs.Common.{Some, None, option_map, refl, sym, ap, ◌∙◌, arith, subst, ◌≤◌}
@@ -13,6 +13,7 @@ use Rattle.std.proofs.lemmas.List.Sums.{passes_at_first}
 use Rattle.std.proofs.lemmas.Option.{slice_get-get_or}
 use Rattle.geo_terms.specs.Numbers.{NumbersNamePlaces, NumbersStay, PlacesAreToldApart, number_of}
 use Rattle.geo_terms.specs.Numbers.{place_at, same_place, with_place}
+use Rattle.geo_terms.specs.PlaceEquality.{same_parts}
 use Rattle.geo_terms.specs.PlaceForm.{PlaceParts, same_text}
 use Rattle.std.proofs.lemmas.Bool.Decides.{Decides-ltb, nat_tests}
 
@@ -39,23 +40,6 @@ position_after_insert q (x ∷ xs) y is =
 -- two texts are the same where the test says so
 pub text_told : (x y : List ℕ) → (same_text x y ≡ true → x ≡ y) × (x ≡ y → same_text x y ≡ true)
 text_told x y = bytes_decides x y
-
-and_parts : (x y : Bool) → (x && y) ≡ true → (x ≡ true) × (y ≡ true)
-and_parts true y h = (refl, h)
-and_parts false y h = absurd (let e : false ≡ true = h in cc)
-
-pub same_parts : (x y : PlaceParts) → same_place x y ≡ true → x ≡ y
-same_parts x y h =
-    let three = and_parts (same_text x.country y.country && same_text x.region y.region
-    && same_text x.city y.city) (same_text x.postal y.postal) h in
-    let two = and_parts (same_text x.country y.country && same_text x.region y.region)
-    (same_text x.city y.city) three.0 in
-    let one = and_parts (same_text x.country y.country) (same_text x.region y.region) two.0 in
-    let country = (text_told x.country y.country).0 one.0 in
-    let region = (text_told x.region y.region).0 one.1 in
-    let city = (text_told x.city y.city).0 two.1 in
-    let postal = (text_told x.postal y.postal).0 three.1 in
-    λ i. record { country = country i; region = region i; city = city i; postal = postal i }
 
 pub place_is_itself : (x y : PlaceParts) → x ≡ y → same_place x y ≡ true
 place_is_itself x y e =

@@ -12,12 +12,13 @@ use Rattle.std.specs.List.{IsDistinct, list_any, position_or_len}
 use Rattle.std.specs.Map.{lookup}
 use Rattle.std.specs.Ordering.{is_eq}
 use Rattle.geo_terms.specs.Numbers.{number_of, same_place}
+use Rattle.geo_terms.specs.PlaceEquality.{same_parts}
 use Rattle.geo_terms.specs.PlaceForm.{PlaceParts}
 use Rattle.geo_terms.specs.PlaceOrder.{place_cmp, place_ties}
 use Rattle.geo_terms.specs.PlaceTable.{first_slot, slots_of, said_or, said, look, IsTable, IsOther}
 use Rattle.geo_terms.specs.PlaceTable.{IsPut}
 use Rattle.geo_terms.proofs.NumberLemmas.{absent_any, fails_at, number_push, place_is_itself}
-use Rattle.geo_terms.proofs.NumberLemmas.{position_stays, same_parts, told_apart_back}
+use Rattle.geo_terms.proofs.NumberLemmas.{position_stays, told_apart_back}
 
 -- ---- lists
 

@@ -14,6 +14,7 @@ pub mod Orders
 pub mod PlaceEquality
 pub mod PlaceForm
 pub mod PlaceLead
+pub mod PlaceMarks
 pub mod PlaceOrder
 pub mod PlaceTable
 pub mod Precedence

@@ -2,16 +2,10 @@
 use Rattle.std.specs.Prelude.{◌≡◌, ◌≢◌, ◌⊎◌, ℕ, zero, suc, ◌+◌, ◌-◌, ◌%◌, ◌<◌, cond, List, [], ◌∷◌}
 use Rattle.std.specs.Prelude.{length, get_or, slice_get, set, Option, Some, None}
 use Rattle.std.specs.BTreeMap.{BTreeMap, get}
-use Rattle.std.specs.Hash.FoldHasher as folding
 use Rattle.geo_terms.specs.Numbers.{number_of, same_place}
 use Rattle.geo_terms.specs.PlaceForm.{PlaceParts}
+use Rattle.geo_terms.specs.PlaceMarks.{place_mark}
 use Rattle.geo_terms.specs.PlaceOrder.{place_cmp}
-
--- the number that the slots of a place follow from
-unfoldable pub place_mark : PlaceParts → ℕ
-place_mark p =
-    folding.finish (folding.write (folding.write (folding.write (folding.write folding.initial
-    p.country) p.region) p.city) p.postal)
 
 -- the first of the two slots of a place, of so many slots; the second is the next one
 unfoldable pub first_slot : PlaceParts → ℕ → ℕ

@@ -1,12 +1,12 @@
 //! Places and what a line says of its addresses.
-ghost use Rattle.std.specs.Prelude.{◌≡◌, ◌++◌, ◌&&◌, IfOk, IsTrue};
+ghost use Rattle.std.specs.Prelude.{◌≡◌, ◌%◌, ◌^◌, ◌++◌, ◌&&◌, IfOk, IsTrue};
 ghost use Rattle.std.specs.Cmp.{partial_equiv_from_equiv};
 ghost use Rattle.std.specs.Cmp.Rules.{hashing};
 ghost use Rattle.std.specs.Hash as fed;
 ghost use Rattle.std.proofs.Common.{rules};
 ghost use Rattle.geo_terms.specs.PlaceForm.{IsPlace, same_text};
 ghost use Rattle.geo_terms.specs.PlaceLead.{Tells};
-ghost use Rattle.geo_terms.specs.PlaceTable.{place_mark};
+ghost use Rattle.geo_terms.specs.PlaceMarks.{mixed_again, mixed_texts, place_mark, place_rank};
 ghost use Rattle.geo_terms.specs.Numbers.{same_place};
 ghost use Rattle.geo_terms.specs.PlaceEquality as equality;
 ghost use Rattle.geo_terms.specs.PlaceOrder as order;
@@ -31,11 +31,12 @@ pub struct Place {
     parts: Arc<Parts>,
 }
 
-/// The four texts of a place, the number by which it is found again, and one that tells its country
-/// and region where they are of the usual form.
+/// The four texts of a place, the number by which it is found again, one by which places are
+/// ordered first, and one that tells its country and region where they are of the usual form.
 #[derive(Debug, Drop)]
 struct Parts {
-    mark: u64,
+    mark: u32,
+    rank: u32,
     lead: u64,
     country: Text,
     region: Text,
@@ -47,7 +48,7 @@ impl Model for Place {
     ghost use Rattle.std.specs.Arc.{arc_value};
     ghost use Rattle.geo_terms.specs.PlaceForm.{PlaceParts, IsPlace};
     ghost use Rattle.geo_terms.specs.PlaceLead.{Tells};
-    ghost use Rattle.geo_terms.specs.PlaceTable.{place_mark};
+    ghost use Rattle.geo_terms.specs.PlaceMarks.{place_mark, place_rank};
     ghost use Rattle.std.specs.Prelude.{◌≡◌};
 
     ghost Value = { PlaceParts };
@@ -66,6 +67,12 @@ impl Model for Place {
       postal = (arc_value p.parts).postal;
     }) × Tells (arc_value p.parts).lead (arc_value p.parts).country (arc_value p.parts).region
         × ((arc_value p.parts).mark ≡ place_mark (record {
+          country = (arc_value p.parts).country;
+          region = (arc_value p.parts).region;
+          city = (arc_value p.parts).city;
+          postal = (arc_value p.parts).postal;
+        }))
+        × ((arc_value p.parts).rank ≡ place_rank (record {
           country = (arc_value p.parts).country;
           region = (arc_value p.parts).region;
           city = (arc_value p.parts).city;
@@ -94,10 +101,13 @@ impl Place {
     {
         let (first, second) = (country.as_str().as_bytes(), region.as_str().as_bytes());
         let (third, fourth) = (city.as_str().as_bytes(), postal.as_str().as_bytes());
-        let mark = mark_of(first, second, third, fourth);
+        let mixed = mixed_texts(first, second, third, fourth);
+        let mark = low(mixed);
+        let rank = low(mixed_again(mixed, first, second, third, fourth));
         let lead = lead_of(first, second);
         let parts = Parts {
             mark,
+            rank,
             lead,
             country,
             region,
@@ -138,10 +148,17 @@ impl Place {
     }
 
     /// The number of a place that its slots in a table follow from; others may have it too.
-    pub(crate) fn mark(&self) -> u64
+    pub(crate) fn mark(&self) -> u32
         ensures { result ≡ place_mark self.now }
     {
         self.parts.mark
+    }
+
+    // The number by which places are ordered first; others may have it too.
+    fn rank(&self) -> u32
+        ensures { result ≡ place_rank self.now }
+    {
+        self.parts.rank
     }
 
     /// A second owner of this place, which takes no bytes.
@@ -191,6 +208,15 @@ impl Place {
         true
     }
 
+    // The order of both by their four texts.
+    fn text_cmp(&self, other: &Place) -> Ordering
+        ensures { result ≡ order.text_cmp self.now other.now }
+    {
+        self.front_cmp(other)
+            .then_with(|| self.city().cmp(other.city()))
+            .then_with(|| self.postal().cmp(other.postal()))
+    }
+
     // The order of both by country and region; mostly one comparison of numbers tells that they
     // are the same.
     fn front_cmp(&self, other: &Place) -> Ordering
@@ -205,9 +231,9 @@ impl Place {
     }
 }
 
-// The number of a place of these texts that its slots in a table follow from.
-fn mark_of(country: &[u8], region: &[u8], city: &[u8], postal: &[u8]) -> u64
-    ensures { result ≡ place_mark (record {
+// What four texts are mixed to.
+fn mixed_texts(country: &[u8], region: &[u8], city: &[u8], postal: &[u8]) -> u64
+    ensures { result ≡ mixed_texts (record {
       country = country.now;
       region = region.now;
       city = city.now;
@@ -220,6 +246,38 @@ fn mark_of(country: &[u8], region: &[u8], city: &[u8], postal: &[u8]) -> u64
     hasher.write(city);
     hasher.write(postal);
     hasher.finish()
+}
+
+// What they are mixed to once more, the last first. It begins with what they were mixed to, so that
+// texts for which the first ones do not count in it do not go unseen in the other either.
+fn mixed_again(mixed: u64, country: &[u8], region: &[u8], city: &[u8], postal: &[u8]) -> u64
+    requires { mixed ≡ mixed_texts (record {
+      country = country.now;
+      region = region.now;
+      city = city.now;
+      postal = postal.now;
+    }) }
+    ensures { result ≡ mixed_again (record {
+      country = country.now;
+      region = region.now;
+      city = city.now;
+      postal = postal.now;
+    }) }
+{
+    let mut hasher = FoldHasher::default();
+    hasher.write(&mixed.to_le_bytes());
+    hasher.write(postal);
+    hasher.write(city);
+    hasher.write(region);
+    hasher.write(country);
+    hasher.finish()
+}
+
+// The low half of a number.
+fn low(number: u64) -> u32
+    ensures { result ≡ number % 2 ^ 32 }
+{
+    (number % (1 << 32)) as u32
 }
 
 // A number that tells a country and its region, or 0 where none does.
@@ -292,9 +350,9 @@ impl Ord for Place {
     ghost matches_eq = { order.place_ties };
 
     fn cmp(&self, other: &Place) -> Ordering {
-        self.front_cmp(other)
-            .then_with(|| self.city().cmp(other.city()))
-            .then_with(|| self.postal().cmp(other.postal()))
+        self.rank()
+            .cmp(&other.rank())
+            .then_with(|| self.text_cmp(other))
     }
 }
 

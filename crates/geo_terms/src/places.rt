@@ -167,7 +167,7 @@ fn slot_of(place: &Place, len: usize) -> usize
     ensures slot { result ≡ first_slot place.now len }
     ensures within { result + 1 < len }
 {
-    (place.mark() % (len as u64 - 1)) as usize
+    place.mark() as usize % (len - 1)
 }
 
 // What the slot tells of the place, if anything.

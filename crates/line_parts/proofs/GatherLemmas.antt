@@ -9,7 +9,7 @@ use Rattle.line_parts.specs.declared.part.LinePart.{LinePart}
 
 module _ {A B : Type 0} (f : (ℕ × List ℕ) → Option A) (g : B → List A)
     (Reads : LinePart → B → Type 0) where
-  by_parts : (parts : List LinePart) (found : List B)
+  pub by_parts : (parts : List LinePart) (found : List B)
       → ((p : LinePart) (b : B) → Reads p b → g b ≡ filter_map f (lines_in p))
       → AllZip Reads parts found → flat_map g found ≡ filter_map f (flat_map lines_in parts)
   by_parts [] [] each zipped = refl

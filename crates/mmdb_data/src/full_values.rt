@@ -89,7 +89,9 @@ impl FullValues {
         if number >= MOST_NUMBERS {
             return Err(Memory);
         }
-        if self.slots.len() <= 2 * number {
+        // A spelling in the map takes no slot, so those who crowd it do not have the table made anew.
+        let taken = number.saturating_sub(self.others.len());
+        if self.slots.len() < 2 * taken + 2 {
             let (slots, others) = table_of(self.alloc, self.list.as_slice())?;
             self.slots = slots;
             self.others = others;
@@ -115,6 +117,9 @@ impl FullValues {
         self.list.truncate(len);
     }
 }
+
+/// How many slots are made for the first spelling.
+const FIRST_SLOTS: usize = 64;
 
 /// The most spellings that a slot can tell apart.
 const MOST_NUMBERS: usize = 0xffff_ffff;
@@ -159,7 +164,7 @@ fn searched(list: &[(Vec<u8>, u64)], spelled: &[u8]) -> Option<u64>
     None
 }
 
-// Slots and others that find all spellings of the list, with room for as many more.
+// Slots and others that find all spellings of the list, with room for three times as many more.
 fn table_of(
     alloc: Global,
     list: &[(Vec<u8>, u64)],
@@ -171,7 +176,7 @@ fn table_of(
 {
     let mut slots = Vec::new(alloc);
     let mut others = BTreeMap::new(alloc);
-    slots.resize(4 * list.len() + 64, 0)?;
+    slots.resize(8 * list.len() + FIRST_SLOTS, 0)?;
     for number in 0..list.len() {
         let (spelled, at) = &list[number];
         note(&mut slots, &mut others, number as u32, spelled, *at)?;

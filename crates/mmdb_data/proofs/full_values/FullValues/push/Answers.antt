@@ -7,18 +7,18 @@ use Rattle.std.specs.Map.{lookup}
 use Rattle.std.proofs.lemmas.List.{length-map}
 use Rattle.mmdb_data.specs.FullValues.{Entries, entry_view, slots_of, IsTable, IsPut}
 use Rattle.mmdb_data.proofs.Table.{table_longer, table_same, new_longer, viewed_push}
-use Rattle.mmdb_data.proofs.full_values.FullValues.push.Goals.{then-len-number+in_ok-slots}
-use Rattle.mmdb_data.proofs.full_values.FullValues.push.Goals.{else-len-number}
+use Rattle.mmdb_data.proofs.full_values.FullValues.push.Goals.{then-len-taken+in_ok-slots}
+use Rattle.mmdb_data.proofs.full_values.FullValues.push.Goals.{else-len-taken}
 use Rattle.mmdb_data.proofs.full_values.FullValues.push.Goals as goal
 
 pub invariant_of-self-in_err-note : goal.invariant_of-self-in_err-note
 invariant_of-self-in_err-note c =
-    let inside = c.if-len-number.self-inside in
+    let inside = c.if-len-taken.self-inside in
     let list : inside.list ≡ c.self.inside.list = search rules in
     let table : IsTable (map_list entry_view c.self.inside.list.items) inside.slots.items
-    inside.others = elim c.if-len-number.branch [
-      | then-len-number+in_ok-slots w ↦ search rules
-      | else-len-number w ↦
+    inside.others = elim c.if-len-taken.branch [
+      | then-len-taken+in_ok-slots w ↦ search rules
+      | else-len-taken w ↦
           let some : 0 < length c.self.inside.slots.items = search rules in
           let t = c.self.invariant.1 some in
           search rules
@@ -33,12 +33,12 @@ invariant_of-self-in_err-note c =
 
 pub invariant_of-self-2 : goal.invariant_of-self-2
 invariant_of-self-2 c =
-    let inside = c.if-len-number.self-inside in
+    let inside = c.if-len-taken.self-inside in
     let list : inside.list ≡ c.self.inside.list = search rules in
     let table : IsTable (map_list entry_view c.self.inside.list.items) inside.slots.items
-    inside.others = elim c.if-len-number.branch [
-      | then-len-number+in_ok-slots w ↦ search rules
-      | else-len-number w ↦
+    inside.others = elim c.if-len-taken.branch [
+      | then-len-taken+in_ok-slots w ↦ search rules
+      | else-len-taken w ↦
           let some : 0 < length c.self.inside.slots.items = search rules in
           let t = c.self.invariant.1 some in
           search rules
