@@ -1,7 +1,7 @@
 -- The longest entry that holds an address lies within a range, or none that holds it does.
 use Rattle.std.proofs.Common.{◌≡◌, ℕ, ◌+◌, ◌-◌, ◌%◌, ◌^◌, ◌≤◌, Bool, true, false, cond, ◌&&◌, leb}
 use Rattle.std.proofs.Common.{List, [], ◌∷◌, fold, Option, Some, None, refl, sym, ap, ◌∙◌, inl, inr}
-use Rattle.std.proofs.Common.{arith}
+use Rattle.std.proofs.Common.{◌<◌, slice_get, arith}
 use Rattle.std.specs.List.{AllByRecursion}
 use Rattle.std.proofs.lemmas.Bool.{cases_lt}
 use Rattle.std.proofs.lemmas.Bool.Decides.{nat_tests}
@@ -10,6 +10,12 @@ use Rattle.geo_addr.specs.Ranges.{Ends, Prefix, IsBlock, ground_first, holds, ra
 use Rattle.geo_terms.specs.First.{better, first_at, first_of, holders}
 use Rattle.geo_terms.specs.Precedence.{entries_within, entry_before, entry_cmp, lies_within}
 use Rattle.geo_terms.specs.declared.statement.Entry.{Entry}
+use Rattle.geo_terms.specs.Boundaries.{told}
+use Rattle.geo_terms.specs.SourceForm.{FeedParts}
+use Rattle.std.proofs.lemmas.List.Elements.{recursion_from_All}
+use Rattle.std.specs.Option.{option_and_then}
+use Rattle.authority.specs.Kinds.{IsReady}
+use Rattle.authority.specs.declared.kind_index.KindIndex.{KindIndex}
 use Rattle.split_core.proofs.Multiples.{multiple_apart, multiple_lower, multiple_next}
 
 -- the entry, if it lies within a range
@@ -158,3 +164,12 @@ module _ (r : Ends) (a : ℕ) where
       → AllByRecursion (λ e. IsBlock e.block) es → first_of entry_before (entries_within es r a)
       ≡ kept r (first_at entry_before (λ e. range_of_block e.block) es a)
   longest_within es blocks = longest_from es None blocks tt
+
+-- the longest entry within a range, by what the index of the feed tells
+pub by_index : (f : FeedParts) (index : KindIndex) (r : Ends) (a : ℕ) → IsReady f index
+    → a < 2 ^ 128 → kept r (option_and_then (slice_get f.entries) (told None index.firsts a))
+    ≡ first_of entry_before (entries_within f.entries r a)
+by_index f index r a ready lt =
+    ap (kept r) (ready.entries.firsts a lt)
+    ∙ sym (longest_within r a f.entries
+    (recursion_from_All (λ (e : Entry). IsBlock e.block) f.entries ready.blocks))

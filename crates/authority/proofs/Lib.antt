@@ -1,3 +1,4 @@
+pub mod CutLemmas
 pub mod EntryLemmas
 pub mod HeldLemmas
 pub mod NoteLemmas

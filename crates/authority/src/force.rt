@@ -1,33 +1,39 @@
 //! The dumps and feeds in force, set and dropped, and who speaks for an address by them.
-use crate::dumps::{
-    best_at, best_near, insert_dump, remove_dump, replace_dump, search_dumps, shared,
-};
+ghost use Rattle.std.specs.Prelude.{◌≡◌, find, option_map, IfOk};
+ghost use Rattle.std.specs.Arc.{arc_value};
+ghost use Rattle.std.specs.Option.{option_copied};
+ghost use Rattle.geo_terms.specs.First.{first_of};
+ghost use Rattle.geo_terms.specs.PlaceForm.{same_text};
+ghost use Rattle.geo_terms.specs.Precedence.{entries_within, entry_before};
+ghost use Rattle.geo_terms.specs.SlotOrder.{AreInOrder};
+ghost use Rattle.geo_terms.specs.Sources.{entries_in};
+ghost use Rattle.authority.specs.Held.{url_of};
+
 use crate::fault::DropFault;
-use crate::feeds::{entry_of, feed_in, insert_feed, remove_feed, replace_feed, search_feeds};
-use crate::indexed::IndexedFeed;
 use crate::near::Near;
 use crate::notes::joint_notes;
+use crate::ready::ReadyFeed;
+use crate::speakers::{Speakers, covering_of_all, first_of_all, speakers_of};
 use geo_addr::{Addr, Block, Memory};
-use geo_terms::{Dump, Entry, Feed, FirstIndex, Note, Reference};
-use inetnum_index::Index;
+use geo_terms::{Dump, Entry, Feed, Note, Reference};
+use source_changes::shelf;
 use std::alloc::Global;
 use std::marker::Model;
 use std::sync::Arc;
 
 /// The dumps and feeds in force, and who speaks for an address by them.
 ///
-/// The references of all dumps have one index, and the entries of each feed have one of their own:
-/// a dump that is set or dropped builds the index of references anew and leaves those of the feeds
-/// alone, and a feed comes with its own. From a reference to its feed the way is one halving over
-/// the URLs of the feeds, so nothing is kept of it that a set or a drop would have to change.
-/// Sources and indexes are shared with every snapshot.
+/// The entries of each feed have an index of their own, with which it comes. The references of all
+/// dumps have one, which `make_ready` makes where a dump was set or dropped since; until then each
+/// reference is looked at for an answer. From a reference to its feed the way is one halving over
+/// the URLs of the feeds. Sources and indexes are shared with every snapshot.
 #[derive(Debug, Drop)]
 pub struct Authority {
     alloc: Global,
     dumps: Vec<Arc<Dump>>,
-    refs: Option<Arc<Index>>,
-    feeds: Vec<Arc<Feed>>,
-    firsts: Vec<Arc<FirstIndex>>,
+    // None where a dump was set or dropped since it was made.
+    speakers: Option<Arc<Speakers>>,
+    feeds: Vec<ReadyFeed>,
 }
 
 impl Model for Authority {
@@ -38,24 +44,25 @@ impl Model for Authority {
 
     ghost Value = { InForce };
 
-    ghost view = { λ s. in_force (map arc_value s.dumps.items) (map arc_value s.feeds.items) };
+    ghost view = { λ s. in_force (map arc_value s.dumps.items) s.feeds.items };
 
-    ghost invariant = { λ s. IsHeld s.dumps.items s.refs s.feeds.items s.firsts.items };
+    ghost invariant = { λ s. IsHeld s.dumps.items s.speakers s.feeds.items };
 }
 
 impl Authority {
-    ghost use Rattle.std.specs.Prelude.{◌≡◌, ◌↔◌, map, find, IfOk, IfErr, OnOk, OnErr, Some, None};
+    ghost use Rattle.std.specs.Prelude.{◌≡◌, map, IfOk, IfErr, OnOk, OnErr, Some, None};
     ghost use Rattle.std.specs.Prelude.{option_map};
     ghost use Rattle.std.specs.Arc.{arc_value};
     ghost use Rattle.std.specs.Option.{option_copied};
     ghost use Rattle.geo_terms.specs.Covering.{covering};
     ghost use Rattle.geo_terms.specs.NoteText.{note_cmp};
-    ghost use Rattle.geo_terms.specs.PlaceForm.{same_text};
     ghost use Rattle.geo_terms.specs.Precedence.{speaker, speaking_entry};
     ghost use Rattle.geo_terms.specs.Report.{in_order, joint_notes};
     ghost use Rattle.geo_terms.specs.Sources.{feed_of, no_sources, references};
-    ghost use Rattle.geo_terms.specs.SlotOrder.{AreInOrder, placed, removed};
-    ghost use Rattle.authority.specs.Held.{slot_of, url_of};
+    ghost use Rattle.geo_terms.specs.SlotOrder.{AreInOrder};
+    ghost use Rattle.source_changes.specs.Changes.{DropDump, DropFeed, SetDump, SetFeed, after};
+    ghost use Rattle.source_changes.specs.Changes.{named};
+    ghost use Rattle.authority.specs.Held.{AreSpeakers, slot_of, url_of};
     ghost use Rattle.authority.specs.declared.fault.DropFault.{DropFault};
 
     /// No sources.
@@ -65,90 +72,103 @@ impl Authority {
         Authority {
             alloc,
             dumps: Vec::new(alloc),
-            refs: None,
+            speakers: None,
             feeds: Vec::new(alloc),
-            firsts: Vec::new(alloc),
         }
     }
 
     /// Sets a dump, which replaces the one with the same slot, and hands the old one back.
     ///
-    /// The references of all dumps are put in order anew. After `Memory` the given dump is dropped.
+    /// No reference is looked at. After `Memory` the given dump is dropped.
     pub fn set_dump(&mut self, dump: Dump) -> Result<Option<Arc<Dump>>, Memory>
-        ensures sources { OnOk result
-            (self.new ≡ record self.old { dumps = placed (λ d. d.slot) dump self.old.dumps }) }
-        ensures old { IfOk result (λ old. option_map arc_value old
-            ≡ find (λ d. same_text d.slot dump.slot) self.old.dumps) }
+        ensures sources { OnOk result (self.new ≡ after (SetDump dump) self.old) }
+        ensures old { IfOk result
+            (λ old. option_map arc_value old ≡ named (λ d. d.slot) dump.slot self.old.dumps) }
         ensures err { OnErr result (self.new ≡ self.old) }
     {
         let dump = Arc::new(self.alloc, dump)?;
-        match search_dumps(self.dumps.as_slice(), dump.slot.as_str()) {
-            Ok(index) => {
-                let old = replace_dump(self.alloc, &mut self.dumps, &mut self.refs, index, dump)?;
-                Ok(Some(old))
-            }
-            Err(index) => {
-                insert_dump(self.alloc, &mut self.dumps, &mut self.refs, index, dump)?;
-                Ok(None)
-            }
-        }
+        let old = shelf::put(&mut self.dumps, dump)?;
+        self.speakers = None;
+        Ok(old)
     }
 
-    /// Takes the dump of a slot out of force, and hands it back.
+    /// Takes the dump of a slot out of force, and hands it back. It takes no memory.
     pub fn drop_dump(&mut self, slot: &str) -> Result<Arc<Dump>, DropFault>
-        ensures sources { OnOk result
-            (self.new ≡ record self.old { dumps = removed (λ d. d.slot) slot.now self.old.dumps }) }
+        ensures sources { OnOk result (self.new ≡ after (DropDump slot.now) self.old) }
         ensures old { IfOk result
-            (λ old. Some (arc_value old) ≡ find (λ d. same_text d.slot slot.now) self.old.dumps) }
-        ensures not_there { IfErr result (λ fault. fault ≡ DropFault.NotThere
-            ↔ (find (λ d. same_text d.slot slot.now) self.old.dumps ≡ None)) }
+            (λ old. Some (arc_value old) ≡ named (λ d. d.slot) slot.now self.old.dumps) }
+        ensures not_there { IfErr result (λ fault. (fault ≡ DropFault.NotThere)
+            × (named (λ d. d.slot) slot.now self.old.dumps ≡ None)) }
         ensures err { OnErr result (self.new ≡ self.old) }
     {
-        match search_dumps(self.dumps.as_slice(), slot) {
-            Ok(index) => {
-                let old = remove_dump(self.alloc, &mut self.dumps, &mut self.refs, index)?;
+        match shelf::take(&mut self.dumps, slot) {
+            Some(old) => {
+                self.speakers = None;
                 Ok(old)
             }
-            Err(_) => Err(DropFault::NotThere),
+            None => Err(DropFault::NotThere),
         }
     }
 
     /// Sets a feed, which replaces the one with the same URL, and hands the old one back.
     ///
-    /// Nothing is put in order: the feed has its index. After `Memory` the given feed is dropped.
-    pub fn set_feed(&mut self, feed: IndexedFeed) -> Result<Option<Arc<Feed>>, Memory>
-        ensures sources { OnOk result
-            (self.new ≡ record self.old { feeds = placed (λ f. f.url) feed self.old.feeds }) }
-        ensures old { IfOk result (λ old. option_map arc_value old
-            ≡ find (λ f. same_text f.url feed.url) self.old.feeds) }
+    /// It makes the feed ready first. After `Memory` the given feed is dropped.
+    pub fn set_feed(&mut self, feed: Feed) -> Result<Option<Arc<Feed>>, Memory>
+        ensures sources { OnOk result (self.new ≡ after (SetFeed feed) self.old) }
+        ensures old { IfOk result
+            (λ old. option_map arc_value old ≡ named url_of feed.url self.old.feeds) }
         ensures err { OnErr result (self.new ≡ self.old) }
     {
-        let (feed, first) = feed.parts();
-        match search_feeds(self.feeds.as_slice(), feed.url.as_str()) {
-            Ok(index) => {
-                let old = replace_feed(&mut self.feeds, &mut self.firsts, index, feed, first);
-                Ok(Some(old))
-            }
-            Err(index) => {
-                insert_feed(&mut self.feeds, &mut self.firsts, index, feed, first)?;
-                Ok(None)
-            }
-        }
+        let feed = ReadyFeed::of(self.alloc, feed)?;
+        self.set_ready_feed(feed)
+    }
+
+    /// Sets a feed that is ready, which replaces the one with the same URL, and hands the old one
+    /// back.
+    ///
+    /// Nothing is put in order. After `Memory` the given feed is dropped.
+    pub fn set_ready_feed(&mut self, feed: ReadyFeed) -> Result<Option<Arc<Feed>>, Memory>
+        ensures sources { OnOk result (self.new ≡ after (SetFeed feed) self.old) }
+        ensures old { IfOk result
+            (λ old. option_map arc_value old ≡ named url_of feed.url self.old.feeds) }
+        ensures err { OnErr result (self.new ≡ self.old) }
+    {
+        let old = shelf::put(&mut self.feeds, feed)?;
+        Ok(feed_alone(old))
     }
 
     /// Takes the feed of a URL out of force, and hands it back. It takes no memory.
     pub fn drop_feed(&mut self, url: &str) -> Result<Arc<Feed>, DropFault>
-        ensures sources { OnOk result
-            (self.new ≡ record self.old { feeds = removed (λ f. f.url) url.now self.old.feeds }) }
+        ensures sources { OnOk result (self.new ≡ after (DropFeed url.now) self.old) }
         ensures old { IfOk result
-            (λ old. Some (arc_value old) ≡ find (λ f. same_text f.url url.now) self.old.feeds) }
-        ensures not_there { IfErr result (λ fault. fault ≡ DropFault.NotThere
-            ↔ (find (λ f. same_text f.url url.now) self.old.feeds ≡ None)) }
+            (λ old. Some (arc_value old) ≡ named url_of url.now self.old.feeds) }
+        ensures not_there { IfErr result (λ fault. (fault ≡ DropFault.NotThere)
+            × (named url_of url.now self.old.feeds ≡ None)) }
         ensures err { OnErr result (self.new ≡ self.old) }
     {
-        match search_feeds(self.feeds.as_slice(), url) {
-            Ok(index) => Ok(remove_feed(&mut self.feeds, &mut self.firsts, index)),
-            Err(_) => Err(DropFault::NotThere),
+        let Some(old) = feed_alone(shelf::take(&mut self.feeds, url)) else {
+            return Err(DropFault::NotThere);
+        };
+        Ok(old)
+    }
+
+    /// Makes what answers are looked up in, where sources changed since: the index of all
+    /// references. Without it each answer looks at every reference.
+    pub fn make_ready(&mut self) -> Result<(), Memory>
+        ensures { self.new ≡ self.old }
+    {
+        let speakers = self.speakers()?;
+        self.speakers = Some(speakers);
+        Ok(())
+    }
+
+    /// The index of all references and their cut points: those that are kept, or new ones.
+    pub fn speakers(&self) -> Result<Arc<Speakers>, Memory>
+        ensures { IfOk result (λ made. AreSpeakers (references self.now) (arc_value made)) }
+    {
+        match shared(&self.speakers)? {
+            Some(made) => Ok(made),
+            None => speakers_of(self.alloc, self.dumps.as_slice()),
         }
     }
 
@@ -160,10 +180,21 @@ impl Authority {
         Ok(Authority {
             alloc: self.alloc,
             dumps: self.dumps.clone()?,
-            refs: shared(&self.refs)?,
+            speakers: shared(&self.speakers)?,
             feeds: self.feeds.clone()?,
-            firsts: self.firsts.clone()?,
         })
+    }
+
+    /// How many cut points of references are kept, or how many references there are.
+    pub fn count(&self) -> usize {
+        if let Some(made) = &self.speakers {
+            return made.cuts.len();
+        }
+        let mut count: usize = 0;
+        for dump in self.dumps.as_slice() {
+            count = count.saturating_add(dump.refs.as_slice().len());
+        }
+        count
     }
 
     /// The dumps in force, ascending by the bytes of their slots.
@@ -175,25 +206,38 @@ impl Authority {
     }
 
     /// The feeds in force, ascending by the bytes of their URLs.
-    pub fn feeds(&self) -> &[Arc<Feed>]
-        ensures feeds { map arc_value result.now ≡ self.now.feeds }
+    pub fn feeds(&self) -> &[ReadyFeed]
+        ensures feeds { result.now ≡ self.now.feeds }
         ensures ascending { AreInOrder url_of result.now }
     {
         self.feeds.as_slice()
+    }
+
+    /// The dump of a slot, by halving.
+    pub fn dump_of(&self, slot: &str) -> Option<&Dump>
+        ensures { option_copied result ≡ named (λ d. d.slot) slot.now self.now.dumps }
+    {
+        let dump = shelf::get(self.dumps.as_slice(), slot)?;
+        Some(dump)
     }
 
     /// The feed of a URL, by halving.
     pub fn feed_of(&self, url: &str) -> Option<&Feed>
         ensures { option_copied result ≡ feed_of self.now url.now }
     {
-        feed_in(self.feeds.as_slice(), url)
+        let ready = shelf::get(self.feeds.as_slice(), url)?;
+        Some(ready.feed())
     }
 
     /// The speaker at an address, by halving.
+    #[tactic(auto, unfolding(geo_terms::specs::Precedence::speaker))]
     pub fn speaker_at(&self, at: Addr) -> Option<&Reference>
         ensures { option_copied result ≡ speaker self.now at.0 }
     {
-        best_at(&self.refs, at)
+        match &self.speakers {
+            Some(made) => made.index.best_at(at),
+            None => first_of_all(self.dumps.as_slice(), at),
+        }
     }
 
     /// The entry that speaks at an address: three halvings, for the speaker,
@@ -206,10 +250,14 @@ impl Authority {
     }
 
     // The speaker at an address, looked for first where the last one was found.
+    #[tactic(auto, unfolding(geo_terms::specs::Precedence::speaker))]
     fn speaker_near(&self, at: Addr, near: &mut usize) -> Option<&Reference>
         ensures { option_copied result ≡ speaker self.now at.0 }
     {
-        best_near(&self.refs, at, near)
+        match &self.speakers {
+            Some(made) => made.index.best_near(at, near),
+            None => first_of_all(self.dumps.as_slice(), at),
+        }
     }
 
     /// The entry that speaks at an address, as `entry_at` gives it. The speaker, its feed and the
@@ -219,13 +267,7 @@ impl Authority {
         ensures { option_copied result ≡ speaking_entry self.now at.0 }
     {
         let speaker = self.speaker_near(at, &mut near.speaker)?;
-        entry_of(
-            self.feeds.as_slice(),
-            self.firsts.as_slice(),
-            speaker,
-            at,
-            near,
-        )
+        entry_of(self.feeds.as_slice(), speaker, at, near)
     }
 
     /// The first reference of this URL, in the order of references, whose range is of the block's
@@ -233,15 +275,59 @@ impl Authority {
     pub fn covering(&self, block: Block, url: &str) -> Option<&Reference>
         ensures { option_copied result ≡ covering (references self.now) url.now block }
     {
-        let index = self.refs.as_ref()?;
-        index.covering(block, url)
+        match &self.speakers {
+            Some(made) => made.index.covering(block, url),
+            None => covering_of_all(self.dumps.as_slice(), block, url),
+        }
     }
+
     /// The notes of dumps and feeds on one another, in the order of a report:
     /// `P08`, `P09` and `F09`.
     pub fn notes(&self) -> Result<Vec<Note>, Memory>
         ensures { IfOk result (λ notes. notes.items ≡ in_order note_cmp (joint_notes self.now)) }
     {
-        let notes = joint_notes(self.alloc, &self.refs, self.feeds.as_slice())?;
+        let made = self.speakers()?;
+        let notes = joint_notes(self.alloc, &made.index, self.feeds.as_slice())?;
         Ok(notes)
     }
+}
+
+// The index once more, shared.
+fn shared(speakers: &Option<Arc<Speakers>>) -> Result<Option<Arc<Speakers>>, Memory>
+    ensures { IfOk result
+        (λ same. option_map arc_value same ≡ option_map arc_value speakers.now) }
+{
+    match speakers {
+        Some(made) => {
+            let made = Arc::try_clone(made)?;
+            Ok(Some(made))
+        }
+        None => Ok(None),
+    }
+}
+
+fn feed_alone(ready: Option<ReadyFeed>) -> Option<Arc<Feed>>
+    ensures { option_map arc_value result ≡ ready }
+{
+    match ready {
+        Some(ready) => Some(ready.into_feed()),
+        None => None,
+    }
+}
+
+// The entry that speaks for a speaker at an address. The feed and the entry are looked for first
+// where the last ones were found.
+fn entry_of<'a>(
+    feeds: &'a [ReadyFeed],
+    speaker: &Reference,
+    at: Addr,
+    near: &mut Near,
+) -> Option<&'a Entry>
+    requires { AreInOrder url_of feeds.now }
+    ensures { option_copied result ≡ first_of entry_before (entries_within
+        (entries_in (find (λ f. same_text f.url speaker.now.url) feeds.entry.now))
+        speaker.now.range at.0) }
+{
+    let feed = shelf::get_near(feeds, speaker.url.as_str(), &mut near.feed)?;
+    feed.entry_within(speaker.range, at, &mut near.entry)
 }

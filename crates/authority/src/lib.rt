@@ -1,15 +1,17 @@
 //! Who speaks for an address: dumps and feeds together, with the notes of the one on the other.
 #![tactic(auto)]
 
-mod dumps;
 mod fault;
-mod feeds;
 mod force;
-mod indexed;
+mod kind_index;
 mod near;
 mod notes;
+mod ready;
+mod speakers;
 
 pub use fault::DropFault;
 pub use force::Authority;
-pub use indexed::IndexedFeed;
+pub use kind_index::KindIndex;
 pub use near::Near;
+pub use ready::ReadyFeed;
+pub use speakers::Speakers;

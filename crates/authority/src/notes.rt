@@ -1,40 +1,35 @@
 //! The notes of dumps and feeds on one another.
 ghost use Rattle.std.specs.Prelude.{◌≡◌, ◌++◌, [], ◌∷◌, if◌then◌else◌, None, map, find, flat_map};
 ghost use Rattle.std.specs.Prelude.{is_none, not, IfOk, OnOk};
-ghost use Rattle.std.specs.Arc.{arc_value};
 ghost use Rattle.std.specs.Option.{option_copied};
 ghost use Rattle.geo_terms.specs.NoteText.{note_cmp};
 ghost use Rattle.geo_terms.specs.PlaceForm.{same_text};
 ghost use Rattle.geo_terms.specs.Report.{in_order, is_covered, same_ends, uncovered_in};
 ghost use Rattle.geo_terms.specs.SlotOrder.{AreInOrder};
 ghost use Rattle.geo_terms.specs.declared.note.Rule.TheVariants.{P08, P09};
-ghost use Rattle.authority.specs.Held.{indexed, url_of};
+ghost use Rattle.authority.specs.Held.{url_of};
 ghost use Rattle.authority.specs.Members.{HaveAlike};
 ghost use Rattle.authority.specs.Ranked.{behind, is_behind, joint_in, leader, note_on};
 ghost use Rattle.authority.specs.Ranked.{outranked_in, ranked_cmp, uncovered_note, unfed_in};
 
-use crate::feeds::feed_in;
+use crate::ready::ReadyFeed;
 use geo_addr::{Block, Memory};
 use geo_terms::{Feed, Note, Origin, Reference, Rule, Statement};
 use inetnum_index::Index;
+use source_changes::{push_borrows, shelf};
 use std::alloc::Global;
 use std::cmp::Ordering;
-use std::sync::Arc;
 
 /// The notes of references and feeds on one another, in the order of a report.
 ///
 /// References are sorted by range, each of them and each entry is looked up by halving, and the
 /// notes are sorted: nothing is looked at for each pair.
-pub fn joint_notes(
-    alloc: Global,
-    index: &Option<Arc<Index>>,
-    feeds: &[Arc<Feed>],
-) -> Result<Vec<Note>, Memory>
+pub fn joint_notes(alloc: Global, index: &Index, feeds: &[ReadyFeed]) -> Result<Vec<Note>, Memory>
     requires { AreInOrder url_of feeds.now }
     ensures { IfOk result (λ notes. notes.items
-        ≡ in_order note_cmp (joint_in (indexed index.now) (map arc_value feeds.now))) }
+        ≡ in_order note_cmp (joint_in index.now feeds.now)) }
 {
-    let refs = references(index);
+    let refs = index.references();
     let mut notes = outranked_notes(alloc, refs)?;
     push_unfed(&mut notes, refs, feeds)?;
     push_uncovered(&mut notes, index, feeds)?;
@@ -42,33 +37,15 @@ pub fn joint_notes(
     Ok(notes)
 }
 
-fn references(index: &Option<Arc<Index>>) -> &[Reference]
-    ensures { result.now ≡ indexed index.now }
-{
-    match index {
-        Some(index) => index.references(),
-        None => &[],
-    }
-}
-
 // The notes on references that stand behind another one of their range.
 fn outranked_notes(alloc: Global, refs: &[Reference]) -> Result<Vec<Note>, Memory>
     ensures { IfOk result (λ notes. HaveAlike (outranked_in refs.now) notes.items) }
 {
-    let mut ranked = borrowed(alloc, refs)?;
+    let mut ranked = Vec::new(alloc);
+    push_borrows(&mut ranked, refs)?;
     ranked.sort_unstable_by(|x, y| ranked_order(x, y));
     let notes = behind_notes(alloc, ranked.as_slice())?;
     Ok(notes)
-}
-
-fn borrowed<'a>(alloc: Global, refs: &'a [Reference]) -> Result<Vec<&'a Reference>, Memory>
-    ensures { IfOk result (λ borrowed. map (λ r. r.now) borrowed.items ≡ refs.entry.now) }
-{
-    let mut borrowed = Vec::with_capacity(alloc, refs.len())?;
-    for reference in refs {
-        borrowed.push(reference)?;
-    }
-    Ok(borrowed)
 }
 
 #[tactic(auto, unfolding(crate::specs::Ranked::ranked_cmp))]
@@ -137,10 +114,10 @@ fn note_on(rule: Rule, reference: &Reference) -> Result<Note, Memory>
 }
 
 // The notes on references whose URL has no feed.
-fn push_unfed(notes: &mut Vec<Note>, refs: &[Reference], feeds: &[Arc<Feed>]) -> Result<(), Memory>
+fn push_unfed(notes: &mut Vec<Note>, refs: &[Reference], feeds: &[ReadyFeed]) -> Result<(), Memory>
     requires { AreInOrder url_of feeds.now }
     ensures { OnOk result
-        (notes.new.items ≡ notes.old.items ++ unfed_in refs.now (map arc_value feeds.now)) }
+        (notes.new.items ≡ notes.old.items ++ unfed_in refs.now feeds.now) }
 {
     for reference in refs {
         push_if_unfed(notes, reference, feeds)?;
@@ -151,11 +128,11 @@ fn push_unfed(notes: &mut Vec<Note>, refs: &[Reference], feeds: &[Arc<Feed>]) ->
 fn push_if_unfed(
     notes: &mut Vec<Note>,
     reference: &Reference,
-    feeds: &[Arc<Feed>],
+    feeds: &[ReadyFeed],
 ) -> Result<(), Memory>
     requires { AreInOrder url_of feeds.now }
     ensures { OnOk result (notes.new.items ≡ notes.old.items
-        ++ (if is_none (find (λ f. same_text f.url reference.now.url) (map arc_value feeds.now))
+        ++ (if is_none (find (λ f. same_text f.url reference.now.url) feeds.now)
         then note_on P09 reference.now ∷ [] else [])) }
 {
     if has_feed(feeds, reference) {
@@ -165,53 +142,35 @@ fn push_if_unfed(
     Ok(())
 }
 
-fn has_feed(feeds: &[Arc<Feed>], reference: &Reference) -> bool
+fn has_feed(feeds: &[ReadyFeed], reference: &Reference) -> bool
     requires { AreInOrder url_of feeds.now }
     ensures { not result
-        ≡ is_none (find (λ f. same_text f.url reference.now.url) (map arc_value feeds.now)) }
+        ≡ is_none (find (λ f. same_text f.url reference.now.url) feeds.now) }
 {
-    feed_in(feeds, reference.url.as_str()).is_some()
+    shelf::get(feeds, reference.url.as_str()).is_some()
 }
 
 // The notes on the entries of all feeds that no reference to their feed covers.
-fn push_uncovered(
-    notes: &mut Vec<Note>,
-    index: &Option<Arc<Index>>,
-    feeds: &[Arc<Feed>],
-) -> Result<(), Memory>
+fn push_uncovered(notes: &mut Vec<Note>, index: &Index, feeds: &[ReadyFeed]) -> Result<(), Memory>
     ensures { OnOk result (notes.new.items ≡ notes.old.items
-        ++ flat_map (uncovered_in (indexed index.now)) (map arc_value feeds.now)) }
+        ++ flat_map (uncovered_in index.now) feeds.now) }
 {
-    for feed in feeds {
-        push_uncovered_in(notes, index, feed)?;
+    for ready in feeds {
+        push_uncovered_in(notes, index, ready.feed())?;
     }
     Ok(())
 }
 
-fn push_uncovered_in(
-    notes: &mut Vec<Note>,
-    index: &Option<Arc<Index>>,
-    feed: &Feed,
-) -> Result<(), Memory>
+fn push_uncovered_in(notes: &mut Vec<Note>, index: &Index, feed: &Feed) -> Result<(), Memory>
     ensures { OnOk result
-        (notes.new.items ≡ notes.old.items ++ uncovered_in (indexed index.now) feed.now) }
+        (notes.new.items ≡ notes.old.items ++ uncovered_in index.now feed.now) }
 {
     for entry in feed.entries.as_slice() {
-        if !covers(index, entry.block, feed.url.as_str()) {
+        if !index.covers(entry.block, feed.url.as_str()) {
             notes.push(uncovered_note(feed, entry.line)?)?;
         }
     }
     Ok(())
-}
-
-// Whether a reference of this URL covers a block.
-fn covers(index: &Option<Arc<Index>>, block: Block, url: &str) -> bool
-    ensures { result ≡ is_covered (indexed index.now) url.now block }
-{
-    match index {
-        Some(index) => index.covers(block, url),
-        None => false,
-    }
 }
 
 fn uncovered_note(feed: &Feed, line: u64) -> Result<Note, Memory>

@@ -25,6 +25,19 @@ pub fn check(alloc: Global, sources: &Sources, feed: &Feed) -> Result<Vec<Verdic
     ensures ascending { IfOk result
         (λ list. IsStrictlyIncreasing (map (λ v. v.line) list.items)) }
 {
+    // Whoever asks once may not have made the sources ready.
+    let mut ready = sources.snapshot()?;
+    ready.make_ready()?;
+    check_ready(alloc, &ready, feed)
+}
+
+// What becomes of each line of a feed in force, by sources that are ready.
+fn check_ready(alloc: Global, sources: &Sources, feed: &Feed) -> Result<Vec<Verdict>, Memory>
+    requires { feed_of sources.now feed.now.url ≡ Some feed.now }
+    ensures verdicts { IfOk result (λ list. list.items ≡ verdicts sources.now feed.now) }
+    ensures ascending { IfOk result
+        (λ list. IsStrictlyIncreasing (map (λ v. v.line) list.items)) }
+{
     let firsts = first_addresses(alloc, sources, feed)?;
     judged(alloc, sources, feed, firsts.as_slice())
 }

@@ -16,7 +16,8 @@ use Rattle.std.proofs.lemmas.List.Sorted.{Contains-permutation, IsPermutation-sy
 use Rattle.geo_addr.specs.Ranges.{Ends, AreCuts, IsCut, IsEdge, IsRange, IsWithin, ground_first}
 use Rattle.geo_terms.proofs.Members.{Among, among_from_contains, contains_from_among}
 use Rattle.geo_terms.proofs.RankLemmas.{Up}
-use Rattle.cut_segments.specs.CutPoints.{AreCutsOf, AreCutsInside, whole}
+use Rattle.source_changes.specs.CutPoints.{AreCutsOf, whole}
+use Rattle.cut_segments.specs.CutPoints.{AreCutsInside}
 
 module _ {X : Type 0} (P : X → Type 0) where
   pub any_left : (xs ys : List X) → Any P xs → Any P (xs ++ ys)

@@ -1,16 +1,7 @@
--- The cut points of a list of ranges: in the whole address space, and inside bounds.
-use Rattle.std.specs.Prelude.{ℕ, ◌-◌, ◌^◌, ◌↔◌, List, Any, Contains}
-use Rattle.std.specs.List.Sorted.{IsStrictlyIncreasing}
-use Rattle.geo_addr.specs.Ranges.{Ends, AreCuts, IsCut, IsWithin}
-
--- the whole address space
-abbrev pub whole : Ends
-whole = record { first = 0; last = 2 ^ 128 - 1 }
-
--- the cut points of a list of ranges in the whole address space, ascending, each once
-pub record AreCutsOf (ranges : List Ends) (points : List ℕ) : Type 0 where
-  pub exact : AreCuts ranges whole points
-  pub ascending : IsStrictlyIncreasing points
+-- The cut points of a list of ranges inside bounds.
+use Rattle.std.specs.Prelude.{ℕ, ◌↔◌, List, Any, Contains}
+use Rattle.geo_addr.specs.Ranges.{Ends, IsCut, IsWithin}
+use Rattle.source_changes.specs.CutPoints.{whole}
 
 -- the cut points of a list of ranges that lie inside one of several bounds
 abbrev pub AreCutsInside : List Ends → List Ends → List ℕ → Type 0

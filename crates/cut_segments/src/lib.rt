@@ -8,4 +8,4 @@ mod segments;
 
 pub use inside::push_inside;
 pub use points::{cut_points, whole};
-pub use segments::{segments_between, segments_of};
+pub use segments::segments_between;

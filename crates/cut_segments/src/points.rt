@@ -1,6 +1,6 @@
 //! The cut points of a list of ranges in the whole address space.
 ghost use Rattle.std.specs.Prelude.{◌≡◌, IfOk};
-ghost use Rattle.cut_segments.specs.CutPoints.{AreCutsOf, whole};
+ghost use Rattle.source_changes.specs.CutPoints.{AreCutsOf, whole};
 
 use geo_addr::{Memory, Range};
 use split_core::cuts;

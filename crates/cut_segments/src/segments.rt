@@ -21,19 +21,6 @@ struct Mark {
     reach: Option<u128>,
 }
 
-/// The touched grounds as ascending ranges that are disjoint, cut at the given points.
-///
-/// The grounds may overlap and come in any order, and so may the points.
-pub fn segments_of(alloc: Global, touched: &[Range], cuts: &[u128]) -> Result<Vec<Range>, Memory>
-    ensures { IfOk result (λ segments. AreSegments touched.now cuts.now segments.items) }
-{
-    let mut points = Vec::with_capacity(alloc, cuts.len())?;
-    points.extend_from_slice(cuts)?;
-    points.sort_unstable();
-    let segments = segments_between(alloc, touched, points.as_slice())?;
-    Ok(segments)
-}
-
 /// The touched grounds as ascending ranges that are disjoint, cut at ascending points.
 ///
 /// The grounds may overlap and come in any order.

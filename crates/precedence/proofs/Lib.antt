@@ -1,2 +1,6 @@
+pub mod FeedLemmas
 pub mod NoteLemmas
+pub mod RowLemmas
+pub mod SharedLemmas
 pub mod SourceLemmas
+pub mod StatisticsLemmas

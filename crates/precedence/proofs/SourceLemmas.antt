@@ -17,7 +17,8 @@ use Rattle.geo_terms.specs.Sources.{InForce}
 use Rattle.geo_terms.specs.declared.statement.Reference.{Reference}
 use Rattle.cut_segments.proofs.CutLemmas.{all_cuts, all_of_ranges}
 use Rattle.cut_segments.proofs.InsideLemmas.{kept_from}
-use Rattle.cut_segments.specs.CutPoints.{whole, AreCutsInside}
+use Rattle.source_changes.specs.CutPoints.{whole}
+use Rattle.cut_segments.specs.CutPoints.{AreCutsInside}
 use Rattle.precedence.specs.CutPoints.{AreSourceSegments, IsConstantBetween}
 use Rattle.source_changes.specs.Touched.{is_touched}
 use Rattle.cut_segments.specs.Segments.{AreSegments}

@@ -7,7 +7,7 @@ use Rattle.geo_terms.specs.Cuts.{statement_ranges}
 use Rattle.geo_terms.specs.Precedence.{spoken_at}
 use Rattle.geo_terms.specs.Sources.{InForce}
 use Rattle.source_changes.specs.Touched.{is_touched}
-use Rattle.cut_segments.specs.CutPoints.{AreCutsOf}
+use Rattle.source_changes.specs.CutPoints.{AreCutsOf}
 
 -- the cut points of the sources in the whole address space
 abbrev pub AreCutPoints : InForce → List ℕ → Type 0

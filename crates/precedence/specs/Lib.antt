@@ -1,2 +1,4 @@
 pub mod CutPoints
+pub mod Delegations
+pub mod Rows
 pub mod Why

@@ -2,13 +2,17 @@
 //! cut points and segments.
 #![tactic(auto)]
 
+mod aliases;
+mod delegations;
 mod near;
+mod notes;
+mod overriding;
+mod points;
 mod sources;
+mod statistics;
 mod why;
 
-pub use authority::DropFault;
-pub use cut_segments::segments_of;
-pub use kept_sources::ReadyFeed;
+pub use authority::{DropFault, ReadyFeed};
 pub use near::Near;
 pub use sources::Sources;
 pub use why::Why;

@@ -3,27 +3,33 @@ ghost use Rattle.std.specs.Prelude.{◌≡◌};
 ghost use Rattle.std.specs.Option.{option_copied};
 ghost use Rattle.geo_terms.specs.Precedence.{said_place};
 
+use crate::aliases::{push_dump_aliases, push_feed_aliases, push_file_aliases};
 use crate::near::Near;
+use crate::notes::{push_dump_notes, push_feed_notes, push_file_notes};
+use crate::overriding::Overriding;
+use crate::points::push_feeds_inside;
+use crate::statistics::Statistics;
 use crate::why::Why;
-use authority::DropFault;
+use authority::{Authority, DropFault, ReadyFeed};
 use cut_segments::{push_inside, segments_between, whole};
 use geo_addr::{Addr, Block, Memory, Range};
 use geo_terms::{
     Delegation, Dump, Entry, Feed, Note, Override, Overrides, Place, Reference, Said, Stats, home,
 };
-use kept_sources::{Overriding, ReadyFeed, Speaking, Statistics};
 use std::alloc::Global;
 use std::marker::Model;
 use std::sync::Arc;
 
 /// The sources in force.
 ///
-/// Each kind is kept with an index of its own, which is built when a source of that kind is set or
-/// dropped, so that an address is looked up by halving.
+/// References, delegations and overrides have an index each, and each feed has one of its entries,
+/// so that an address is looked up by halving. Feeds and overrides come with theirs; those of
+/// references and of delegations are made by `make_ready` where a source changed since, and until
+/// then each statement is looked at for an answer.
 #[derive(Debug, Drop)]
 pub struct Sources {
     alloc: Global,
-    speaking: Speaking,
+    authority: Authority,
     statistics: Statistics,
     overriding: Overriding,
 }
@@ -34,8 +40,8 @@ impl Model for Sources {
     ghost Value = { InForce };
 
     ghost view = { λ s. record {
-      dumps = s.speaking.dumps;
-      feeds = s.speaking.feeds;
+      dumps = s.authority.dumps;
+      feeds = s.authority.feeds;
       stats = s.statistics;
       overrides = s.overriding;
     } };
@@ -53,13 +59,16 @@ impl Sources {
     ghost use Rattle.authority.specs.Held.{slot_of, url_of};
     ghost use Rattle.geo_terms.specs.Covering.{covering};
     ghost use Rattle.geo_terms.specs.Cuts.{statement_ranges};
-    ghost use Rattle.geo_terms.specs.PlaceForm.{same_text};
     ghost use Rattle.geo_terms.specs.Precedence.{first_delegation, first_override, reasons_at};
     ghost use Rattle.geo_terms.specs.Precedence.{record_at, speaker, speaking_entry, spoken_at};
     ghost use Rattle.geo_terms.specs.Report.{alias_notes, reader_notes, report};
     ghost use Rattle.geo_terms.specs.Sources.{feed_of, no_sources, references};
-    ghost use Rattle.geo_terms.specs.SlotOrder.{AreInOrder, placed, removed};
-    ghost use Rattle.cut_segments.specs.CutPoints.{AreCutsInside, whole};
+    ghost use Rattle.geo_terms.specs.SlotOrder.{AreInOrder};
+    ghost use Rattle.source_changes.specs.Changes.{DropDump, DropFeed, DropOverrides, DropStats};
+    ghost use Rattle.source_changes.specs.Changes.{SetDump, SetFeed, SetOverrides, SetStats};
+    ghost use Rattle.source_changes.specs.Changes.{after, named};
+    ghost use Rattle.source_changes.specs.CutPoints.{whole};
+    ghost use Rattle.cut_segments.specs.CutPoints.{AreCutsInside};
     ghost use Rattle.precedence.specs.CutPoints.{AreSourceSegments, IsConstantBetween};
     ghost use Rattle.source_changes.specs.Touched.{is_touched};
     ghost use Rattle.precedence.specs.Why.{reasons_of};
@@ -71,7 +80,7 @@ impl Sources {
     {
         Sources {
             alloc,
-            speaking: Speaking::new(alloc),
+            authority: Authority::new(alloc),
             statistics: Statistics::new(alloc),
             overriding: Overriding::new(),
         }
@@ -81,40 +90,36 @@ impl Sources {
     ///
     /// After `Memory` the given dump is dropped.
     pub fn set_rpsl(&mut self, dump: Dump) -> Result<Option<Arc<Dump>>, Memory>
-        ensures sources { OnOk result
-            (self.new ≡ record self.old { dumps = placed (λ d. d.slot) dump self.old.dumps }) }
-        ensures old { IfOk result (λ old. option_map arc_value old
-            ≡ find (λ d. same_text d.slot dump.slot) self.old.dumps) }
+        ensures sources { OnOk result (self.new ≡ after (SetDump dump) self.old) }
+        ensures old { IfOk result
+            (λ old. option_map arc_value old ≡ named (λ d. d.slot) dump.slot self.old.dumps) }
         ensures err { OnErr result (self.new ≡ self.old) }
     {
-        self.speaking.set_dump(dump)
+        self.authority.set_dump(dump)
     }
 
-    /// Takes the dump of a slot out of force, and hands it back.
+    /// Takes the dump of a slot out of force, and hands it back. It takes no memory.
     pub fn drop_rpsl(&mut self, slot: &str) -> Result<Arc<Dump>, DropFault>
-        ensures sources { OnOk result
-            (self.new ≡ record self.old { dumps = removed (λ d. d.slot) slot.now self.old.dumps }) }
+        ensures sources { OnOk result (self.new ≡ after (DropDump slot.now) self.old) }
         ensures old { IfOk result
-            (λ old. Some (arc_value old) ≡ find (λ d. same_text d.slot slot.now) self.old.dumps) }
-        ensures not_there { IfErr result (λ fault. fault ≡ DropFault.NotThere
-            ↔ (find (λ d. same_text d.slot slot.now) self.old.dumps ≡ None)) }
+            (λ old. Some (arc_value old) ≡ named (λ d. d.slot) slot.now self.old.dumps) }
+        ensures not_there { IfErr result (λ fault. (fault ≡ DropFault.NotThere)
+            × (named (λ d. d.slot) slot.now self.old.dumps ≡ None)) }
         ensures err { OnErr result (self.new ≡ self.old) }
     {
-        self.speaking.drop_dump(slot)
+        self.authority.drop_dump(slot)
     }
 
     /// Sets a feed, which replaces the one with the same URL, and hands the old one back.
     ///
     /// After `Memory` the given feed is dropped.
     pub fn set_feed(&mut self, feed: Feed) -> Result<Option<Arc<Feed>>, Memory>
-        ensures sources { OnOk result
-            (self.new ≡ record self.old { feeds = placed (λ f. f.url) feed self.old.feeds }) }
-        ensures old { IfOk result (λ old. option_map arc_value old
-            ≡ find (λ f. same_text f.url feed.url) self.old.feeds) }
+        ensures sources { OnOk result (self.new ≡ after (SetFeed feed) self.old) }
+        ensures old { IfOk result
+            (λ old. option_map arc_value old ≡ named (λ f. f.url) feed.url self.old.feeds) }
         ensures err { OnErr result (self.new ≡ self.old) }
     {
-        let feed = ReadyFeed::of(self.alloc, feed)?;
-        self.set_ready_feed(feed)
+        self.authority.set_feed(feed)
     }
 
     /// Puts a feed that is ready over the one with the same URL, and hands the old one
@@ -122,26 +127,24 @@ impl Sources {
     ///
     /// After `Memory` the given feed is dropped.
     pub fn set_ready_feed(&mut self, feed: ReadyFeed) -> Result<Option<Arc<Feed>>, Memory>
-        ensures sources { OnOk result
-            (self.new ≡ record self.old { feeds = placed (λ f. f.url) feed self.old.feeds }) }
-        ensures old { IfOk result (λ old. option_map arc_value old
-            ≡ find (λ f. same_text f.url feed.url) self.old.feeds) }
+        ensures sources { OnOk result (self.new ≡ after (SetFeed feed) self.old) }
+        ensures old { IfOk result
+            (λ old. option_map arc_value old ≡ named (λ f. f.url) feed.url self.old.feeds) }
         ensures err { OnErr result (self.new ≡ self.old) }
     {
-        self.speaking.set_feed(feed)
+        self.authority.set_ready_feed(feed)
     }
 
     /// Takes the feed of a URL out of force, and hands it back. It takes no memory.
     pub fn drop_feed(&mut self, url: &str) -> Result<Arc<Feed>, DropFault>
-        ensures sources { OnOk result
-            (self.new ≡ record self.old { feeds = removed (λ f. f.url) url.now self.old.feeds }) }
+        ensures sources { OnOk result (self.new ≡ after (DropFeed url.now) self.old) }
         ensures old { IfOk result
-            (λ old. Some (arc_value old) ≡ find (λ f. same_text f.url url.now) self.old.feeds) }
-        ensures not_there { IfErr result (λ fault. fault ≡ DropFault.NotThere
-            ↔ (find (λ f. same_text f.url url.now) self.old.feeds ≡ None)) }
+            (λ old. Some (arc_value old) ≡ named (λ f. f.url) url.now self.old.feeds) }
+        ensures not_there { IfErr result (λ fault. (fault ≡ DropFault.NotThere)
+            × (named (λ f. f.url) url.now self.old.feeds ≡ None)) }
         ensures err { OnErr result (self.new ≡ self.old) }
     {
-        self.speaking.drop_feed(url)
+        self.authority.drop_feed(url)
     }
 
     /// Sets a statistics file, which replaces the one with the same slot,
@@ -149,23 +152,21 @@ impl Sources {
     ///
     /// After `Memory` the given file is dropped.
     pub fn set_stats(&mut self, stats: Stats) -> Result<Option<Arc<Stats>>, Memory>
-        ensures sources { OnOk result
-            (self.new ≡ record self.old { stats = placed (λ t. t.slot) stats self.old.stats }) }
-        ensures old { IfOk result (λ old. option_map arc_value old
-            ≡ find (λ t. same_text t.slot stats.slot) self.old.stats) }
+        ensures sources { OnOk result (self.new ≡ after (SetStats stats) self.old) }
+        ensures old { IfOk result
+            (λ old. option_map arc_value old ≡ named (λ t. t.slot) stats.slot self.old.stats) }
         ensures err { OnErr result (self.new ≡ self.old) }
     {
         self.statistics.set(stats)
     }
 
-    /// Takes the statistics file of a slot out of force, and hands it back.
+    /// Takes the statistics file of a slot out of force, and hands it back. It takes no memory.
     pub fn drop_stats(&mut self, slot: &str) -> Result<Arc<Stats>, DropFault>
-        ensures sources { OnOk result
-            (self.new ≡ record self.old { stats = removed (λ t. t.slot) slot.now self.old.stats }) }
+        ensures sources { OnOk result (self.new ≡ after (DropStats slot.now) self.old) }
         ensures old { IfOk result
-            (λ old. Some (arc_value old) ≡ find (λ t. same_text t.slot slot.now) self.old.stats) }
-        ensures not_there { IfErr result (λ fault. fault ≡ DropFault.NotThere
-            ↔ (find (λ t. same_text t.slot slot.now) self.old.stats ≡ None)) }
+            (λ old. Some (arc_value old) ≡ named (λ t. t.slot) slot.now self.old.stats) }
+        ensures not_there { IfErr result (λ fault. (fault ≡ DropFault.NotThere)
+            × (named (λ t. t.slot) slot.now self.old.stats ≡ None)) }
         ensures err { OnErr result (self.new ≡ self.old) }
     {
         self.statistics.remove(slot)
@@ -175,7 +176,7 @@ impl Sources {
     ///
     /// After `Memory` the given overrides are dropped.
     pub fn set_overrides(&mut self, rows: Overrides) -> Result<Option<Arc<Overrides>>, Memory>
-        ensures sources { OnOk result (self.new ≡ record self.old { overrides = Some rows }) }
+        ensures sources { OnOk result (self.new ≡ after (SetOverrides rows) self.old) }
         ensures old { IfOk result (λ old. option_map arc_value old ≡ self.old.overrides) }
         ensures err { OnErr result (self.new ≡ self.old) }
     {
@@ -184,7 +185,7 @@ impl Sources {
 
     /// Takes the overrides out of force, and hands them back. It takes no memory.
     pub fn drop_overrides(&mut self) -> Result<Arc<Overrides>, DropFault>
-        ensures sources { OnOk result (self.new ≡ record self.old { overrides = None }) }
+        ensures sources { OnOk result (self.new ≡ after DropOverrides self.old) }
         ensures old { IfOk result (λ old. Some (arc_value old) ≡ self.old.overrides) }
         ensures not_there { IfErr result
             (λ fault. (fault ≡ DropFault.NotThere) × (self.old.overrides ≡ None)) }
@@ -196,27 +197,43 @@ impl Sources {
         }
     }
 
+    /// Makes what answers are looked up in, where sources changed since. Before many questions this
+    /// is worth its cost: one sort of all references and one of all delegations.
+    pub fn make_ready(&mut self) -> Result<(), Memory>
+        ensures { self.new ≡ self.old }
+    {
+        self.authority.make_ready()?;
+        self.statistics.make_ready()
+    }
+
     /// The dumps in force, ascending by the bytes of their slots.
     pub fn dumps(&self) -> &[Arc<Dump>]
         ensures dumps { map arc_value result.now ≡ self.now.dumps }
         ensures ascending { AreInOrder slot_of result.now }
     {
-        self.speaking.authority().dumps()
+        self.authority.dumps()
     }
 
     /// The feeds in force, ascending by the bytes of their URLs.
-    pub fn feeds(&self) -> &[Arc<Feed>]
-        ensures feeds { map arc_value result.now ≡ self.now.feeds }
+    pub fn feeds(&self) -> &[ReadyFeed]
+        ensures feeds { result.now ≡ self.now.feeds }
         ensures ascending { AreInOrder url_of result.now }
     {
-        self.speaking.authority().feeds()
+        self.authority.feeds()
     }
 
-    /// The feed of a URL.
+    /// The dump of a slot, by halving.
+    pub fn dump_of(&self, slot: &str) -> Option<&Dump>
+        ensures { option_copied result ≡ named (λ d. d.slot) slot.now self.now.dumps }
+    {
+        self.authority.dump_of(slot)
+    }
+
+    /// The feed of a URL, by halving.
     pub fn feed_of(&self, url: &str) -> Option<&Feed>
         ensures { option_copied result ≡ feed_of self.now url.now }
     {
-        self.speaking.authority().feed_of(url)
+        self.authority.feed_of(url)
     }
 
     /// The first reference of this URL, in the order of references, whose range is of the block's
@@ -224,7 +241,7 @@ impl Sources {
     pub fn covering(&self, block: Block, url: &str) -> Option<&Reference>
         ensures { option_copied result ≡ covering (references self.now) url.now block }
     {
-        self.speaking.authority().covering(block, url)
+        self.authority.covering(block, url)
     }
 
     /// The statistics files in force, ascending by the bytes of their slots.
@@ -233,6 +250,13 @@ impl Sources {
         ensures ascending { AreInOrder (λ t. t.slot) self.now.stats }
     {
         self.statistics.files()
+    }
+
+    /// The statistics file of a slot, by halving.
+    pub fn stats_of(&self, slot: &str) -> Option<&Stats>
+        ensures { option_copied result ≡ named (λ t. t.slot) slot.now self.now.stats }
+    {
+        self.statistics.file_of(slot)
     }
 
     /// The overrides in force.
@@ -274,21 +298,21 @@ impl Sources {
     fn speaker_at(&self, at: Addr) -> Option<&Reference>
         ensures { option_copied result ≡ speaker self.now at.0 }
     {
-        self.speaking.authority().speaker_at(at)
+        self.authority.speaker_at(at)
     }
 
     #[tactic(auto, unfolding(geo_terms::specs::Precedence::speaking_entry))]
     fn entry_at(&self, at: Addr) -> Option<&Entry>
         ensures { option_copied result ≡ speaking_entry self.now at.0 }
     {
-        self.speaking.authority().entry_at(at)
+        self.authority.entry_at(at)
     }
 
     #[tactic(auto, unfolding(geo_terms::specs::Precedence::speaking_entry))]
     fn entry_near(&self, at: Addr, near: &mut Near) -> Option<&Entry>
         ensures { option_copied result ≡ speaking_entry self.now at.0 }
     {
-        self.speaking.authority().entry_near(at, &mut near.entry)
+        self.authority.entry_near(at, &mut near.entry)
     }
 
     /// What the sources say of an address. The two blocks of IPv6 addresses that carry IPv4
@@ -354,41 +378,17 @@ impl Sources {
         self.spoken_near(Addr(segment.first), near)
     }
 
-    /// The records of several segments, in their order.
-    pub fn choices(&self, segments: &[Range]) -> Result<Vec<Option<&Place>>, Memory>
-        ensures { IfOk result (λ choices. map option_copied choices.items
-            ≡ map (λ r. spoken_at self.now r.first) segments.now) }
-    {
-        let mut choices = Vec::with_capacity(self.alloc, segments.len())?;
-        let mut near = Near::default();
-        for segment in segments {
-            choices.push(self.choice_near(*segment, &mut near))?;
-        }
-        Ok(choices)
-    }
-
     /// The notes of all sources, in the order of a report.
     pub fn report(&self) -> Result<Vec<Note>, Memory>
         ensures { IfOk result (λ notes. notes.items ≡ report self.now) }
     {
         let mut notes = Vec::new(self.alloc);
         self.push_reader_notes(&mut notes)?;
-        let mut joint = self.speaking.authority().notes()?;
+        let mut joint = self.authority.notes()?;
         notes.append(&mut joint)?;
         self.push_alias_notes(&mut notes)?;
         notes.sort_unstable_by(|x, y| x.order(y));
         Ok(notes)
-    }
-
-    /// The ranges of all statements in force.
-    pub fn ranges(&self) -> Result<Vec<Range>, Memory>
-        ensures { IfOk result (λ ranges. ranges.items ≡ statement_ranges self.now) }
-    {
-        let mut ranges = Vec::new(self.alloc);
-        self.speaking.push_ranges(&mut ranges)?;
-        self.statistics.push_ranges(&mut ranges)?;
-        self.overriding.push_ranges(&mut ranges)?;
-        Ok(ranges)
     }
 
     /// The points at which the statements in force cut a range: ascending, each once.
@@ -431,7 +431,7 @@ impl Sources {
     {
         Ok(Sources {
             alloc: self.alloc,
-            speaking: self.speaking.snapshot()?,
+            authority: self.authority.snapshot()?,
             statistics: self.statistics.snapshot()?,
             overriding: self.overriding.snapshot()?,
         })
@@ -440,16 +440,18 @@ impl Sources {
     fn push_reader_notes(&self, notes: &mut Vec<Note>) -> Result<(), Memory>
         ensures { OnOk result (notes.new.items ≡ notes.old.items ++ reader_notes self.now) }
     {
-        self.speaking.push_notes(notes)?;
-        self.statistics.push_notes(notes)?;
+        push_dump_notes(notes, self.authority.dumps())?;
+        push_feed_notes(notes, self.authority.feeds())?;
+        push_file_notes(notes, self.statistics.files())?;
         self.overriding.push_notes(notes)
     }
 
     fn push_alias_notes(&self, notes: &mut Vec<Note>) -> Result<(), Memory>
         ensures { OnOk result (notes.new.items ≡ notes.old.items ++ alias_notes self.now) }
     {
-        self.speaking.push_alias_notes(notes)?;
-        self.statistics.push_alias_notes(notes)?;
+        push_dump_aliases(notes, self.authority.dumps())?;
+        push_feed_aliases(notes, self.authority.feeds())?;
+        push_file_aliases(notes, self.statistics.files())?;
         self.overriding.push_alias_notes(notes)
     }
 
@@ -470,11 +472,16 @@ impl Sources {
         Ok(bounds)
     }
 
-    // How many cut points the sources have, those of each kind by themselves.
+    // About how many cut points the sources have, those of each kind by themselves.
     fn count(&self) -> usize {
-        let rows = self.overriding.cuts().len();
-        let delegations = self.statistics.cuts().len();
-        (self.speaking.count().saturating_add(delegations)).saturating_add(rows)
+        let mut count = self
+            .authority
+            .count()
+            .saturating_add(self.statistics.count());
+        for feed in self.authority.feeds() {
+            count = count.saturating_add(feed.cuts().len());
+        }
+        count.saturating_add(self.overriding.cuts().len())
     }
 
     // How much room to make for the cut points inside ascending ranges. One range is mostly the
@@ -491,9 +498,12 @@ impl Sources {
             (λ points. AreCutsInside (statement_ranges self.now) bounds.now points.items) }
         ensures ascending { IfOk result (λ points. IsStrictlyIncreasing points.items) }
     {
+        let speakers = self.authority.speakers()?;
+        let delegations = self.statistics.index()?;
         let mut points = Vec::with_capacity(self.alloc, self.room_in(bounds))?;
-        self.speaking.push_inside(&mut points, bounds)?;
-        push_inside(&mut points, self.statistics.cuts(), bounds)?;
+        push_inside(&mut points, speakers.cuts.as_slice(), bounds)?;
+        push_feeds_inside(&mut points, self.authority.feeds(), bounds)?;
+        push_inside(&mut points, delegations.cuts.as_slice(), bounds)?;
         push_inside(&mut points, self.overriding.cuts(), bounds)?;
         // A merge: each list that was appended ascends.
         points.sort()?;

@@ -1,13 +1,14 @@
 pub mod Counts
 pub mod Firsts
 pub mod Found
-pub mod Paired
 pub mod Grounds
 pub mod Law
 pub mod Merges
 pub mod Orders
+pub mod Paired
 pub mod Partners
 pub mod Several
+pub mod ShelfLemmas
 pub mod Statements
 pub mod Stays
 pub mod Swaps

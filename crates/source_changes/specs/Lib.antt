@@ -1,5 +1,6 @@
 pub mod Changed
 pub mod Changes
+pub mod CutPoints
 pub mod Keeping
 pub mod Laws
 pub mod Merging

@@ -5,6 +5,7 @@
 mod changed;
 mod compared;
 pub mod laws;
+pub mod shelf;
 
 pub use changed::{changed_grounds, keep_all, push_borrows};
 pub use compared::Compared;

@@ -33,7 +33,7 @@ use trie_core::{Part, Root, Store, StoreFault};
 #[tactic(auto, unfolding(crate::specs::Touch::bound, crate::specs::Touch::few_places))]
 pub(crate) fn repaint<R: Threads + Sync, G: Gate, L: Ledger>(
     forks: &Forks<R, G>,
-    sources: &Sources,
+    sources: &mut Sources,
     touched: &[Range],
     store: &mut Store,
     places: &mut Places,
@@ -41,13 +41,14 @@ pub(crate) fn repaint<R: Threads + Sync, G: Gate, L: Ledger>(
     steps: &mut Steps<L>,
 ) -> Result<Root, EmitFault>
     requires root { IsRootOf store.old root }
-    requires base { HasBase store.old places.old root touched.now sources.now }
+    requires base { HasBase store.old places.old root touched.now sources.old }
     ensures of { IfOk result (λ r. IsRootOf store.new r) }
-    ensures answers { IfOk result (λ r. AnswersAll store.new places.new r sources.now) }
+    ensures answers { IfOk result (λ r. AnswersAll store.new places.new r sources.old) }
+    ensures same { sources.new ≡ sources.old }
     ensures ticks { steps.old ≤ steps.new }
-    ensures few_ticks { steps.new ≤ steps.old + bound touched.now sources.now }
+    ensures few_ticks { steps.new ≤ steps.old + bound touched.now sources.old }
     ensures grows { GrowsBy store.old store.new (steps.new - steps.old) }
-    ensures places { PlacesGrowBy places.old places.new (few_places touched.now sources.now) }
+    ensures places { PlacesGrowBy places.old places.new (few_places touched.now sources.old) }
     ensures full { result ≡ Err EmitFault.TooLarge
         → (length store.new + 1 ≡ 2 ^ 32) ⊎ (length places.new + 1 ≡ 2 ^ 32) }
     ensures idle { touched.now ≡ [] → (result ≡ Ok root) × (store.new ≡ store.old)
@@ -63,10 +64,13 @@ pub(crate) fn repaint<R: Threads + Sync, G: Gate, L: Ledger>(
     with_aliases(store, painted, steps)
 }
 
-// The touched grounds, cut where something else may be said.
-fn cut(sources: &Sources, touched: &[Range]) -> Result<Vec<Range>, Memory>
-    ensures { IfOk result (λ segments. AreSteady sources.now touched.now segments.items) }
+// The touched grounds, cut where something else may be said. From then on the sources are ready.
+fn cut(sources: &mut Sources, touched: &[Range]) -> Result<Vec<Range>, Memory>
+    ensures segments { IfOk result
+        (λ segments. AreSteady sources.old touched.now segments.items) }
+    ensures same { sources.new ≡ sources.old }
 {
+    sources.make_ready()?;
     let segments = sources.segments(touched)?;
     Ok(segments)
 }

@@ -151,7 +151,7 @@ impl Session {
     {
         let root = repaint(
             forks,
-            &self.sources,
+            &mut self.sources,
             self.touched.as_slice(),
             &mut self.store,
             &mut self.places,
@@ -182,7 +182,7 @@ impl Session {
     {
         let root = repaint(
             forks,
-            &self.sources,
+            &mut self.sources,
             self.touched.as_slice(),
             &mut self.store,
             &mut self.places,

@@ -35,11 +35,30 @@ fn push_records(
     Some(())
 }
 
-/// The records of several addresses.
-pub fn records(alloc: Global, sources: &Sources, addresses: &[&str]) -> Option<String> {
+fn records_by(alloc: Global, sources: &Sources, addresses: &[&str]) -> Option<String> {
     let mut text = String::new(alloc);
     push_records(alloc, sources, addresses, &mut text)?;
     Some(text)
+}
+
+// The records by the same sources made ready.
+fn ready_records(alloc: Global, sources: &Sources, addresses: &[&str]) -> Option<String> {
+    let mut ready = sources.snapshot().ok()?;
+    let made = ready.make_ready().is_ok();
+    let text = records_by(alloc, &ready, addresses);
+    drop(ready);
+    if made { text } else { None }
+}
+
+/// The records of several addresses, which are the same by sources that are ready.
+pub fn records(alloc: Global, sources: &Sources, addresses: &[&str]) -> Option<String> {
+    let text = records_by(alloc, sources, addresses)?;
+    let ready = ready_records(alloc, sources, addresses)?;
+    if ready.as_str() == text.as_str() {
+        Some(text)
+    } else {
+        None
+    }
 }
 
 fn override_line(row: Option<&Override>) -> u64 {

@@ -62,7 +62,7 @@ fn make_feeds(alloc: Global, sources: &mut Authority, feeds: &mut Vec<Feed>) -> 
     for line in 0..64 {
         let mut again = number;
         feeds.push(made_feed(alloc, line, &mut number)?).ok()?;
-        set_feed(sources, alloc, made_feed(alloc, line, &mut again)?)?;
+        set_feed(sources, made_feed(alloc, line, &mut again)?)?;
     }
     Some(())
 }
@@ -96,6 +96,7 @@ fn as_the_plain_look_ups(rt: HostRuntime) {
     let mut feeds = Vec::new(rt.alloc());
     assert!(rt; make_dumps(rt.alloc(), &mut sources, &mut dumps).is_some());
     assert!(rt; make_feeds(rt.alloc(), &mut sources, &mut feeds).is_some());
+    assert!(rt; sources.make_ready().is_ok());
     assert_eq!(rt;
         first_wrong(&sources, dumps.as_slice(), feeds.as_slice()),
         1200

@@ -1,5 +1,5 @@
 //! Objects and feeds: who speaks at an address, by which entry, and the notes on both.
-use authority::{Authority, DropFault, IndexedFeed};
+use authority::{Authority, DropFault};
 use geo_addr::{List, Range, Text, parse_addr, parse_block};
 use geo_terms::{Dump, Entry, Feed, Note, Reference, Said, note_text};
 use std::alloc::Global;
@@ -184,8 +184,7 @@ fn set_dump(sources: &mut Authority, alloc: Global, row: Row<'_>) -> Option<bool
 }
 
 /// Sets a feed, and says whether another one was there.
-pub fn set_feed(sources: &mut Authority, alloc: Global, feed: Feed) -> Option<bool> {
-    let feed = IndexedFeed::of(alloc, feed).ok()?;
+pub fn set_feed(sources: &mut Authority, feed: Feed) -> Option<bool> {
     match sources.set_feed(feed) {
         Ok(old) => Some(old.is_some()),
         Err(_) => None,
@@ -208,6 +207,14 @@ fn has_lines(sources: &Authority, address: &str, speaker: u64, entry: u64) -> Op
         entry_line(sources.entry_at(at)),
     );
     Some(found == (speaker, entry))
+}
+
+// Whether the answers are these, by looking at each reference and by the index of them.
+fn both_say(sources: &mut Authority, address: &str, speaker: u64, entry: u64) -> Option<bool> {
+    let plain = has_lines(sources, address, speaker, entry)?;
+    sources.make_ready().ok()?;
+    let ready = has_lines(sources, address, speaker, entry)?;
+    Some(plain && ready)
 }
 
 fn push_notes(alloc: Global, notes: &[Note], text: &mut String) -> Option<()> {
@@ -246,11 +253,11 @@ fn agrees(sources: &mut Authority, alloc: Global, step: &Step) -> Option<bool> {
         Step::Dump(row) => set_dump(sources, alloc, row),
         Step::Feed(url, line, block, replaced) => {
             let feed = feed(alloc, url, line, block)?;
-            Some(set_feed(sources, alloc, feed)? == replaced)
+            Some(set_feed(sources, feed)? == replaced)
         }
         Step::DropDump(slot, there) => Some(came_out(sources.drop_dump(slot).err(), there)),
         Step::DropFeed(url, there) => Some(came_out(sources.drop_feed(url).err(), there)),
-        Step::Lines(address, speaker, entry) => has_lines(sources, address, speaker, entry),
+        Step::Lines(address, speaker, entry) => both_say(sources, address, speaker, entry),
         Step::Notes(wanted) => has_notes(alloc, sources, wanted),
         Step::Shape(dumps, feeds, by_a, by_b) => {
             Some(has_shape(sources, dumps, feeds, (by_a, by_b)))

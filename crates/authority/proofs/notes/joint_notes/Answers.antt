@@ -1,5 +1,4 @@
 use Rattle.std.proofs.Common.{◌≡◌, ◌∙◌, ◌++◌, List, ap, sym, subst, rules, map, refl, append_assoc}
-use Rattle.std.specs.Arc.{arc_value}
 use Rattle.std.specs.List.{flat_map}
 use Rattle.std.specs.List.Sorted.{IsSortedBy}
 use Rattle.std.specs.Ordering.{is_lt}
@@ -9,7 +8,6 @@ use Rattle.geo_terms.specs.Report.{in_order, uncovered_in}
 use Rattle.geo_terms.specs.SourceForm.{FeedParts}
 use Rattle.geo_terms.specs.declared.note.Note.{Note}
 use Rattle.geo_terms.specs.declared.statement.Reference.{Reference}
-use Rattle.authority.specs.Held.{indexed}
 use Rattle.authority.specs.Members.{HaveAlike, weight}
 use Rattle.authority.specs.Ranked.{joint_in, outranked_in, unfed_in}
 use Rattle.authority.proofs.NoteOrder.{note_exact, note_total}
@@ -19,16 +17,16 @@ use Rattle.authority.proofs.notes.joint_notes.Goals as goal
 
 pub returns : goal.returns
 returns c =
-    let fs : List FeedParts = map arc_value c.args.feeds.now in
+    let fs : List FeedParts = c.args.feeds.now in
     let rs : List Reference = c.references-refs.result.now in
-    let is : rs ≡ indexed c.args.index.now = c.references-refs.ensures in
+    let is : rs ≡ c.args.index.now = c.references-refs.ensures in
     let found : List Note = c.in_ok-notes.notes.items in
     let all : List Note = c.push_uncovered.new.notes.items in
     let new : List Note = c.sort_unstable_by.new.self.items in
     let joined : all ≡ found ++ (unfed_in rs fs ++ flat_map (uncovered_in rs) fs) =
     c.in_ok-push_uncovered.ensures ∙ ap
-    (λ ns. ns ++ flat_map (uncovered_in (indexed c.args.index.now)) fs) c.in_ok-push_unfed.ensures
-    ∙ append_assoc found (unfed_in rs fs) (flat_map (uncovered_in (indexed c.args.index.now)) fs)
+    (λ ns. ns ++ flat_map (uncovered_in c.args.index.now) fs) c.in_ok-push_unfed.ensures
+    ∙ append_assoc found (unfed_in rs fs) (flat_map (uncovered_in c.args.index.now) fs)
     ∙ ap (λ qs. found ++ (unfed_in rs fs ++ flat_map (uncovered_in qs) fs)) (sym is) in
     let alike : HaveAlike (joint_in rs fs) all =
     λ f. ap (weight f) joined

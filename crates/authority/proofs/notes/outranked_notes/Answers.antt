@@ -1,4 +1,4 @@
-use Rattle.std.proofs.Common.{◌≡◌, ◌∙◌, Bor, List, ap, subst, rules, map, None}
+use Rattle.std.proofs.Common.{◌≡◌, ◌∙◌, ◌++◌, Bor, List, ap, subst, rules, map, None}
 use Rattle.std.specs.List.Sorted.{IsPermutation, IsSortedBy}
 use Rattle.std.specs.Ordering.{is_lt}
 use Rattle.std.proofs.lemmas.List.Sorted.{IsPermutation-map, answers_always, ranks_by}
@@ -21,9 +21,14 @@ returns c =
     (ranks_by ranked_total (λ (x : Bor Reference). x.now))
     (answers_always _ _ _
     (λ f a r q k. let e : r ≡ ranked_cmp a.0.now.now a.1.0.now.now = search rules in ap is_lt e)) in
+    let borrowed : map (λ (y : Bor Reference). y.now) c.push_borrows.new.borrows.items
+    ≡ c.args.refs.now =
+    c.in_ok-push_borrows.ensures
+    ∙ ap (λ (bs : List (Bor Reference)). map (λ (y : Bor Reference). y.now) bs ++ c.args.refs.now)
+    c.new-ranked.ensures.items in
     let same : IsPermutation c.args.refs.now zs =
-    subst (λ (rs : List Reference). IsPermutation rs zs) c.in_ok-ranked.ensures
-    (IsPermutation-map (λ (y : Bor Reference). y.now) c.in_ok-ranked.ranked.items ys
+    subst (λ (rs : List Reference). IsPermutation rs zs) borrowed
+    (IsPermutation-map (λ (y : Bor Reference). y.now) c.push_borrows.new.borrows.items ys
     c.sort_unstable_by.ensures.permutation) in
     let found : c.in_ok-notes.notes.items ≡ map (note_on P08) (behind None zs) =
     c.in_ok-notes.ensures ∙ ap (λ (bs : List (Bor Reference)). map (note_on P08)

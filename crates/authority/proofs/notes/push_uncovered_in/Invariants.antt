@@ -1,5 +1,4 @@
 use Rattle.std.proofs.Common.{◌≡◌, ◌++◌, drop}
-use Rattle.authority.specs.Held.{indexed}
 use Rattle.authority.specs.Ranked.{uncovered_among}
 use Rattle.authority.proofs.notes.push_uncovered_in.Given as goal
 
@@ -7,5 +6,5 @@ use Rattle.authority.proofs.notes.push_uncovered_in.Given as goal
 abbrev pub invariant-loop-entry : goal.invariant-loop-entry
 invariant-loop-entry l =
     l.notes.items
-    ++ uncovered_among (indexed l.index) l.feed.url (drop l.entry-index l.feed.entries)
-    ≡ l.fn.notes.items ++ uncovered_among (indexed l.index) l.feed.url l.feed.entries
+    ++ uncovered_among l.index l.feed.url (drop l.entry-index l.feed.entries)
+    ≡ l.fn.notes.items ++ uncovered_among l.index l.feed.url l.feed.entries

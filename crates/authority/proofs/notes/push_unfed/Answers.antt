@@ -1,5 +1,4 @@
 use Rattle.std.proofs.Common.{◌∙◌, ◌+◌, ◌++◌, cond, List, [], ◌∷◌, ap, sym, map, drop, append_assoc}
-use Rattle.std.specs.Arc.{arc_value}
 use Rattle.std.specs.List.{find}
 use Rattle.std.specs.Option.{is_none}
 use Rattle.geo_terms.specs.PlaceForm.{same_text}
@@ -12,7 +11,7 @@ use Rattle.authority.proofs.notes.push_unfed.Goals as goal
 
 pub loop-reference-preserved : goal.loop-reference-preserved
 loop-reference-preserved c =
-    let fs : List FeedParts = map arc_value c.args.feeds.now in
+    let fs : List FeedParts = c.args.feeds.now in
     let one : List Note =
     cond (is_none (find (λ (f : FeedParts). same_text f.url c.reference-item.result.url) fs))
     (note_on P09 c.reference-item.result ∷ []) [] in

@@ -20,7 +20,7 @@ ranges_of rs rs' ps ps' same same' h = ap (map (λ (p : Part). p.range)) same' �
 pub paint-requires-clause-ascending : goal.paint-requires-clause-ascending
 paint-requires-clause-ascending g c =
     IsAscending-from_steady c.args.sources.now c.args.touched.now c.in_ok-segments.segments.items
-    c.as_slice-2.result.now c.in_ok-segments.ensures
+    c.as_slice-2.result.now c.in_ok-segments.ensures.segments
     (ranges_of _ _ _ _ c.as_slice.ensures.value c.as_slice-2.ensures.value
     c.in_ok-parts.ensures.ranges)
 
@@ -32,11 +32,13 @@ returns-clause-answers g c =
     c.in_ok-parts.ensures.ranges in
     let numbers =
     subst (λ (ps : List Part). All (HasNumber s c.numbered.new.places) ps)
-    (sym c.as_slice-2.ensures.value) c.in_ok-parts.ensures.numbers in
+    (sym c.as_slice-2.ensures.value)
+    (subst (λ (t : InForce). All (HasNumber t c.numbered.new.places) c.in_ok-parts.parts.items)
+    c.cut.ensures.same c.in_ok-parts.ensures.numbers) in
     let spoken : AnswersSpoken c.paint.new.store c.numbered.new.places c.in_ok-painted.painted s =
     AnswersSpoken-painted s c.args.touched.now c.in_ok-segments.segments.items
     c.as_slice-2.result.now c.args.store.now c.paint.new.store c.args.places.now
-    c.numbered.new.places _ c.args.root c.in_ok-painted.painted c.in_ok-segments.ensures ranges
+    c.numbered.new.places _ c.args.root c.in_ok-painted.painted c.in_ok-segments.ensures.segments ranges
     numbers c.in_ok-parts.ensures.places
     (spoken_elsewhere s c.args.store.now c.args.places.now c.args.root c.args.touched.now
     c.requires.base)
@@ -47,17 +49,17 @@ returns-clause-answers g c =
 pub returns-in_err-parts-clause-places : goal.returns-in_err-parts-clause-places
 returns-in_err-parts-clause-places g c =
     few_places_of c.args.sources.now c.args.touched.now c.in_ok-segments.segments.items _ _ _
-    c.in_ok-segments.ensures (ap length c.as_slice.ensures.value) c.numbered.ensures.places
+    c.in_ok-segments.ensures.segments (ap length c.as_slice.ensures.value) c.numbered.ensures.places
 
 pub returns-in_err-painted-clause-places : goal.returns-in_err-painted-clause-places
 returns-in_err-painted-clause-places g c =
     few_places_of c.args.sources.now c.args.touched.now c.in_ok-segments.segments.items _ _ _
-    c.in_ok-segments.ensures (ap length c.as_slice.ensures.value) c.numbered.ensures.places
+    c.in_ok-segments.ensures.segments (ap length c.as_slice.ensures.value) c.numbered.ensures.places
 
 pub returns-clause-places : goal.returns-clause-places
 returns-clause-places g c =
     few_places_of c.args.sources.now c.args.touched.now c.in_ok-segments.segments.items _ _ _
-    c.in_ok-segments.ensures (ap length c.as_slice.ensures.value) c.numbered.ensures.places
+    c.in_ok-segments.ensures.segments (ap length c.as_slice.ensures.value) c.numbered.ensures.places
 
 pub returns-in_err-painted-clause-few_ticks : goal.returns-in_err-painted-clause-few_ticks
 returns-in_err-painted-clause-few_ticks g c =
@@ -67,7 +69,7 @@ returns-in_err-painted-clause-few_ticks g c =
     omega (
       arith,
       few_parts c.args.sources.now c.args.touched.now _ c.as_slice-2.result.now
-          c.in_ok-segments.ensures ranges,
+          c.in_ok-segments.ensures.segments ranges,
       c.paint.ensures.few_ticks,
     )
 
@@ -79,7 +81,7 @@ returns-clause-few_ticks g c =
     omega (
       arith,
       few_parts c.args.sources.now c.args.touched.now _ c.as_slice-2.result.now
-          c.in_ok-segments.ensures ranges,
+          c.in_ok-segments.ensures.segments ranges,
       c.paint.ensures.few_ticks,
       c.with_aliases.ensures.few_ticks,
     )

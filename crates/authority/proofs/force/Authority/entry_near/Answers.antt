@@ -1,5 +1,4 @@
-use Rattle.std.proofs.Common.{◌∙◌, Some, ap, map}
-use Rattle.std.specs.Arc.{arc_value}
+use Rattle.std.proofs.Common.{◌∙◌, List, Some, ap}
 use Rattle.std.specs.List.{find}
 use Rattle.std.specs.Option.{option_copied}
 use Rattle.geo_terms.specs.First.{first_of}
@@ -19,8 +18,8 @@ pub returns : goal.returns
 unfolding speaking_entry
 returns c =
     c.entry_of.ensures
-    ∙ ap (λ fs. first_of entry_before (entries_within (entries_in
-    (find (λ (f : FeedParts). same_text f.url c.in_ok-speaker.speaker.now.url) (map arc_value fs)))
+    ∙ ap (λ (fs : List FeedParts). first_of entry_before (entries_within (entries_in
+    (find (λ (f : FeedParts). same_text f.url c.in_ok-speaker.speaker.now.url) fs))
     c.in_ok-speaker.speaker.now.range c.args.at.0)) c.as_slice.ensures.value
     ∙ ap (λ (s : InForce). entry_of s (Some c.in_ok-speaker.speaker.now) c.args.at.0) c.self.view_is
     ∙ ap (λ o. entry_of c.args.self.now o c.args.at.0) c.in_ok-speaker.ensures

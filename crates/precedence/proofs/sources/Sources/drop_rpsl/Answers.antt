@@ -1,14 +1,12 @@
 use Rattle.std.proofs.Common.{◌≡◌, None, subst}
-use Rattle.std.specs.List.{find}
-use Rattle.std.specs.Prelude.{◌↔◌}
 use Rattle.std.specs.Result.{IfErr}
 use Rattle.authority.specs.declared.fault.DropFault.{DropFault}
-use Rattle.geo_terms.specs.PlaceForm.{same_text}
 use Rattle.geo_terms.specs.Sources.{InForce}
+use Rattle.source_changes.specs.Changes.{named}
 use Rattle.precedence.proofs.sources.Sources.drop_rpsl.Goals as goal
 
 pub returns-clause-not_there : goal.returns-clause-not_there
 returns-clause-not_there c =
     subst (λ (s : InForce). IfErr c.drop_dump.result (λ (fault : DropFault).
-    fault ≡ DropFault.NotThere ↔ (find (λ t. same_text t.slot c.args.slot.now) s.dumps ≡ None)))
+    (fault ≡ DropFault.NotThere) × (named (λ x. x.slot) c.args.slot.now s.dumps ≡ None)))
     c.self.view_is c.drop_dump.ensures.not_there

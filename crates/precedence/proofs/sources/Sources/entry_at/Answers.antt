@@ -6,7 +6,7 @@ use Rattle.precedence.proofs.sources.Sources.entry_at.Goals as goal
 
 pub returns : goal.returns
 returns c =
-    c.entry_at.ensures ∙ ap (λ (s : InForce). speaking_entry s c.args.at.0) c.authority.ensures
-    ∙ entry_by_parts c.self.inside.speaking c.self.inside.statistics
+    c.entry_at.ensures
+    ∙ entry_by_parts c.self.inside.authority c.self.inside.statistics
     c.self.inside.overriding c.args.at.0
     ∙ ap (λ (s : InForce). speaking_entry s c.args.at.0) c.self.view_is

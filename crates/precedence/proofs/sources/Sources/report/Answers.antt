@@ -14,7 +14,6 @@ pub returns : goal.returns
 returns c =
     let joint : c.in_ok-joint.joint.items ≡ in_order note_cmp (joint_notes c.args.self.now) =
     c.in_ok-joint.ensures
-    ∙ ap (λ (s : InForce). in_order note_cmp (joint_notes s)) c.authority.ensures
     ∙ ap (λ (s : InForce). in_order note_cmp (joint_notes s)) c.self.view_is in
     let read : c.push_reader_notes.new.notes.items ≡ reader_notes c.args.self.now =
     c.in_ok-push_reader_notes.ensures

@@ -1,13 +1,14 @@
-use Rattle.std.proofs.Common.{◌≡◌, ◌<◌, ◌≤◌, ◌^◌, ℕ, List, length, Option, subst}
+use Rattle.std.proofs.Common.{◌≡◌, ◌<◌, ◌≤◌, ◌^◌, ℕ, List, length, Option, subst, sym}
 use Rattle.std.specs.Prelude.{Ok, option_map}
 use Rattle.geo_addr.specs.Bits.{bits_of}
 use Rattle.geo_terms.specs.PlaceForm.{PlaceParts}
 use Rattle.geo_terms.specs.Precedence.{record_at}
+use Rattle.geo_terms.specs.Sources.{InForce}
 use Rattle.least_nodes.specs.Laws.{Finds}
 use Rattle.least_nodes.specs.NodeList.{Member}
 use Rattle.mmdb_file.specs.PlaceValue.{place_value}
 use Rattle.mmdb_file.specs.Walk.{walk}
-use Rattle.update_session.specs.Kept.{Held}
+use Rattle.update_session.specs.Kept.{Held, IsSession}
 use Rattle.update_session.proofs.KeptLemmas.{IsSession-emitted, IsSession-grown}
 use Rattle.update_session.proofs.WriteLemmas.{leaf_is}
 use Rattle.update_session.proofs.session.Session.emit.Goals as goal
@@ -20,15 +21,19 @@ write-requires-clause-numbers g c = λ address k below is.
 pub invariant_of-self : goal.invariant_of-self
 invariant_of-self g c = (
   c.self.invariant.0,
-  IsSession-grown _ _ _ _ _ _ _ _ _ _ c.repaint.ensures.grows c.repaint.ensures.places
-      c.self.invariant.1,
+  subst (λ (s : InForce). IsSession s c.repaint.new.store c.repaint.new.places c.self.inside.root
+      c.self.inside.touched.items c.self.inside.marks.items) (sym c.repaint.ensures.same)
+      (IsSession-grown _ _ _ _ _ _ _ _ _ _ c.repaint.ensures.grows c.repaint.ensures.places
+      c.self.invariant.1),
 )
 
 pub invariant_of-self-in_err-file : goal.invariant_of-self-in_err-file
 invariant_of-self-in_err-file g c = (
   c.self.invariant.0,
-  IsSession-grown _ _ _ _ _ _ _ _ _ _ c.repaint.ensures.grows c.repaint.ensures.places
-      c.self.invariant.1,
+  subst (λ (s : InForce). IsSession s c.repaint.new.store c.repaint.new.places c.self.inside.root
+      c.self.inside.touched.items c.self.inside.marks.items) (sym c.repaint.ensures.same)
+      (IsSession-grown _ _ _ _ _ _ _ _ _ _ c.repaint.ensures.grows c.repaint.ensures.places
+      c.self.invariant.1),
 )
 
 pub returns-clause-walked : goal.returns-clause-walked
@@ -47,6 +52,9 @@ returns-clause-fewest g c =
 pub invariant_of-self-2 : goal.invariant_of-self-2
 invariant_of-self-2 g c = (
   c.self.invariant.0,
-  IsSession-emitted _ _ _ _ _ _ _ _ _ _ _ _ c.repaint.ensures.grows c.repaint.ensures.places
-      c.self.invariant.1 c.in_ok-root.ensures.of c.in_ok-root.ensures.answers c.clear.ensures.items,
+  subst (λ (s : InForce). IsSession s c.repaint.new.store c.repaint.new.places c.in_ok-root.root
+      c.clear.new.self.items c.self.inside.marks.items) (sym c.repaint.ensures.same)
+      (IsSession-emitted _ _ _ _ _ _ _ _ _ _ _ _ c.repaint.ensures.grows c.repaint.ensures.places
+      c.self.invariant.1 c.in_ok-root.ensures.of c.in_ok-root.ensures.answers
+      c.clear.ensures.items),
 )

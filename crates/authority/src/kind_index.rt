@@ -1,0 +1,39 @@
+//! What is kept of the statements of one kind.
+ghost use Rattle.std.specs.Prelude.{◌≡◌, map, All, IfOk, OnOk};
+ghost use Rattle.authority.specs.Kinds.{IsKindIndex};
+
+use geo_addr::Memory;
+use geo_terms::{FirstIndex, Statement};
+use source_changes::push_borrows;
+use std::alloc::Global;
+
+/// The first statement of a kind at each address, and the cut points of the kind's statements.
+#[derive(Debug, Drop)]
+pub struct KindIndex {
+    pub firsts: FirstIndex,
+    pub cuts: Vec<u128>,
+}
+
+impl KindIndex {
+    /// The index of these statements.
+    pub fn of<S: Statement>(alloc: Global, statements: &[S]) -> Result<KindIndex, Memory>
+        ensures index { IfOk result
+            (λ index. IsKindIndex S.order S.range statements.now index) }
+        ensures kept { OnOk result (All S.kept statements.now) }
+    {
+        let mut borrowed = Vec::new(alloc);
+        push_borrows(&mut borrowed, statements)?;
+        KindIndex::of_borrowed(alloc, borrowed.as_slice())
+    }
+
+    /// The index of these statements, which may lie in several lists.
+    pub fn of_borrowed<S: Statement>(alloc: Global, statements: &[&S]) -> Result<KindIndex, Memory>
+        ensures index { IfOk result
+            (λ index. IsKindIndex S.order S.range (map (λ s. s.now) statements.entry.now) index) }
+        ensures kept { OnOk result (All S.kept (map (λ s. s.now) statements.entry.now)) }
+    {
+        let firsts = FirstIndex::of(alloc, statements)?;
+        let cuts = firsts.cut_points(alloc)?;
+        Ok(KindIndex { firsts, cuts })
+    }
+}

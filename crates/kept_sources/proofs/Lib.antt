@@ -1,5 +1,0 @@
-pub mod CutLemmas
-pub mod RowLemmas
-pub mod ShelfLemmas
-pub mod SpeakingLemmas
-pub mod StatisticsLemmas

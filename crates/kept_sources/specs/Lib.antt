@@ -1,4 +1,0 @@
-pub mod Delegations
-pub mod FeedCuts
-pub mod Kinds
-pub mod Rows

@@ -1,0 +1,10 @@
+use Rattle.std.proofs.Common.{◌≡◌, ◌++◌, map, drop}
+use Rattle.std.specs.Arc.{arc_value}
+use Rattle.std.specs.List.{flat_map}
+use Rattle.precedence.proofs.delegations.rows_of.Given as goal
+
+-- the rows of the files that are left follow what was found
+abbrev pub invariant-loop-file : goal.invariant-loop-file
+invariant-loop-file l =
+    map (λ d. d.now) l.rows.items ++ flat_map (λ t. t.rows)
+    (map arc_value (drop l.file-index l.files)) ≡ flat_map (λ t. t.rows) (map arc_value l.files)

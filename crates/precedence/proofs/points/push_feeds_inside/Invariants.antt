@@ -1,0 +1,12 @@
+use Rattle.std.proofs.Common.{◌++◌, List, take}
+use Rattle.geo_addr.specs.Ranges.{Ends}
+use Rattle.cut_segments.specs.CutPoints.{AreCutsInside}
+use Rattle.precedence.proofs.FeedLemmas.{all_entries, entry_ranges}
+use Rattle.precedence.proofs.points.push_feeds_inside.Given as goal
+
+-- the cut points of the feeds so far are gathered beside those that were there
+abbrev pub invariant-loop-feed : goal.invariant-loop-feed
+invariant-loop-feed l =
+    (before : List Ends) → AreCutsInside before l.bounds l.fn.cuts.items
+    → AreCutsInside (before ++ entry_ranges (all_entries (take l.feed-index l.feeds))) l.bounds
+    l.cuts.items

@@ -1,0 +1,30 @@
+use Rattle.std.proofs.Common.{◌≡◌, ◌∙◌, List, Some, None, ap, map, refl, subst, sym}
+use Rattle.std.specs.Arc.{arc_value}
+use Rattle.std.specs.List.{find}
+use Rattle.std.specs.Option.{option_copied}
+use Rattle.geo_terms.specs.PlaceForm.{same_text}
+use Rattle.geo_terms.specs.SlotOrder.{placed, removed}
+use Rattle.geo_terms.specs.SourceForm.{StatsParts}
+use Rattle.authority.proofs.HeldLemmas.{clones_same, order_same}
+use Rattle.precedence.specs.Delegations.{AreFiles, AreIndexed, slot_of}
+use Rattle.precedence.proofs.StatisticsLemmas.{file_found, files_placed, files_removed, made_same}
+use Rattle.precedence.proofs.statistics.Statistics.snapshot.Goals as goal
+
+pub invariant_of-result : goal.invariant_of-result
+invariant_of-result c =
+    let files = clones_same (arc_value {X = StatsParts}) c.self.inside.files.items
+    c.in_ok-clone.field-0.items c.in_ok-clone.ensures.cases.0 in
+    record {
+      slots =
+          order_same (arc_value {X = StatsParts}) (λ t. t.slot) c.self.inside.files.items
+          c.in_ok-clone.field-0.items files c.self.invariant.slots;
+      made =
+          subst (λ ts. AreIndexed ts c.in_ok-shared.field-0) (sym files)
+          (made_same (map arc_value c.self.inside.files.items) c.self.inside.index
+          c.in_ok-shared.field-0 c.in_ok-shared.ensures c.self.invariant.made);
+    }
+
+pub returns : goal.returns
+returns c =
+    clones_same (arc_value {X = StatsParts}) c.self.inside.files.items
+    c.in_ok-clone.field-0.items c.in_ok-clone.ensures.cases.0 ∙ c.self.view_is
