@@ -40,7 +40,7 @@ counted 37 "$count" 'codes of rules'
 
 # The words of commands, and those that begin the lines of a job, as the code compares them.
 count=0
-for word in $(sed -n 's/^ *if word == "\([a-z]*\)" {$/\1/p' crates/command_words/src/spoken.rt); do
+for word in $(sed -n 's/^ *if word == "\([a-z]*\)" {$/\1/p' crates/job_lines/src/spoken.rt); do
     count=$((count + 1))
     grep -q "^\.BI $word \"" geofeed.1 || fail "geofeed.1 does not have the command $word"
     grep -q "^  geofeed $word " crates/geofeed/src/main.rt || fail "--help does not have $word"

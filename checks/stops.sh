@@ -32,17 +32,18 @@ refuses() {
     stops 6 "stop job $number" "job:$number: $2" build job
 }
 
-stops 2 'stop words' 'geofeed: a command is missing; geofeed --help names them'
-commands='build, lookup, explain, gen, publish, check and census'
+absolute='is absolute; names are at or below the current folder: run geofeed there, or link it'
+stops 2 'stop words' 'geofeed: a command is missing; see geofeed --help'
+stops 2 'stop words' 'geofeed: unknown command "bulid"; did you mean build?' bulid job
+stops 2 'stop words' 'geofeed: JOB is missing; usage: geofeed build JOB' build
 stops 2 'stop words' \
-    'geofeed: "bulid" is no command; commands are '"$commands" bulid job
-stops 2 'stop words' 'geofeed: a wrong number of words; the command is: geofeed build JOB' build
+    "geofeed: the file name \"/etc/job\" $absolute" build /etc/job
 stops 2 'stop words' \
-    'geofeed: the file name "/etc/job" is absolute; names are at or below the current folder' \
-    build /etc/job
+    'geofeed: "192.0.2.0/24" is not an address; give one address, without a length' \
+    lookup geo.mmdb 192.0.2.0/24
 stops 2 'stop words' \
-    'geofeed: the address "192.0.2" is not an address: not in the form of an address' \
-    lookup geo.mmdb 192.0.2
+    'geofeed: host bits are set in "192.0.2.7/24"; the prefix is 192.0.2.0/24' \
+    publish job 192.0.2.7/24 own.csv
 stops 4 'stop missing job' \
     'geofeed: the job "job" is not there; names are looked up from the current folder' build job
 "$program" build $'\xff' > printed 2> told
@@ -50,18 +51,22 @@ stops 4 'stop missing job' \
     || fail "a word that is not UTF-8: '$(cat printed told)'"
 
 refuses 'epoch 1\nstats x /etc/s.txt' \
-    'the file name "/etc/s.txt" is absolute; names are at or below the current folder'
-lines='epoch, type, pieces, rpsl, stats, feed, overrides, drop, emit, report, mark, back or compact'
+    "the file name \"/etc/s.txt\" $absolute"
+lines='epoch, type, pieces, rpsl, stats, feed, overrides, drop, emit, report, mark'
 refuses 'epoch 1\nstatistics x s.txt' \
-    "no line begins with \"statistics\"; lines begin with $lines, in lower case"
-refuses 'epoch 1\n# mine\nstats s.txt' 'a wrong number of words; the line is: stats SLOT FILE'
+    "unknown keyword \"statistics\"; keywords are $lines, back and compact"
+refuses 'epoch 1\nstat x s.txt' 'unknown keyword "stat"; did you mean stats?'
+refuses 'epoch 1\nstats x s.txt # mine' \
+    'a comment needs a line of its own; the line is: stats SLOT FILE'
+refuses 'epoch 1\n# mine\nstats s.txt' 'a word is missing; the line is: stats SLOT FILE'
 refuses 'stats x s.txt' \
-    '"stats" stands before the epoch; the first line that says something is: epoch N'
+    '"stats" comes before the epoch; the first line must be: epoch N'
 refuses 'epoch 1\nreport\ntype City' \
-    '"type" stands behind a line that does something; type and pieces stand before all of these'
+    '"type" must come before the first step'
 refuses 'epoch 1\nstats a/b s.txt' \
     'the name "a/b" has a character that is no ASCII letter, digit, "-", "_" or "."'
-refuses 'epoch yesterday' 'the epoch "yesterday" is not 1 to 20 decimal digits'
+said='the epoch "yesterday" is not 1 to 20 decimal digits; '
+refuses 'epoch yesterday' "${said}it is in seconds, as date +%s prints them"
 printf '# nothing\n' > job
 stops 6 'stop job empty' \
     'geofeed: the job has no line but blank ones and comments; it begins with: epoch N' build job
@@ -79,8 +84,8 @@ rmdir s.txt && truncate -s 268435457 s.txt
 stops 7 'stop source 2 bytes' 'job:2: the file "s.txt" has more than 268,435,456 bytes' build job
 printf 'x|DE|ipv4|192.0.2.0|256||allocated\n' > s.txt
 mkdir out.mmdb
-said='job:3: the file "out.mmdb" could not be written; what stood there before stands there still: '
-stops 5 'stop write out.mmdb' "${said}is a directory" build job
+said='job:3: the file "out.mmdb" could not be written: a folder has this name'
+stops 5 'stop write out.mmdb' "$said" build job
 rmdir out.mmdb
 said='geofeed: the file "s.txt" is no MaxMind DB file, or its end is cut off: '
 stops 9 'stop file NoMarker' "${said}no metadata marker stands in it" lookup s.txt 192.0.2.1
@@ -93,18 +98,24 @@ if [ -c /dev/full ]; then
     [ "$ended $(cat told)" = "5 $said" ] \
         || fail "of a full output it says '$(cat told)'"
     cat told >> all
+    # Where a put fails and its stop line then too, the put is what is told.
+    printf 'epoch 1\nemit out/a.mmdb\n' > job
+    said='job:2: the file "out/a.mmdb" could not be written: there is no folder "out"'
+    "$program" build job > /dev/full 2> told
+    [ "$? $(cat told)" = "5 $said" ] || fail "of a put and a full output it says '$(cat told)'"
+    "$program" build job >&- 2> told
+    [ "$? $(cat told)" = "5 $said" ] || fail "of a put and a closed output it says '$(cat told)'"
 fi
 
 # All kinds of sources and all commands.
 printf 'epoch 1\ndrop stats x\n' > job
 stops 10 'stop drop 2' 'job:2: no statistics are set in the slot "x" at this line' build job
 printf 'epoch 1\nback plain\n' > job
-stops 11 'stop back 2' 'job:2: no mark "plain" stands before this line' build job
+stops 11 'stop back 2' 'job:2: no line before this one makes the mark "plain"' build job
 refuses 'epoch 1\nfeed http://geo.example.net/a.csv a.csv' \
     'the URL "http://geo.example.net/a.csv" is not a URL that begins with https://'
-said='"feeds" is no kind of source; the line is one of: '
 refuses 'epoch 1\ndrop feeds https://geo.example.net/a.csv' \
-    "${said}drop rpsl SLOT, drop stats SLOT, drop feed URL or drop overrides"
+    'unknown kind "feeds"; did you mean drop feed?'
 sed -n '/^\.SH EXAMPLES/,/^\.fi/p' "$manual" | grep -v '^\.' | sed 's/\\-/-/g' > shown
 sed -n '/^```$/,/^```$/p' "$jobs" | grep -v '^```' > more
 for job in shown more; do
@@ -118,9 +129,10 @@ done
 cp "$example"/* . 2> told
 said='geofeed: no feed of the URL "https://no.example/f.csv" is in force at '
 stops 12 'stop absent https://no.example/f.csv' \
-    "${said}the job's end; the URL is that of a feed line" check job https://no.example/f.csv
+    "${said}the job's end; the nearest is \"https://geo.example.net/c.csv\"" \
+    check job https://no.example/f.csv
 said='geofeed: the prefix "::/0" reaches from the IPv4 addresses into the IPv6 addresses; '
-stops 2 'stop words' "${said}it begins at ::1:0:0 or above" publish job ::/0 own.csv
+stops 2 'stop words' "${said}use 0.0.0.0/0 and 2000::/3, one at a time" publish job ::/0 own.csv
 stops 2 'stop words' \
     'geofeed: the number of lines "0" is not a number from 1 to 1,000,000 without leading zeros' \
     gen 0 out.mmdb

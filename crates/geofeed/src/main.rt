@@ -20,7 +20,8 @@ use crate::output::Output;
 use crate::sink::StdSink;
 use crate::told::{OUT_OF_MEMORY, say, tell};
 use geo_outside::{OpenGate, Sink, Steps};
-use geofeed_cmd::{Status, run};
+use geofeed_cmd::{Status, run_told};
+use job_run::{Journal, Stop};
 use std::alloc::{AllocError, Global};
 use std::env::Env;
 use std::fs::{File, Files};
@@ -130,12 +131,13 @@ fn answer<R: Threads + Sync + Files<File = File> + Print + Eprint + AllocGlobal,
 {
     let mut out = StdSink::new(Output::new(rt));
     let mut folder = DirFolder::new(rt);
+    let mut journal = Journal::new();
     let status = match asked_in(words) {
-        Some(Asked::Help) => printed(&mut out, HELP),
-        Some(Asked::Version) => version(&mut out),
+        Some(Asked::Help) => printed(&mut out, HELP, &mut journal),
+        Some(Asked::Version) => version(&mut out, &mut journal),
         None => {
             let mut steps: Steps<L> = Steps::new(blank);
-            run(
+            run_told(
                 rt,
                 rt.alloc(),
                 words,
@@ -143,16 +145,19 @@ fn answer<R: Threads + Sync + Files<File = File> + Print + Eprint + AllocGlobal,
                 &mut out,
                 &OpenGate,
                 &mut steps,
+                &mut journal,
             )
         }
     };
-    let system = match status {
-        Status::ReadFault => folder.why(),
-        Status::WriteFault if out.why().is_some() => out.why(),
-        Status::WriteFault => folder.why(),
+    if status == Status::Done {
+        return status;
+    }
+    let system = match journal.why {
+        Some(Stop::ReadFailed | Stop::PutFailed) => folder.why(),
+        Some(Stop::SinkFailed) => out.why(),
         _ => None,
     };
-    tell(rt, words, &mut folder, status, out.stop_line(), system);
+    tell(rt, &journal, system);
     status
 }
 
@@ -173,19 +178,23 @@ fn asked_in(words: &[String]) -> Option<Asked> {
     }
 }
 
-fn version(out: &mut impl Sink) -> Status {
+fn version(out: &mut impl Sink, journal: &mut Journal) -> Status {
     let before = if COMMIT.is_empty() { "" } else { " commit " };
     for text in [VERSION, before, COMMIT, "\n"] {
-        if out.write_all(text.as_bytes()).is_err() {
-            return Status::WriteFault;
+        let status = printed(out, text, journal);
+        if status != Status::Done {
+            return status;
         }
     }
     Status::Done
 }
 
-fn printed(out: &mut impl Sink, text: &str) -> Status {
+fn printed(out: &mut impl Sink, text: &str, journal: &mut Journal) -> Status {
     match out.write_all(text.as_bytes()) {
         Ok(()) => Status::Done,
-        Err(_) => Status::WriteFault,
+        Err(_) => {
+            journal.end(Stop::SinkFailed);
+            Status::WriteFault
+        }
     }
 }

@@ -1,31 +1,23 @@
 //! What is said of a stop on standard error.
 
-use crate::folder::DirFolder;
 use crate::output::errors_fit;
 use geo_addr::{Memory, Text};
-use geofeed_cmd::Status;
+use job_run::Journal;
 use std::fs::{File, Files};
 use std::io;
 use std::io::Eprint;
-use stop_words::{Stopped, stop_text};
+use stop_words::{System, stop_text};
 
 /// What is said where memory ran out, without taking any.
 pub(crate) const OUT_OF_MEMORY: &str = "geofeed: memory ran out\n";
 
-/// Says in one line why the command of these words stopped: `line` is what was printed of the stop,
-/// and `system` what the system said. Where all was done nothing is said.
+/// Says in one line what ended a command: `system` is what the system said of the call that failed.
 pub(crate) fn tell<R: Files<File = File> + Eprint + AllocGlobal>(
     rt: &R,
-    words: &[String],
-    folder: &mut DirFolder<'_, R>,
-    status: Status,
-    line: &str,
+    journal: &Journal,
     system: Option<io::Error>,
 ) {
-    if status == Status::Done {
-        return;
-    }
-    match text_of(rt, words, folder, status, line, system) {
+    match text_of(rt, journal, system) {
         Ok(text) => say(rt, text.as_str()),
         Err(_) => say(rt, OUT_OF_MEMORY),
     }
@@ -38,22 +30,20 @@ pub(crate) fn say<R: Files<File = File> + Eprint>(rt: &R, text: &str) {
     }
 }
 
-fn text_of<R: Files<File = File> + Eprint + AllocGlobal>(
+fn text_of<R: AllocGlobal>(
     rt: &R,
-    words: &[String],
-    folder: &mut DirFolder<'_, R>,
-    status: Status,
-    line: &str,
+    journal: &Journal,
     system: Option<io::Error>,
 ) -> Result<Text, Memory> {
-    let said = match system {
-        Some(why) => format!(in rt.alloc(); "{why}")?,
-        None => String::new(rt.alloc()),
-    };
-    let stopped = Stopped {
-        status: status as u8,
-        line,
-        system: said.as_str(),
-    };
-    stop_text(rt.alloc(), words, folder, &stopped)
+    match system {
+        Some(why) => {
+            let text = format!(in rt.alloc(); "{why}")?;
+            let system = System {
+                kind: why.kind(),
+                text: text.as_str(),
+            };
+            stop_text(rt.alloc(), journal, Some(system))
+        }
+        None => stop_text(rt.alloc(), journal, None),
+    }
 }

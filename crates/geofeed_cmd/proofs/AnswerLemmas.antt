@@ -11,8 +11,8 @@ use Rattle.job_lines.specs.declared.fault.JobFault.TheVariants as job_faults
 use Rattle.job_lines.specs.declared.job.Step.{Step}
 use Rattle.job_lines.specs.Job.{job, job_of as job_of_draft, draft_from}
 use Rattle.job_lines.specs.Drafts.{no_lines}
-use Rattle.command_words.specs.Commands.{Command}
-use Rattle.command_words.specs.Commands as commands
+use Rattle.job_lines.specs.Commands.{Command}
+use Rattle.job_lines.specs.Commands as commands
 use Rattle.job_run.specs.declared.stop.Cause.{Cause}
 use Rattle.job_run.specs.declared.stop.Cause.TheVariants as causes
 use Rattle.job_run.specs.declared.stop.Stop.{Stop}

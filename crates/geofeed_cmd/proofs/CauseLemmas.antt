@@ -10,8 +10,8 @@ use Rattle.job_lines.specs.declared.fault.JobFault.{JobFault}
 use Rattle.job_lines.specs.Job.{job}
 use Rattle.file_lookup.specs.declared.lookup.LookupFault.{LookupFault}
 use Rattle.file_lookup.specs.Lookup.{answer}
-use Rattle.command_words.specs.Commands.{Command, build, lookup, explain, gen, publish, check}
-use Rattle.command_words.specs.Commands.{census}
+use Rattle.job_lines.specs.Commands.{Command, build, lookup, explain, gen, publish, check}
+use Rattle.job_lines.specs.Commands.{census}
 use Rattle.job_run.specs.declared.stop.Cause.{Cause}
 use Rattle.job_run.specs.declared.stop.Cause.TheVariants as causes
 use Rattle.job_run.specs.Acts.{Move, shows, blocked, after}

@@ -16,8 +16,8 @@ use Rattle.update_session.specs.State.{is_too_large}
 use Rattle.job_lines.specs.declared.act.Act.{Act}
 use Rattle.job_lines.specs.declared.act.Act.TheVariants as acts
 use Rattle.job_lines.specs.declared.job.Step.{Step}
-use Rattle.command_words.specs.Commands.{Command}
-use Rattle.command_words.specs.Commands as commands
+use Rattle.job_lines.specs.Commands.{Command}
+use Rattle.job_lines.specs.Commands as commands
 use Rattle.job_run.specs.declared.scope.Scope.{Scope}
 use Rattle.job_run.specs.declared.scope.Scope.TheVariants.{Whole, Sources}
 use Rattle.job_run.specs.declared.stop.Cause.{Cause}

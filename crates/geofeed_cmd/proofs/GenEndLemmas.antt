@@ -2,7 +2,7 @@
 use Rattle.std.proofs.Common.{◌≡◌, ℕ, ◌≤◌, inl, inr, List, refl, sym, subst}
 use Rattle.std.specs.Prelude.{Some}
 use Rattle.geo_outside.specs.Files.{Told}
-use Rattle.command_words.specs.Commands.{gen}
+use Rattle.job_lines.specs.Commands.{gen}
 use Rattle.job_run.specs.Moves.{moves_of}
 use Rattle.generated_job.specs.Job.{gen_start, gen_steps}
 use Rattle.generated_job.proofs.FreeLemmas.{runs_freely}

@@ -16,7 +16,7 @@ use Rattle.geofeed_cmd.specs.declared.status.Status.TheVariants as statuses
 use Rattle.job_run.specs.Acts.{does}
 use Rattle.geofeed_cmd.specs.Run.Answers.{Comes, IsDone, Prevails, SpendsAll, read, write, memory}
 use Rattle.geofeed_cmd.specs.Run.Answers.{spent}
-use Rattle.command_words.specs.Commands.{Command}
+use Rattle.job_lines.specs.Commands.{Command}
 use Rattle.geofeed_cmd.specs.Run.Plans.{Reaches}
 use Rattle.job_run.specs.Published.{IsLeastByValue, IsPublished}
 use Rattle.job_run.specs.Seen.{Seen}

@@ -10,7 +10,7 @@ use Rattle.geo_outside.specs.Count.{Rose}
 use Rattle.geo_outside.specs.Files.{Told}
 use Rattle.trie_core.proofs.StoreLemmas.{slice_get-append, slice_get_last}
 use Rattle.update_session.specs.Kept.{Held}
-use Rattle.command_words.specs.Commands.{Command}
+use Rattle.job_lines.specs.Commands.{Command}
 use Rattle.job_run.specs.declared.stop.Cause.{Cause}
 use Rattle.job_run.specs.declared.stop.Stop.{Stop}
 use Rattle.job_run.specs.declared.stop.Stop.TheVariants as stops

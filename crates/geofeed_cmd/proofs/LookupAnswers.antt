@@ -7,7 +7,7 @@ use Rattle.geo_outside.specs.Files.{Told}
 use Rattle.geofeed_cmd.specs.declared.status.Status.TheVariants as statuses
 use Rattle.job_run.specs.declared.stop.Stop.{Stop}
 use Rattle.job_run.specs.declared.stop.Stop.TheVariants.{SinkFailed, Memory}
-use Rattle.command_words.specs.Commands.{Command}
+use Rattle.job_lines.specs.Commands.{Command}
 use Rattle.job_run.specs.Acts.{Move, shows, after}
 use Rattle.geofeed_cmd.specs.Run.Answers.{Comes, Leaves}
 use Rattle.geofeed_cmd.specs.Run.Plans.{plan_of, planned, alone}

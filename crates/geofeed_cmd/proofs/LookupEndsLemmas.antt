@@ -7,7 +7,7 @@ use Rattle.geo_outside.specs.Files.{Told}
 use Rattle.mmdb_file.specs.Walk.{walk}
 use Rattle.job_run.specs.declared.stop.Cause.{Cause}
 use Rattle.job_run.specs.declared.stop.Cause.TheVariants.{TooLong}
-use Rattle.command_words.specs.Commands.{lookup}
+use Rattle.job_lines.specs.Commands.{lookup}
 use Rattle.file_lookup.specs.Lookup.{answer, answer_of, looked}
 use Rattle.geofeed_cmd.specs.Run.LookupEnds.{EndsByCases}
 use Rattle.geofeed_cmd.specs.Run.Ending.{Ending, ending, ending_by}

@@ -14,11 +14,11 @@ use Rattle.geo_terms.specs.PlaceForm.{same_text}
 use Rattle.job_lines.specs.Acts.{feed_key}
 use Rattle.job_lines.specs.Forms.{begins_plain}
 use Rattle.job_lines.specs.Names.{is_name}
-use Rattle.command_words.specs.Commands.{Command, build, census, check_key, check_of, command_of}
-use Rattle.command_words.specs.Commands.{explain_at, explain_of, gen, gen_lines, gen_of, is_plain}
-use Rattle.command_words.specs.Commands.{lines_in, lines_of, lookup_at, lookup_of, publish}
-use Rattle.command_words.specs.Commands.{publish_in, publish_of, build_of, census_of, with_one}
-use Rattle.command_words.specs.Commands.{with_two, with_three}
+use Rattle.job_lines.specs.Commands.{Command, build, census, check_key, check_of, command_of}
+use Rattle.job_lines.specs.Commands.{explain_at, explain_of, gen, gen_lines, gen_of, is_plain}
+use Rattle.job_lines.specs.Commands.{lines_in, lines_of, lookup_at, lookup_of, publish}
+use Rattle.job_lines.specs.Commands.{publish_in, publish_of, build_of, census_of, with_one}
+use Rattle.job_lines.specs.Commands.{with_two, with_three}
 
 few_of : (number : Option ℕ) (lines : ℕ) → lines_of number ≡ Some lines → lines ≤ 1000000
 few_of None lines is = absurd (cc)

@@ -9,12 +9,17 @@ ghost use Rattle.geofeed_cmd.specs.Run.Plans.{held_job};
 
 use geo_outside::{Folder, WholeErr, read_whole};
 use job_lines::laws::accepted_job_is_within_limits;
-use job_lines::{Job, JobFault, LONGEST_JOB, read_job};
-use job_run::{Cause, Stop};
+use job_lines::{Job, JobFault, JobRefusal, LONGEST_JOB, job_or_reason};
+use job_run::{Cause, Journal, Stop};
 use std::alloc::Global;
 
 /// Reads the job of this name, whole.
-pub(crate) fn job_in<F: Folder>(alloc: Global, name: &str, folder: &mut F) -> Result<Job, Stop>
+pub(crate) fn job_in<F: Folder>(
+    alloc: Global,
+    name: &str,
+    folder: &mut F,
+    journal: &mut Journal,
+) -> Result<Job, Stop>
     ensures job { (first : Told) → F.told folder.old ≡ Some first
         → IfOk result (λ job. held_job (map.get first.held name.now) ≡ Ok job) }
     ensures fits { IfOk result (λ job. IsWithinLimits job) }
@@ -34,6 +39,7 @@ pub(crate) fn job_in<F: Folder>(alloc: Global, name: &str, folder: &mut F) -> Re
     ensures misses { F.misses folder.old ≤ F.misses folder.new }
     ensures given { F.given folder.new ≤ F.given folder.old + 1114112 }
 {
+    journal.begin(alloc, name);
     let bytes = match read_whole(alloc, folder, name, LONGEST_JOB as u64) {
         Ok(bytes) => bytes,
         Err(WholeErr::Failed) => return Err(Stop::ReadFailed),
@@ -42,9 +48,15 @@ pub(crate) fn job_in<F: Folder>(alloc: Global, name: &str, folder: &mut F) -> Re
         Err(WholeErr::Memory) => return Err(Stop::Memory),
     };
     accepted_job_is_within_limits();
-    match read_job(alloc, bytes.as_slice()) {
+    match job_or_reason(alloc, bytes.as_slice()) {
         Ok(job) => Ok(job),
-        Err(JobFault::Memory) => Err(Stop::Memory),
-        Err(fault) => Err(Stop::Blocked(Cause::Job(fault))),
+        Err(refusal) => {
+            let JobRefusal { fault, reason } = refusal;
+            journal.refuse(reason);
+            match fault {
+                JobFault::Memory => Err(Stop::Memory),
+                _ => Err(Stop::Blocked(Cause::Job(fault))),
+            }
+        }
     }
 }

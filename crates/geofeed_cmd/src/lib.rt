@@ -10,7 +10,7 @@ mod status;
 mod stop;
 mod whole;
 
-pub use command::run;
+pub use command::{run, run_told};
 pub use laws::lookup_ends_by_cases;
 pub use status::Status;
 pub use stop::stop_line;

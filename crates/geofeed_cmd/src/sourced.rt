@@ -10,7 +10,7 @@ ghost use Rattle.job_lines.specs.declared.job.Step as steps_of;
 ghost use Rattle.job_run.specs.Moves.{read_rooms, source_moves};
 ghost use Rattle.job_run.specs.Sources.{file_named};
 ghost use Rattle.job_run.specs.Stops.{DoesAll};
-ghost use Rattle.command_words.specs.Commands.{Command};
+ghost use Rattle.job_lines.specs.Commands.{Command};
 ghost use Rattle.geofeed_cmd.specs.Run.Answers.{Comes};
 ghost use Rattle.geofeed_cmd.specs.Run.Closes.{Closes};
 ghost use Rattle.geofeed_cmd.specs.Run.Lines.{status_of, stop_line};
@@ -22,7 +22,7 @@ use fan_work::Forks;
 use geo_addr::Memory;
 use geo_outside::{Folder, Gate, Sink, Steps};
 use job_lines::{Job, Step};
-use job_run::{Scope, StepStop, do_steps, name_of};
+use job_run::{Journal, Scope, StepStop, do_steps, name_of};
 use std::alloc::Global;
 use std::marker::Sync;
 use std::mem::forget;
@@ -39,6 +39,7 @@ pub(crate) fn sources_of<R: Threads + Sync, F: Folder, O: Sink, G: Gate, L: Ledg
     folder: &mut F,
     out: &mut O,
     steps: &mut Steps<L>,
+    journal: &mut Journal,
 ) -> Result<Session, Status>
     requires { IsWithinLimits job }
     ensures ok { (first : Told) → F.told folder.old ≡ Some first
@@ -91,13 +92,19 @@ pub(crate) fn sources_of<R: Threads + Sync, F: Folder, O: Sink, G: Gate, L: Ledg
         Err(stop) => {
             // The process ends: its memory goes back whole, not source by source.
             forget(session);
-            Err(stop_in(forks.alloc, list, stop, out))
+            Err(stop_in(forks.alloc, list, stop, out, journal))
         }
     }
 }
 
 /// Prints the line of a stop at a step of a job, and says its status.
-pub(crate) fn stop_in<O: Sink>(alloc: Global, list: &[Step], stop: StepStop, out: &mut O) -> Status
+pub(crate) fn stop_in<O: Sink>(
+    alloc: Global,
+    list: &[Step],
+    stop: StepStop,
+    out: &mut O,
+    journal: &mut Journal,
+) -> Status
     requires { stop.at < length list.now }
     ensures status { result ≡ status_of stop.why }
     ensures closed { (step : steps_of.Step) → slice_get list.now stop.at ≡ Some step
@@ -106,5 +113,7 @@ pub(crate) fn stop_in<O: Sink>(alloc: Global, list: &[Step], stop: StepStop, out
     ensures faults { O.faults out.old ≤ O.faults out.new }
 {
     let step = &list[stop.at];
-    stop_at(alloc, stop.why, step.line, name_of(&step.act), out)
+    let status = stop_at(alloc, stop.why, step.line, name_of(&step.act), out, journal);
+    journal.end_step(step);
+    status
 }

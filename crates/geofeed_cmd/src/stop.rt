@@ -10,7 +10,7 @@ use file_lookup::file_line;
 use geo_addr::{Memory, Text};
 use geo_outside::Sink;
 use job_lines::JobFault;
-use job_run::{Cause, Stop};
+use job_run::{Cause, Journal, Stop};
 use std::alloc::Global;
 
 /// The status of a command that stops for this.
@@ -97,24 +97,26 @@ pub(crate) fn stop_at<O: Sink>(
     line: u64,
     name: &str,
     out: &mut O,
+    journal: &mut Journal,
 ) -> Status
     ensures status { result ≡ status_of why }
     ensures closed { Closes (O.written out.old) (O.written out.new) (O.faults out.old)
         (O.faults out.new) [] (stop_line why line name.now) }
     ensures faults { O.faults out.old ≤ O.faults out.new }
 {
+    journal.end_at(alloc, why, name);
     print_line(out, stop_line(alloc, why, line, name));
     status_of(why)
 }
 
 /// What is done at words that are no command.
-pub(crate) fn no_command<O: Sink>(alloc: Global, out: &mut O) -> Status
+pub(crate) fn no_command<O: Sink>(alloc: Global, out: &mut O, journal: &mut Journal) -> Status
     ensures status { result ≡ Status.Words }
     ensures closed { Closes (O.written out.old) (O.written out.new) (O.faults out.old)
         (O.faults out.new) [] (stop_line (stops.Blocked causes.Words) 0 []) }
     ensures faults { O.faults out.old ≤ O.faults out.new }
 {
-    stop_at(alloc, Stop::Blocked(Cause::Words), 0, "", out)
+    stop_at(alloc, Stop::Blocked(Cause::Words), 0, "", out, journal)
 }
 
 // An empty line is not written, so nothing follows a sink that failed.

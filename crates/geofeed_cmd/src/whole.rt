@@ -6,7 +6,7 @@ ghost use Rattle.job_run.specs.Moves.{LacksAt, moves_of, read_rooms};
 ghost use Rattle.job_run.specs.Seen.{seen};
 ghost use Rattle.job_run.specs.Stops.{IsIn};
 ghost use Rattle.job_run.specs.World.{World};
-ghost use Rattle.command_words.specs.Commands.{Command};
+ghost use Rattle.job_lines.specs.Commands.{Command};
 ghost use Rattle.geofeed_cmd.specs.Run.Answers.{Comes};
 ghost use Rattle.geofeed_cmd.specs.Run.Plans.{plan_of, planned};
 
@@ -15,7 +15,7 @@ use crate::status::Status;
 use fan_work::Forks;
 use geo_outside::{Folder, Gate, Sink, Steps};
 use job_lines::Step;
-use job_run::{Apart, Scope, do_steps};
+use job_run::{Apart, Journal, Scope, do_steps};
 use std::marker::Sync;
 use std::sync::ledger::Ledger;
 use std::thread::Threads;
@@ -32,6 +32,7 @@ pub(crate) fn do_whole<R: Threads + Sync, F: Folder, O: Sink, G: Gate, L: Ledger
     folder: &mut F,
     out: &mut O,
     steps: &mut Steps<L>,
+    journal: &mut Journal,
 ) -> Status
     ensures comes { (first : Told) (command : Option Command) (start : World)
         → plan_of first command ≡ planned (moves_of list.now) start
@@ -66,6 +67,6 @@ pub(crate) fn do_whole<R: Threads + Sync, F: Folder, O: Sink, G: Gate, L: Ledger
         steps,
     ) {
         Ok(()) => Status::Done,
-        Err(stop) => stop_in(forks.alloc, list, stop, out),
+        Err(stop) => stop_in(forks.alloc, list, stop, out, journal),
     }
 }

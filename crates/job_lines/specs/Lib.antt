@@ -1,9 +1,13 @@
 pub mod Acts
+pub mod Commands
 pub mod Drafts
+pub mod Faults
 pub mod Forms
 pub mod Job
 pub mod Laws
 pub mod Names
 pub mod Order
+pub mod Places
 pub mod Said
+pub mod SpokenWords
 pub mod Words

@@ -1,5 +1,5 @@
 //! The lines of a job that do something.
-ghost use Rattle.std.specs.Prelude.{◌≡◌, IfOk};
+ghost use Rattle.std.specs.Prelude.{◌≡◌, ◌⊎◌, IfErr, IfOk, None, OnErr, Some};
 ghost use Rattle.job_lines.specs.Acts.{act_by, emit_line, feed_form, feed_line, overrides_line};
 ghost use Rattle.job_lines.specs.Acts.{report_line, rpsl_line, stats_line};
 ghost use Rattle.job_lines.specs.Words.{words};
@@ -7,15 +7,16 @@ ghost use Rattle.job_lines.specs.Words.{words};
 use crate::act::Act;
 use crate::drops::drop_line;
 use crate::kept::kept_by;
-use crate::names::is_name;
-use crate::operands::{both, feed_key, file_alone, has_none, slot_and_file, text_of};
-use geo_addr::Memory;
+use crate::line_fault::LineFault;
+use crate::operands::{both, file_alone, file_at, nothing, slot_and_file, url_at};
 use std::alloc::Global;
 
-/// The act that a line says, if it says one: its first word says which.
+/// The act that a line says: its first word says which.
 #[tactic(auto, unfolding(crate::specs::Acts::act_by))]
-pub(crate) fn act_by(alloc: Global, word: &[u8], rest: &[u8]) -> Result<Option<Act>, Memory>
-    ensures { IfOk result (λ act. act ≡ act_by word.now (words rest.now)) }
+pub(crate) fn act_by(alloc: Global, word: &[u8], rest: &[u8]) -> Result<Act, LineFault>
+    ensures ok { IfOk result (λ act. act_by word.now (words rest.now) ≡ Some act) }
+    ensures err { IfErr result (λ why. (why ≡ LineFault.Memory)
+        ⊎ (act_by word.now (words rest.now) ≡ None)) }
 {
     if word == b"rpsl".as_slice() {
         return rpsl_line(alloc, rest);
@@ -36,75 +37,70 @@ pub(crate) fn act_by(alloc: Global, word: &[u8], rest: &[u8]) -> Result<Option<A
         return emit_line(alloc, rest);
     }
     if word == b"report".as_slice() {
-        return Ok(report_line(rest));
+        return report_line(rest);
     }
     kept_by(alloc, word, rest)
 }
 
-fn rpsl_line(alloc: Global, rest: &[u8]) -> Result<Option<Act>, Memory>
-    ensures { IfOk result (λ act. act ≡ rpsl_line (words rest.now)) }
+fn rpsl_line(alloc: Global, rest: &[u8]) -> Result<Act, LineFault>
+    ensures ok { IfOk result (λ act. rpsl_line (words rest.now) ≡ Some act) }
+    ensures err { IfErr result (λ why. (why ≡ LineFault.Memory)
+        ⊎ (rpsl_line (words rest.now) ≡ None)) }
 {
-    match slot_and_file(alloc, rest)? {
-        Some((slot, file)) => Ok(Some(Act::Rpsl { slot, file })),
-        None => Ok(None),
-    }
+    let (slot, file) = slot_and_file(alloc, rest)?;
+    Ok(Act::Rpsl { slot, file })
 }
 
-fn stats_line(alloc: Global, rest: &[u8]) -> Result<Option<Act>, Memory>
-    ensures { IfOk result (λ act. act ≡ stats_line (words rest.now)) }
+fn stats_line(alloc: Global, rest: &[u8]) -> Result<Act, LineFault>
+    ensures ok { IfOk result (λ act. stats_line (words rest.now) ≡ Some act) }
+    ensures err { IfErr result (λ why. (why ≡ LineFault.Memory)
+        ⊎ (stats_line (words rest.now) ≡ None)) }
 {
-    match slot_and_file(alloc, rest)? {
-        Some((slot, file)) => Ok(Some(Act::Stats { slot, file })),
-        None => Ok(None),
-    }
+    let (slot, file) = slot_and_file(alloc, rest)?;
+    Ok(Act::Stats { slot, file })
 }
 
-fn feed_line(alloc: Global, rest: &[u8]) -> Result<Option<Act>, Memory>
-    ensures { IfOk result (λ act. act ≡ feed_line (words rest.now)) }
+fn feed_line(alloc: Global, rest: &[u8]) -> Result<Act, LineFault>
+    ensures ok { IfOk result (λ act. feed_line (words rest.now) ≡ Some act) }
+    ensures err { IfErr result (λ why. (why ≡ LineFault.Memory)
+        ⊎ (feed_line (words rest.now) ≡ None)) }
 {
-    match both(rest) {
-        Some((url, file)) => feed_form(alloc, url, file),
-        None => Ok(None),
-    }
+    let (url, file) = both(rest)?;
+    feed_form(alloc, url, file)
 }
 
-#[tactic(auto, using(crate::proofs::TextLemmas::words_are_texts))]
-fn feed_form(alloc: Global, url: &[u8], file: &[u8]) -> Result<Option<Act>, Memory>
-    ensures { IfOk result (λ act. act ≡ feed_form url.now file.now) }
+fn feed_form(alloc: Global, url: &[u8], file: &[u8]) -> Result<Act, LineFault>
+    ensures ok { IfOk result (λ act. feed_form url.now file.now ≡ Some act) }
+    ensures err { IfErr result (λ why. (why ≡ LineFault.Memory)
+        ⊎ (feed_form url.now file.now ≡ None)) }
 {
-    if !is_name(file) {
-        return Ok(None);
-    }
-    let file = text_of(alloc, file)?;
-    match feed_key(alloc, url)? {
-        Some(url) => Ok(Some(Act::Feed { url, file })),
-        None => Ok(None),
-    }
+    let url = url_at(alloc, url, 1)?;
+    let file = file_at(alloc, file, 2)?;
+    Ok(Act::Feed { url, file })
 }
 
-fn overrides_line(alloc: Global, rest: &[u8]) -> Result<Option<Act>, Memory>
-    ensures { IfOk result (λ act. act ≡ overrides_line (words rest.now)) }
+fn overrides_line(alloc: Global, rest: &[u8]) -> Result<Act, LineFault>
+    ensures ok { IfOk result (λ act. overrides_line (words rest.now) ≡ Some act) }
+    ensures err { IfErr result (λ why. (why ≡ LineFault.Memory)
+        ⊎ (overrides_line (words rest.now) ≡ None)) }
 {
-    match file_alone(alloc, rest)? {
-        Some(file) => Ok(Some(Act::Overrides { file })),
-        None => Ok(None),
-    }
+    let file = file_alone(alloc, rest)?;
+    Ok(Act::Overrides { file })
 }
 
-fn emit_line(alloc: Global, rest: &[u8]) -> Result<Option<Act>, Memory>
-    ensures { IfOk result (λ act. act ≡ emit_line (words rest.now)) }
+fn emit_line(alloc: Global, rest: &[u8]) -> Result<Act, LineFault>
+    ensures ok { IfOk result (λ act. emit_line (words rest.now) ≡ Some act) }
+    ensures err { IfErr result (λ why. (why ≡ LineFault.Memory)
+        ⊎ (emit_line (words rest.now) ≡ None)) }
 {
-    match file_alone(alloc, rest)? {
-        Some(file) => Ok(Some(Act::Emit { file })),
-        None => Ok(None),
-    }
+    let file = file_alone(alloc, rest)?;
+    Ok(Act::Emit { file })
 }
 
-fn report_line(rest: &[u8]) -> Option<Act>
-    ensures { result ≡ report_line (words rest.now) }
+fn report_line(rest: &[u8]) -> Result<Act, LineFault>
+    ensures ok { IfOk result (λ act. report_line (words rest.now) ≡ Some act) }
+    ensures err { OnErr result (report_line (words rest.now) ≡ None) }
 {
-    if has_none(rest) {
-        return Some(Act::Report);
-    }
-    None
+    nothing(rest, 1)?;
+    Ok(Act::Report)
 }

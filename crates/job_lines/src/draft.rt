@@ -1,12 +1,16 @@
 //! What the lines of a job have said so far.
-ghost use Rattle.std.specs.Prelude.{◌≡◌, ◌⊎◌, IfErr, IfOk, None, Ok, OnOk, Some, unwrap_or};
+ghost use Rattle.std.specs.Prelude.{◌≡◌, ◌⊎◌, IfErr, IfOk, None, Ok, OnOk, Some};
+ghost use Rattle.std.specs.Prelude.{unwrap_or};
 ghost use Rattle.geo_addr.specs.Lines.{numbered_lines};
-ghost use Rattle.job_lines.specs.Drafts.{no_lines, takes_settings, with_form};
+ghost use Rattle.job_lines.specs.Drafts.{no_lines, with_form};
 ghost use Rattle.job_lines.specs.Job.{default_name, draft_from, job_with, with_line};
+ghost use Rattle.job_lines.specs.Places.{setting_fault};
 
 use crate::fault::JobFault;
 use crate::form::{Form, read_form};
 use crate::job::{Job, Step};
+use crate::line_fault::LineFault;
+use crate::reason::JobRefusal;
 use crate::words::is_passed_over;
 use geo_addr::{Line, Lines, List, Memory, Text};
 use mmdb_file::Meta;
@@ -44,15 +48,19 @@ impl Model for Draft {
 
 impl Draft {
     /// The draft behind all lines of a job, or the first line that is refused.
-    pub fn of(alloc: Global, bytes: &[u8]) -> Result<Draft, JobFault>
+    pub fn of(alloc: Global, bytes: &[u8]) -> Result<Draft, JobRefusal>
         ensures ok { IfOk result
             (λ draft. draft_from (numbered_lines bytes.now) no_lines ≡ Ok draft) }
-        ensures err { IfErr result (λ why. (why ≡ JobFault.Memory)
-            ⊎ (draft_from (numbered_lines bytes.now) no_lines ≡ Err why)) }
+        ensures err { IfErr result (λ why. (why.fault ≡ JobFault.Memory)
+            ⊎ (draft_from (numbered_lines bytes.now) no_lines ≡ Err why.fault)) }
     {
         let mut draft = Draft::new(alloc);
         for line in Lines::of(bytes) {
-            draft.take_line(alloc, line)?;
+            match draft.take_line(alloc, line) {
+                Ok(()) => {}
+                Err(LineFault::Memory) => return Err(JobRefusal::of(JobFault::Memory)),
+                Err(fault) => return Err(JobRefusal::at_line(alloc, line, fault)),
+            }
         }
         Ok(draft)
     }
@@ -70,50 +78,47 @@ impl Draft {
 
     // Adds what one more line says.
     #[tactic(auto, unfolding(crate::specs::Job::with_line))]
-    fn take_line(&mut self, alloc: Global, line: Line) -> Result<(), JobFault>
+    fn take_line(&mut self, alloc: Global, line: Line) -> Result<(), LineFault>
         ensures ok { OnOk result
             (with_line (line.entry.number, line.entry.text.now) self.old ≡ Some self.new) }
-        ensures err { IfErr result (λ why. (why ≡ JobFault.Memory)
-            ⊎ (why ≡ JobFault.Line line.entry.number)
-            × (with_line (line.entry.number, line.entry.text.now) self.old ≡ None)) }
+        ensures err { IfErr result (λ why. (why ≡ LineFault.Memory)
+            ⊎ (with_line (line.entry.number, line.entry.text.now) self.old ≡ None)) }
     {
         if is_passed_over(line.text) {
             return Ok(());
         }
-        match read_form(alloc, line.text)? {
-            Some(form) => self.take_form(line.number, form),
-            None => Err(JobFault::Line(line.number)),
-        }
+        let form = read_form(alloc, line.text)?;
+        self.take_form(line.number, form)
     }
 
     // Adds what a form says, where it may stand here.
-    fn take_form(&mut self, line: u64, form: Form) -> Result<(), JobFault>
+    fn take_form(&mut self, line: u64, form: Form) -> Result<(), LineFault>
         ensures ok { OnOk result (with_form line form self.old ≡ Some self.new) }
-        ensures err { IfErr result (λ why. (why ≡ JobFault.Memory)
-            ⊎ (why ≡ JobFault.Line line) × (with_form line form self.old ≡ None)) }
+        ensures err { IfErr result (λ why. (why ≡ LineFault.Memory)
+            ⊎ (with_form line form self.old ≡ None)) }
     {
         match form {
             Form::Epoch(epoch) => {
                 if self.epoch.is_some() {
-                    return Err(JobFault::Line(line));
+                    return Err(LineFault::SecondEpoch);
                 }
                 self.epoch = Some(epoch);
             }
             Form::TypeName(name) => {
-                if !self.takes_settings() || self.name.is_some() {
-                    return Err(JobFault::Line(line));
+                if let Some(fault) = self.setting_fault(self.name.is_some()) {
+                    return Err(fault);
                 }
                 self.name = Some(name);
             }
             Form::Pieces(number) => {
-                if !self.takes_settings() || self.pieces.is_some() {
-                    return Err(JobFault::Line(line));
+                if let Some(fault) = self.setting_fault(self.pieces.is_some()) {
+                    return Err(fault);
                 }
                 self.pieces = Some(number);
             }
             Form::Do(act) => {
                 if self.epoch.is_none() {
-                    return Err(JobFault::Line(line));
+                    return Err(LineFault::NoEpoch);
                 }
                 self.steps.push(Step { line, act }).map_err(Memory::from)?;
             }
@@ -121,11 +126,20 @@ impl Draft {
         Ok(())
     }
 
-    // Whether the epoch was given, and no step.
-    fn takes_settings(&self) -> bool
-        ensures { result ≡ takes_settings self.now }
+    // Why a setting may not stand here, which was given already or not.
+    fn setting_fault(&self, given: bool) -> Option<LineFault>
+        ensures { result ≡ setting_fault self.now given }
     {
-        self.epoch.is_some() && self.steps.is_empty()
+        if self.epoch.is_none() {
+            return Some(LineFault::NoEpoch);
+        }
+        if !self.steps.is_empty() {
+            return Some(LineFault::Behind);
+        }
+        if given {
+            return Some(LineFault::Twice);
+        }
+        None
     }
 
     /// The job that the draft is, where it has an epoch.

@@ -1,19 +1,20 @@
 //! The form that a line of a job fits.
-ghost use Rattle.std.specs.Prelude.{◌≡◌, IfOk, None};
-ghost use Rattle.job_lines.specs.Forms.{begins_plain, epoch_form, epoch_line, form_by, form_of};
+ghost use Rattle.std.specs.Prelude.{◌≡◌, ◌⊎◌, IfErr, IfOk, None, OnErr, Some};
+ghost use Rattle.job_lines.specs.Faults.{IsSo};
+ghost use Rattle.job_lines.specs.Forms.{epoch_form, epoch_line, form_by, form_of};
 ghost use Rattle.job_lines.specs.Forms.{pieces_form, pieces_line, type_form, type_line};
 ghost use Rattle.job_lines.specs.Words.{words};
 
 use crate::act::Act;
 use crate::acts::act_by;
-use crate::names::is_type_name;
+use crate::line_fault::LineFault;
+use crate::names::type_fault;
+use crate::numbers::begins_plain;
 use crate::operands::{only, text_of};
+use crate::word_fault::{Shape, WordFault};
 use crate::words::next_word;
-use geo_addr::{Memory, Text, decimal};
+use geo_addr::{Text, decimal};
 use std::alloc::Global;
-
-/// The most pieces that a job may ask for.
-pub(crate) const MOST_PIECES: u128 = 64;
 
 /// What a line of a job that is not passed over says.
 #[derive(Debug, Drop)]
@@ -24,102 +25,122 @@ pub(crate) enum Form {
     Do(Act),
 }
 
-/// The form that a line fits, if it fits one: its first word says which.
-pub(crate) fn read_form(alloc: Global, line: &[u8]) -> Result<Option<Form>, Memory>
-    ensures { IfOk result (λ form. form ≡ form_of (words line.now)) }
+/// The form that a line fits: its first word says which.
+pub(crate) fn read_form(alloc: Global, line: &[u8]) -> Result<Form, LineFault>
+    ensures ok { IfOk result (λ form. form_of (words line.now) ≡ Some form) }
+    ensures err { IfErr result (λ why. (why ≡ LineFault.Memory)
+        ⊎ (form_of (words line.now) ≡ None)) }
 {
     match next_word(line) {
         Some((word, rest)) => form_by(alloc, word, rest),
-        None => Ok(None),
+        None => Err(LineFault::Nothing),
     }
 }
 
 #[tactic(auto, unfolding(crate::specs::Forms::form_by))]
-fn form_by(alloc: Global, word: &[u8], rest: &[u8]) -> Result<Option<Form>, Memory>
-    ensures { IfOk result (λ form. form ≡ form_by word.now (words rest.now)) }
+fn form_by(alloc: Global, word: &[u8], rest: &[u8]) -> Result<Form, LineFault>
+    ensures ok { IfOk result (λ form. form_by word.now (words rest.now) ≡ Some form) }
+    ensures err { IfErr result (λ why. (why ≡ LineFault.Memory)
+        ⊎ (form_by word.now (words rest.now) ≡ None)) }
 {
     if word == b"epoch".as_slice() {
-        return Ok(epoch_line(rest));
+        return epoch_line(rest);
     }
     if word == b"type".as_slice() {
         return type_line(alloc, rest);
     }
     if word == b"pieces".as_slice() {
-        return Ok(pieces_line(rest));
+        return pieces_line(rest);
     }
-    match act_by(alloc, word, rest)? {
-        Some(act) => Ok(Some(Form::Do(act))),
-        None => Ok(None),
+    let act = act_by(alloc, word, rest)?;
+    Ok(Form::Do(act))
+}
+
+fn epoch_line(rest: &[u8]) -> Result<Form, LineFault>
+    ensures ok { IfOk result (λ form. epoch_line (words rest.now) ≡ Some form) }
+    ensures err { OnErr result (epoch_line (words rest.now) ≡ None) }
+{
+    let digits = only(rest, 1)?;
+    match epoch_form(digits) {
+        Ok(form) => Ok(form),
+        Err(fault) => Err(LineFault::Word {
+            at: 1,
+            shape: Shape::Epoch,
+            fault,
+        }),
     }
 }
 
-fn epoch_line(rest: &[u8]) -> Option<Form>
-    ensures { result ≡ epoch_line (words rest.now) }
+fn type_line(alloc: Global, rest: &[u8]) -> Result<Form, LineFault>
+    ensures ok { IfOk result (λ form. type_line (words rest.now) ≡ Some form) }
+    ensures err { IfErr result (λ why. (why ≡ LineFault.Memory)
+        ⊎ (type_line (words rest.now) ≡ None)) }
 {
-    match only(rest) {
-        Some(digits) => epoch_form(digits),
-        None => None,
+    let name = only(rest, 1)?;
+    type_form(alloc, name)
+}
+
+fn pieces_line(rest: &[u8]) -> Result<Form, LineFault>
+    ensures ok { IfOk result (λ form. pieces_line (words rest.now) ≡ Some form) }
+    ensures err { OnErr result (pieces_line (words rest.now) ≡ None) }
+{
+    let digits = only(rest, 1)?;
+    match pieces_form(digits) {
+        Ok(form) => Ok(form),
+        Err(fault) => Err(LineFault::Word {
+            at: 1,
+            shape: Shape::Pieces,
+            fault,
+        }),
     }
 }
 
-fn type_line(alloc: Global, rest: &[u8]) -> Result<Option<Form>, Memory>
-    ensures { IfOk result (λ form. form ≡ type_line (words rest.now)) }
+fn epoch_form(digits: &[u8]) -> Result<Form, WordFault>
+    ensures ok { IfOk result (λ form. epoch_form digits.now ≡ Some form) }
+    ensures err { OnErr result (epoch_form digits.now ≡ None) }
+    ensures so { IfErr result (λ fault. IsSo fault digits.now) }
 {
-    match only(rest) {
-        Some(name) => type_form(alloc, name),
-        None => Ok(None),
+    match decimal(digits, 1, 20) {
+        Some(number) => {
+            if number >= 1 << 64 {
+                return Err(WordFault::EpochLarge);
+            }
+            Ok(Form::Epoch(number as u64))
+        }
+        None => Err(WordFault::EpochDigits),
     }
-}
-
-fn pieces_line(rest: &[u8]) -> Option<Form>
-    ensures { result ≡ pieces_line (words rest.now) }
-{
-    match only(rest) {
-        Some(digits) => pieces_form(digits),
-        None => None,
-    }
-}
-
-fn epoch_form(digits: &[u8]) -> Option<Form>
-    ensures { result ≡ epoch_form digits.now }
-{
-    let number = decimal(digits, 1, 20)?;
-    if number >= 1 << 64 {
-        return None;
-    }
-    Some(Form::Epoch(number as u64))
 }
 
 #[tactic(auto, using(crate::proofs::TextLemmas::words_are_texts))]
-fn type_form(alloc: Global, name: &[u8]) -> Result<Option<Form>, Memory>
-    ensures { IfOk result (λ form. form ≡ type_form name.now) }
+fn type_form(alloc: Global, name: &[u8]) -> Result<Form, LineFault>
+    ensures ok { IfOk result (λ form. type_form name.now ≡ Some form) }
+    ensures err { IfErr result (λ why. (why ≡ LineFault.Memory) ⊎ (type_form name.now ≡ None)) }
 {
-    if !is_type_name(name) {
-        return Ok(None);
+    match type_fault(name) {
+        Some(fault) => Err(LineFault::Word {
+            at: 1,
+            shape: Shape::TypeName,
+            fault,
+        }),
+        None => Ok(Form::TypeName(text_of(alloc, name)?)),
     }
-    let name = text_of(alloc, name)?;
-    Ok(Some(Form::TypeName(name)))
 }
 
-fn pieces_form(digits: &[u8]) -> Option<Form>
-    ensures { result ≡ pieces_form digits.now }
+fn pieces_form(digits: &[u8]) -> Result<Form, WordFault>
+    ensures ok { IfOk result (λ form. pieces_form digits.now ≡ Some form) }
+    ensures err { OnErr result (pieces_form digits.now ≡ None) }
+    ensures so { IfErr result (λ fault. IsSo fault digits.now) }
 {
     if !begins_plain(digits) {
-        return None;
+        return Err(WordFault::Pieces);
     }
-    let number = decimal(digits, 1, 2)?;
-    if number < 1 || number > MOST_PIECES {
-        return None;
-    }
-    Some(Form::Pieces(number as u32))
-}
-
-// Whether a number begins with another digit than `0`.
-fn begins_plain(digits: &[u8]) -> bool
-    ensures { result ≡ begins_plain digits.now }
-{
-    match digits {
-        [first, ..] => *first != b'0',
-        [] => false,
+    match decimal(digits, 1, 2) {
+        Some(number) => {
+            if number < 1 || number > 64 {
+                return Err(WordFault::Pieces);
+            }
+            Ok(Form::Pieces(number as u32))
+        }
+        None => Err(WordFault::Pieces),
     }
 }

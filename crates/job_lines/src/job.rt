@@ -6,6 +6,7 @@ use crate::act::Act;
 use crate::draft::Draft;
 use crate::fault::JobFault;
 use crate::names::is_text;
+use crate::reason::JobRefusal;
 use geo_addr::List;
 use mmdb_file::Meta;
 use std::alloc::Global;
@@ -38,17 +39,32 @@ pub const LONGEST_JOB: usize = 1_048_576;
 /// any number and order: `rpsl SLOT FILE`, `stats SLOT FILE`, `feed URL FILE`, `overrides FILE`,
 /// `drop rpsl SLOT`, `drop stats SLOT`, `drop feed URL`, `drop overrides`, `emit FILE`, `report`,
 /// `mark NAME`, `back NAME` and `compact`. NAME has the form of SLOT.
-#[tactic(auto, unfolding(crate::specs::Job::job))]
 pub fn read_job(alloc: Global, bytes: &[u8]) -> Result<Job, JobFault>
     ensures ok { IfOk result (λ j. job bytes.now ≡ Ok j) }
     ensures err { IfErr result (λ why. (why ≡ JobFault.Memory) ⊎ (job bytes.now ≡ Err why)) }
 {
+    match job_or_reason(alloc, bytes) {
+        Ok(job) => Ok(job),
+        Err(why) => Err(why.fault),
+    }
+}
+
+/// Reads a job as `read_job` does, and says of a line that is refused why it is.
+#[tactic(auto, unfolding(crate::specs::Job::job))]
+pub fn job_or_reason(alloc: Global, bytes: &[u8]) -> Result<Job, JobRefusal>
+    ensures ok { IfOk result (λ j. job bytes.now ≡ Ok j) }
+    ensures err { IfErr result
+        (λ why. (why.fault ≡ JobFault.Memory) ⊎ (job bytes.now ≡ Err why.fault)) }
+{
     if bytes.len() > LONGEST_JOB {
-        return Err(JobFault::TooLong);
+        return Err(JobRefusal::of(JobFault::TooLong));
     }
     if !is_text(bytes) {
-        return Err(JobFault::Utf8);
+        return Err(JobRefusal::not_utf8(alloc, bytes));
     }
     let draft = Draft::of(alloc, bytes)?;
-    draft.finish(alloc)
+    match draft.finish(alloc) {
+        Ok(job) => Ok(job),
+        Err(fault) => Err(JobRefusal::of(fault)),
+    }
 }

@@ -1,17 +1,19 @@
 //! The lines of a job that keep sources, go back to them, or give up nodes.
-ghost use Rattle.std.specs.Prelude.{◌≡◌, IfOk};
+ghost use Rattle.std.specs.Prelude.{◌≡◌, ◌⊎◌, IfErr, IfOk, None, OnErr, Some};
 ghost use Rattle.job_lines.specs.Acts.{back_line, compact_line, kept_by, mark_line};
 ghost use Rattle.job_lines.specs.Words.{words};
 
 use crate::act::Act;
-use crate::operands::{has_none, slot_alone};
-use geo_addr::Memory;
+use crate::line_fault::LineFault;
+use crate::operands::{nothing, slot_alone};
 use std::alloc::Global;
 
-/// The act of such a line, if it says one: its first word says which.
+/// The act of such a line: its first word says which.
 #[tactic(auto, unfolding(crate::specs::Acts::kept_by))]
-pub(crate) fn kept_by(alloc: Global, word: &[u8], rest: &[u8]) -> Result<Option<Act>, Memory>
-    ensures { IfOk result (λ act. act ≡ kept_by word.now (words rest.now)) }
+pub(crate) fn kept_by(alloc: Global, word: &[u8], rest: &[u8]) -> Result<Act, LineFault>
+    ensures ok { IfOk result (λ act. kept_by word.now (words rest.now) ≡ Some act) }
+    ensures err { IfErr result (λ why. (why ≡ LineFault.Memory)
+        ⊎ (kept_by word.now (words rest.now) ≡ None)) }
 {
     if word == b"mark".as_slice() {
         return mark_line(alloc, rest);
@@ -20,34 +22,33 @@ pub(crate) fn kept_by(alloc: Global, word: &[u8], rest: &[u8]) -> Result<Option<
         return back_line(alloc, rest);
     }
     if word == b"compact".as_slice() {
-        return Ok(compact_line(rest));
+        return compact_line(rest);
     }
-    Ok(None)
+    Err(LineFault::Unknown)
 }
 
-fn mark_line(alloc: Global, rest: &[u8]) -> Result<Option<Act>, Memory>
-    ensures { IfOk result (λ act. act ≡ mark_line (words rest.now)) }
+fn mark_line(alloc: Global, rest: &[u8]) -> Result<Act, LineFault>
+    ensures ok { IfOk result (λ act. mark_line (words rest.now) ≡ Some act) }
+    ensures err { IfErr result (λ why. (why ≡ LineFault.Memory)
+        ⊎ (mark_line (words rest.now) ≡ None)) }
 {
-    match slot_alone(alloc, rest)? {
-        Some(name) => Ok(Some(Act::Mark { name })),
-        None => Ok(None),
-    }
+    let name = slot_alone(alloc, rest, 1)?;
+    Ok(Act::Mark { name })
 }
 
-fn back_line(alloc: Global, rest: &[u8]) -> Result<Option<Act>, Memory>
-    ensures { IfOk result (λ act. act ≡ back_line (words rest.now)) }
+fn back_line(alloc: Global, rest: &[u8]) -> Result<Act, LineFault>
+    ensures ok { IfOk result (λ act. back_line (words rest.now) ≡ Some act) }
+    ensures err { IfErr result (λ why. (why ≡ LineFault.Memory)
+        ⊎ (back_line (words rest.now) ≡ None)) }
 {
-    match slot_alone(alloc, rest)? {
-        Some(name) => Ok(Some(Act::Back { name })),
-        None => Ok(None),
-    }
+    let name = slot_alone(alloc, rest, 1)?;
+    Ok(Act::Back { name })
 }
 
-fn compact_line(rest: &[u8]) -> Option<Act>
-    ensures { result ≡ compact_line (words rest.now) }
+fn compact_line(rest: &[u8]) -> Result<Act, LineFault>
+    ensures ok { IfOk result (λ act. compact_line (words rest.now) ≡ Some act) }
+    ensures err { OnErr result (compact_line (words rest.now) ≡ None) }
 {
-    if has_none(rest) {
-        return Some(Act::Compact);
-    }
-    None
+    nothing(rest, 1)?;
+    Ok(Act::Compact)
 }

@@ -1,4 +1,5 @@
-//! What a job says: the settings and the steps of its lines, read whole.
+//! What a job says: the settings and the steps of its lines, read whole; the command that words
+//! are; and why a line or words are refused.
 #![tactic(auto)]
 
 mod act;
@@ -10,16 +11,21 @@ mod form;
 mod job;
 mod kept;
 pub mod laws;
+mod line_fault;
 mod names;
+mod numbers;
 mod operands;
+mod reason;
+mod spoken;
+mod word_fault;
 mod words;
 
 pub use act::{Act, Gone};
 pub use fault::JobFault;
-pub use job::{Job, LONGEST_JOB, Step, read_job};
-pub use names::{
-    LONGEST_NAME, LONGEST_WORD, has_name_bytes, has_slot_bytes, has_visible_bytes, is_name,
-    is_slot, is_text,
-};
-pub use operands::feed_key;
-pub use words::next_word;
+pub use job::{Job, LONGEST_JOB, Step, job_or_reason, read_job};
+pub use line_fault::LineFault;
+pub use names::{is_name, is_slot, name_fault};
+pub use operands::{feed_key, url_at};
+pub use reason::{Excerpt, JobRefusal, Reason};
+pub use spoken::{Spoken, command_in, command_or_reason};
+pub use word_fault::{Shape, WordFault};

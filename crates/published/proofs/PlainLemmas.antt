@@ -6,7 +6,7 @@ use Rattle.std.proofs.lemmas.Bool.Decides.{nat_tests}
 use Rattle.std.proofs.lemmas.Nat.{pow-add, pow_pos}
 use Rattle.geo_addr.specs.Ranges.{IsBlock, Prefix}
 use Rattle.geo_addr.proofs.Blocks.{multiple_ends}
-use Rattle.command_words.specs.Commands.{is_plain}
+use Rattle.job_lines.specs.Commands.{is_plain}
 use Rattle.publish_least.specs.Lines.{IsPlain}
 
 -- a block that begins below 2 ^ 32 and is no larger ends there at the latest

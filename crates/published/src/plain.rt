@@ -1,6 +1,6 @@
 //! Which blocks have a feed.
 ghost use Rattle.std.specs.Prelude.{◌≡◌, IsTrue};
-ghost use Rattle.command_words.specs.Commands.{is_plain};
+ghost use Rattle.job_lines.specs.Commands.{is_plain};
 ghost use Rattle.publish_least.specs.Lines.{IsPlain};
 
 use geo_addr::Block;

@@ -1,4 +1,1 @@
-pub mod Faults
-pub mod Lines
-pub mod Order
-pub mod Shapes
+pub mod Letters

@@ -3,23 +3,13 @@
 #![tactic(auto)]
 
 mod causes;
-mod command;
-mod fault;
-mod grammar;
-mod line;
-mod names;
-mod numbers;
-mod order;
-mod shape;
+mod files;
+mod hints;
+mod near;
+mod refused;
 mod shown;
 mod steps;
 mod stop;
-mod told;
+mod usage;
 
-pub use command::{CommandFault, command_fault};
-pub use fault::WordFault;
-pub use line::{LineFault, line_fault};
-pub use names::name_fault;
-pub use order::{OrderFault, Refusal, refusal_of};
-pub use shape::{Operands, Shape, word_fault};
-pub use stop::{Stopped, stop_text};
+pub use stop::{System, stop_text};

@@ -1,69 +1,66 @@
-//! Steps of a job, found by what a stop line says of them.
-use feed_csv::{LONGEST_FEED, MOST_ENTRIES};
-use feed_refs::{LONGEST_DUMP, MOST_REFERENCES};
-use job_lines::{Act, Job};
-use nro_stats::{LONGEST_STATS, MOST_DELEGATIONS};
-use override_rows::{LONGEST_OVERRIDES, MOST_OVERRIDES};
+//! Steps that could not be done with what there is.
+use crate::files::name_in;
+use crate::shown::quoted;
+use geo_addr::Memory;
+use job_run::{ActKind, Journal};
+use std::alloc::Global;
 
-/// What is done with a file by a step.
-#[derive(Clone, Copy, Debug, PartialEq, Eq)]
-pub(crate) enum Use {
-    Read,
-    Written,
+/// A source that was to be dropped and is not set.
+pub(crate) fn gone_words(alloc: Global, journal: &Journal) -> Result<String, Memory> {
+    let what = match kind_of(journal) {
+        Some(ActKind::DropRpsl) => "no dump is set in the slot",
+        Some(ActKind::DropStats) => "no statistics are set in the slot",
+        Some(ActKind::DropFeed) => "no feed is set for the URL",
+        _ => return Ok(String::from_str(alloc, "no overrides are set at this line")?),
+    };
+    let name = quoted(alloc, name_in(journal))?;
+    Ok(format!(in alloc; "{what} {} at this line", name.as_str())?)
 }
 
-/// What the step of this line does.
-pub(crate) fn act_at(job: &Job, line: u64) -> Option<&Act> {
-    for step in job.steps.as_slice() {
-        if step.line == line {
-            return Some(&step.act);
+/// A mark that was to be gone back to and is not there.
+pub(crate) fn unmarked_words(alloc: Global, journal: &Journal) -> Result<String, Memory> {
+    let name = quoted(alloc, name_in(journal))?;
+    Ok(format!(in alloc; "no line before this one makes the mark {}", name.as_str())?)
+}
+
+/// A file that is over its bytes.
+pub(crate) fn long_words(alloc: Global, journal: &Journal) -> Result<String, Memory> {
+    let most = match kind_of(journal) {
+        Some(ActKind::Rpsl) => "1,099,511,627,776",
+        Some(ActKind::Stats) => "268,435,456",
+        Some(_) => "67,108,864",
+        None => "1,073,741,824",
+    };
+    let name = quoted(alloc, name_in(journal))?;
+    Ok(format!(in alloc; "the file {} has more than {most} bytes", name.as_str())?)
+}
+
+/// A file that is over its statements.
+pub(crate) fn many_words(alloc: Global, journal: &Journal) -> Result<String, Memory> {
+    let what = match kind_of(journal) {
+        Some(ActKind::Rpsl) => "references",
+        Some(ActKind::Stats) => "delegations",
+        Some(ActKind::Feed) => "prefixes",
+        _ => "overrides",
+    };
+    let name = quoted(alloc, name_in(journal))?;
+    Ok(format!(in alloc; "the file {} has more than 2,097,152 {what}", name.as_str())?)
+}
+
+/// What is too large for the format.
+pub(crate) fn large_words(journal: &Journal) -> &'static str {
+    match kind_of(journal) {
+        Some(_) => {
+            "the file is too large for its format: \
+nodes, 16 and the data section together stay below 2^32"
+        }
+        None => {
+            "the sources are too large: nodes, 16 and the data section together stay below 2^32"
         }
     }
-    None
 }
 
-/// The line of the one step that reads or writes the file of this name. Of two such lines a stop
-/// line does not say which, so there is no answer.
-pub(crate) fn line_of(job: &Job, name: &str, done: Use) -> Option<u64> {
-    let mut found = None;
-    for step in job.steps.as_slice() {
-        if is_of(&step.act, name, done) {
-            if found.is_some() {
-                return None;
-            }
-            found = Some(step.line);
-        }
-    }
-    found
-}
-
-fn is_of(act: &Act, name: &str, done: Use) -> bool {
-    match act {
-        Act::Rpsl { file, .. }
-        | Act::Stats { file, .. }
-        | Act::Feed { file, .. }
-        | Act::Overrides { file } => done == Use::Read && file.as_str() == name,
-        Act::Emit { file } => done == Use::Written && file.as_str() == name,
-        _ => false,
-    }
-}
-
-/// The limit of bytes of the source that a step sets.
-pub(crate) fn most_bytes(act: &Act) -> usize {
-    match act {
-        Act::Rpsl { .. } => LONGEST_DUMP,
-        Act::Stats { .. } => LONGEST_STATS,
-        Act::Feed { .. } => LONGEST_FEED,
-        _ => LONGEST_OVERRIDES,
-    }
-}
-
-/// The limit of statements of the source that a step sets, and what they are.
-pub(crate) fn most_statements(act: &Act) -> (usize, &'static str) {
-    match act {
-        Act::Rpsl { .. } => (MOST_REFERENCES, "references"),
-        Act::Stats { .. } => (MOST_DELEGATIONS, "delegations"),
-        Act::Feed { .. } => (MOST_ENTRIES, "prefixes"),
-        _ => (MOST_OVERRIDES, "overrides"),
-    }
+fn kind_of(journal: &Journal) -> Option<ActKind> {
+    let step = journal.step?;
+    Some(step.kind)
 }

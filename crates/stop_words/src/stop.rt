@@ -1,348 +1,128 @@
 //! The line of words for a stop.
-ghost use Rattle.std.specs.Prelude.{◌≡◌, [], IfOk};
-
 use crate::causes::cause_words;
-use crate::shown::{grouped, shown};
-use crate::steps::{Use, act_at, line_of, most_bytes, most_statements};
-use crate::told::{command_words, line_words};
-use file_lookup::LONGEST_FILE;
-use geo_addr::{Lines, Memory, Text, decimal};
-use geo_outside::{Folder, read_whole};
-use job_lines::{Act, Gone, Job, LONGEST_JOB, read_job};
+pub use crate::files::System;
+use crate::files::{missing_words, name_in, unprinted_words, unread_words, unwritten_words};
+use crate::refused::{command_words, line_words, said};
+use crate::shown::{bare, quoted};
+use crate::steps::{gone_words, large_words, long_words, many_words, unmarked_words};
+use file_lookup::LookupFault;
+use geo_addr::{Memory, Text};
+use job_lines::JobFault;
+use job_run::{Cause, Journal, Stop};
 use std::alloc::Global;
 
-/// Why a command stopped.
-#[derive(Clone, Copy, Debug)]
-pub struct Stopped<'a> {
-    /// The exit status.
-    pub status: u8,
-    /// The stop line as it was printed, or nothing.
-    pub line: &'a str,
-    /// What the system said of the call that failed, or nothing.
-    pub system: &'a str,
-}
-
-/// One line for the person who spoke these words: what stopped the command, in which line of the
-/// job, and what to do. It is empty where all was done.
-///
-/// The job is read again, from a folder that may have changed by now:
-/// what is not found there is left out of the line.
-pub fn stop_text<F: Folder>(
-    alloc: Global,
-    words: &[String],
-    folder: &mut F,
-    stopped: &Stopped<'_>,
-) -> Result<Text, Memory>
-    ensures done { stopped.now.status ≡ 0 → IfOk result (λ text. text ≡ []) }
-    ensures same { F.told folder.new ≡ F.told folder.old }
-{
-    if stopped.status == 0 {
-        return Text::of(alloc, "");
-    }
-    let text = told(alloc, words, folder, stopped)?;
+/// One line for the person who ran the program: what journal the command, in which line of the job,
+/// and what to do.
+pub fn stop_text(alloc: Global, journal: &Journal, system: Option<System>) -> Result<Text, Memory> {
+    let what = told(alloc, journal, system)?;
+    let text = located(alloc, journal, what.as_str())?;
     let text = Text::from_string(text)?;
     Ok(text)
 }
 
-fn told<F: Folder>(
-    alloc: Global,
-    words: &[String],
-    folder: &mut F,
-    stopped: &Stopped<'_>,
-) -> Result<String, Memory>
-    ensures { F.told folder.new ≡ F.told folder.old }
-{
-    match stopped.status {
-        1 => plain(
+fn told(alloc: Global, journal: &Journal, system: Option<System>) -> Result<String, Memory> {
+    match journal.why {
+        Some(Stop::Blocked(cause)) => cause_told(alloc, journal, cause),
+        Some(Stop::ReadFailed) => unread_words(alloc, journal, system),
+        Some(Stop::PutFailed) => unwritten_words(alloc, journal, system),
+        Some(Stop::SinkFailed) => unprinted_words(alloc, system),
+        Some(Stop::Memory) | None => said(
             alloc,
             "memory ran out; what was written before stands, and the rest needs more memory",
         ),
-        2 => {
-            let what = command_words(alloc, words)?;
-            plain(alloc, what.as_str())
-        }
-        3 | 4 => file_stop(alloc, words, folder, stopped, Use::Read),
-        5 => write_stop(alloc, words, folder, stopped),
-        6 => job_stop(alloc, words, folder, stopped),
-        9 => damaged(alloc, words, stopped),
-        12 => absent(alloc, words),
-        _ => step_stop(alloc, words, folder, stopped),
     }
 }
 
-// A line that names no line of a job.
-fn plain(alloc: Global, what: &str) -> Result<String, Memory> {
-    Ok(format!(in alloc; "geofeed: {what}\n")?)
-}
-
-// A line that names its line of the job, where there is one.
-fn located(
-    alloc: Global,
-    words: &[String],
-    line: Option<u64>,
-    what: &str,
-) -> Result<String, Memory> {
-    match (job_name(words), line) {
-        (Some(job), Some(line)) => Ok(format!(in alloc; "{job}:{line}: {what}\n")?),
-        _ => plain(alloc, what),
-    }
-}
-
-// The name of the job that the words speak of, if they speak of one.
-fn job_name(words: &[String]) -> Option<&str> {
-    match words {
-        [command, name, ..] => match command.as_str() {
-            "build" | "explain" | "publish" | "check" | "census" => Some(name.as_str()),
-            _ => None,
+fn cause_told(alloc: Global, journal: &Journal, cause: Cause) -> Result<String, Memory> {
+    match cause {
+        Cause::Words => match &journal.reason {
+            Some(reason) => command_words(alloc, reason),
+            None => said(alloc, "the words are no command; see geofeed --help"),
         },
-        _ => None,
+        Cause::Job(fault) => job_words(alloc, journal, fault),
+        Cause::Missing => missing_words(alloc, journal),
+        Cause::TooLong => long_words(alloc, journal),
+        Cause::TooMany => many_words(alloc, journal),
+        Cause::NotThere => gone_words(alloc, journal),
+        Cause::NoMark => unmarked_words(alloc, journal),
+        Cause::NoFeed => absent_words(alloc, journal),
+        Cause::TooLarge => said(alloc, large_words(journal)),
+        Cause::File(fault) => damaged_words(alloc, journal, fault),
     }
-}
-
-// The bytes of that job, where it is read again.
-fn job_bytes<F: Folder>(alloc: Global, words: &[String], folder: &mut F) -> Option<Vec<u8>>
-    ensures { F.told folder.new ≡ F.told folder.old }
-{
-    let name = job_name(words)?;
-    match read_whole(alloc, folder, name, LONGEST_JOB as u64) {
-        Ok(bytes) => Some(bytes),
-        Err(_) => None,
-    }
-}
-
-fn job_of<F: Folder>(alloc: Global, words: &[String], folder: &mut F) -> Option<Job>
-    ensures { F.told folder.new ≡ F.told folder.old }
-{
-    let bytes = job_bytes(alloc, words, folder)?;
-    match read_job(alloc, bytes.as_slice()) {
-        Ok(job) => Some(job),
-        Err(_) => None,
-    }
-}
-
-// The word at this index of a stop line, counted from 0, or nothing.
-fn part<'a>(stopped: &Stopped<'a>, at: usize) -> &'a str {
-    let line = stopped.line.strip_suffix("\n").unwrap_or(stopped.line);
-    line.split(' ').nth(at).unwrap_or("")
-}
-
-// The number at this index of a stop line.
-fn number(stopped: &Stopped<'_>, at: usize) -> Option<u64> {
-    let number = decimal(part(stopped, at).as_bytes(), 1, 20)?;
-    u64::try_from(number).ok()
-}
-
-// A file that was not read, or not written.
-fn file_stop<F: Folder>(
-    alloc: Global,
-    words: &[String],
-    folder: &mut F,
-    stopped: &Stopped<'_>,
-    done: Use,
-) -> Result<String, Memory>
-    ensures { F.told folder.new ≡ F.told folder.old }
-{
-    let name = part(stopped, 2);
-    let line = match job_of(alloc, words, folder) {
-        Some(job) => line_of(&job, name, done),
-        None => None,
-    };
-    let quoted = shown(alloc, name.as_bytes())?;
-    let what = match stopped.status {
-        3 => "could not be read",
-        4 => "is not there; names are looked up from the current folder",
-        _ => "could not be written; what stood there before stands there still",
-    };
-    let noun = if line.is_none() && job_name(words) == Some(name) {
-        "the job"
-    } else {
-        "the file"
-    };
-    let why = because(alloc, stopped.system)?;
-    let what = format!(in alloc; "{noun} {} {what}{}", quoted.as_str(), why.as_str())?;
-    located(alloc, words, line, what.as_str())
-}
-
-fn because(alloc: Global, system: &str) -> Result<String, Memory> {
-    if system.is_empty() {
-        return Ok(String::new(alloc));
-    }
-    Ok(format!(in alloc; ": {system}")?)
-}
-
-fn write_stop<F: Folder>(
-    alloc: Global,
-    words: &[String],
-    folder: &mut F,
-    stopped: &Stopped<'_>,
-) -> Result<String, Memory>
-    ensures { F.told folder.new ≡ F.told folder.old }
-{
-    if part(stopped, 1) == "write" {
-        return file_stop(alloc, words, folder, stopped, Use::Written);
-    }
-    let why = because(alloc, stopped.system)?;
-    let what = format!(in alloc; "standard output could not be written{}", why.as_str())?;
-    plain(alloc, what.as_str())
 }
 
 // A job that is refused.
-fn job_stop<F: Folder>(
-    alloc: Global,
-    words: &[String],
-    folder: &mut F,
-    stopped: &Stopped<'_>,
-) -> Result<String, Memory>
-    ensures { F.told folder.new ≡ F.told folder.old }
-{
-    let bytes = match job_bytes(alloc, words, folder) {
-        Some(bytes) => bytes,
-        None => Vec::new(alloc),
+fn job_words(alloc: Global, journal: &Journal, fault: JobFault) -> Result<String, Memory> {
+    if let Some(reason) = &journal.reason {
+        return line_words(alloc, reason);
+    }
+    let what = match fault {
+        JobFault::TooLong => "the job has more than 1,048,576 bytes",
+        JobFault::Utf8 => "the job is not UTF-8",
+        JobFault::Line(_) => "the line fits no form, or stands where it may not",
+        JobFault::Epoch =>
+            "the job has no line but blank ones and comments; it begins with: epoch N",
+        JobFault::Memory => "memory ran out",
     };
-    let what = match part(stopped, 2) {
-        "long" => {
-            let most = grouped(alloc, LONGEST_JOB as u64)?;
-            let what = format!(in alloc; "the job has more than {most} bytes")?;
-            return plain(alloc, what.as_str());
-        }
-        "empty" => "the job has no line but blank ones and comments; it begins with: epoch N",
-        "utf8" => {
-            let line = first_not_utf8(bytes.as_slice());
-            return located(
-                alloc,
-                words,
-                line,
-                "the line is not UTF-8, as a job has to be",
-            );
-        }
-        _ => {
-            let line = number(stopped, 2);
-            let what = line_words(alloc, bytes.as_slice(), line.unwrap_or(0))?;
-            return located(alloc, words, line, what.as_str());
-        }
-    };
-    plain(alloc, what)
+    said(alloc, what)
 }
 
-// The first line of a text that is not UTF-8.
-fn first_not_utf8(bytes: &[u8]) -> Option<u64> {
-    for line in Lines::of(bytes) {
-        if str::from_utf8(line.text).is_err() {
-            return Some(line.number);
+fn absent_words(alloc: Global, journal: &Journal) -> Result<String, Memory> {
+    let url = quoted(alloc, name_in(journal))?;
+    let near = near_words(alloc, journal)?;
+    Ok(format!(in alloc;
+        "no feed of the URL {} is in force at the job's end; {}",
+        url.as_str(),
+        near.as_str()
+    )?)
+}
+
+// Which feeds are in force near one that is not.
+fn near_words(alloc: Global, journal: &Journal) -> Result<String, Memory> {
+    match (&journal.below, &journal.above) {
+        (Some(below), Some(above)) => {
+            let below = quoted(alloc, below.as_str())?;
+            let above = quoted(alloc, above.as_str())?;
+            Ok(format!(in alloc; "the nearest are {} and {}", below.as_str(), above.as_str())?)
         }
+        (Some(near), None) | (None, Some(near)) => {
+            let near = quoted(alloc, near.as_str())?;
+            Ok(format!(in alloc; "the nearest is {}", near.as_str())?)
+        }
+        (None, None) => said(alloc, "no other feed is"),
     }
-    None
 }
 
 // A file that was looked up in.
-fn damaged(alloc: Global, words: &[String], stopped: &Stopped<'_>) -> Result<String, Memory> {
-    let name = match words.get(1) {
-        Some(word) => shown(alloc, word.as_bytes())?,
-        None => String::new(alloc),
-    };
-    let cause = cause_words(alloc, part(stopped, 2).as_bytes())?;
-    let at = match part(stopped, 3) {
-        "" => String::new(alloc),
-        offset => format!(in alloc; ", at byte {offset} of the data section")?,
-    };
-    let what = format!(in alloc; "the file {} {cause}{}", name.as_str(), at.as_str())?;
-    plain(alloc, what.as_str())
-}
-
-fn absent(alloc: Global, words: &[String]) -> Result<String, Memory> {
-    let url = match words.get(2) {
-        Some(word) => shown(alloc, word.as_bytes())?,
-        None => String::new(alloc),
-    };
-    let what = format!(in alloc;
-        "no feed of the URL {} is in force at the job's end; the URL is that of a feed line",
-        url.as_str()
-    )?;
-    plain(alloc, what.as_str())
-}
-
-// A step that could not be done with what there is.
-fn step_stop<F: Folder>(
-    alloc: Global,
-    words: &[String],
-    folder: &mut F,
-    stopped: &Stopped<'_>,
-) -> Result<String, Memory>
-    ensures { F.told folder.new ≡ F.told folder.old }
-{
-    let line = number(stopped, 2);
-    if line == Some(0) || line.is_none() {
-        let what = whole_words(alloc, stopped)?;
-        return plain(alloc, what.as_str());
-    }
-    let job = job_of(alloc, words, folder);
-    let act = match (&job, line) {
-        (Some(job), Some(line)) => act_at(job, line),
-        _ => None,
-    };
-    let what = match act {
-        Some(act) => act_words(alloc, act, stopped)?,
-        None => String::from_str(alloc, "the line cannot be done")?,
-    };
-    located(alloc, words, line, what.as_str())
-}
-
-// What no line of a job is named for.
-fn whole_words(alloc: Global, stopped: &Stopped<'_>) -> Result<String, Memory> {
-    let words = match stopped.status {
-        7 => {
-            let most = grouped(alloc, LONGEST_FILE)?;
-            return Ok(format!(in alloc;
-                "the file has more than {most} bytes, the most of one that is looked up in"
-            )?);
-        }
-        8 => "the sources are too large: nodes, 16 and the data section together stay below 2^32",
-        _ => "the command could not be done",
-    };
-    Ok(String::from_str(alloc, words)?)
-}
-
-fn act_words(alloc: Global, act: &Act, stopped: &Stopped<'_>) -> Result<String, Memory> {
-    match act {
-        Act::Drop(gone) => gone_words(alloc, gone),
-        Act::Back { name } => {
-            let name = shown(alloc, name.as_str().as_bytes())?;
-            Ok(format!(in alloc; "no mark {} stands before this line", name.as_str())?)
-        }
-        Act::Emit { .. } => Ok(String::from_str(
-            alloc,
-            "the file is too large for its format: \
-nodes, 16 and the data section together stay below 2^32",
+fn damaged_words(alloc: Global, journal: &Journal, fault: LookupFault) -> Result<String, Memory> {
+    let name = quoted(alloc, name_in(journal))?;
+    let name = name.as_str();
+    let cause = cause_words(fault);
+    match fault {
+        LookupFault::Value { at, .. } => Ok(format!(in alloc;
+            "the file {name} {cause}, at byte {at} of the data section"
         )?),
-        _ => source_words(alloc, act, stopped),
+        _ => Ok(format!(in alloc; "the file {name} {cause}")?),
     }
 }
 
-fn gone_words(alloc: Global, gone: &Gone) -> Result<String, Memory> {
-    let (kind, name) = match gone {
-        Gone::Rpsl(slot) => ("dump is set in the slot", slot.as_str()),
-        Gone::Stats(slot) => ("statistics are set in the slot", slot.as_str()),
-        Gone::Feed(url) => ("feed is set for the URL", url.as_str()),
-        Gone::Overrides => return Ok(String::from_str(alloc, "no overrides are set at this line")?),
-    };
-    let name = shown(alloc, name.as_bytes())?;
-    Ok(format!(in alloc; "no {kind} {} at this line", name.as_str())?)
+// What is said, behind the line of the job that it is said of, where it is said of one.
+fn located(alloc: Global, journal: &Journal, what: &str) -> Result<String, Memory> {
+    match (&journal.job, line_in(journal)) {
+        (Some(job), Some(line)) => {
+            let job = bare(alloc, job.as_str())?;
+            Ok(format!(in alloc; "{}:{line}: {what}\n", job.as_str())?)
+        }
+        _ => Ok(format!(in alloc; "geofeed: {what}\n")?),
+    }
 }
 
-fn source_words(alloc: Global, act: &Act, stopped: &Stopped<'_>) -> Result<String, Memory> {
-    let file = match act {
-        Act::Rpsl { file, .. }
-        | Act::Stats { file, .. }
-        | Act::Feed { file, .. }
-        | Act::Overrides { file } => shown(alloc, file.as_str().as_bytes())?,
-        _ => return Ok(String::from_str(alloc, "the line cannot be done")?),
-    };
-    let file = file.as_str();
-    if part(stopped, 3) == "bytes" {
-        let most = grouped(alloc, most_bytes(act) as u64)?;
-        return Ok(format!(in alloc; "the file {file} has more than {most} bytes")?);
+fn line_in(journal: &Journal) -> Option<u64> {
+    match (journal.why, &journal.step, &journal.reason) {
+        (Some(Stop::SinkFailed | Stop::Memory) | None, _, _) => None,
+        (_, Some(step), _) => Some(step.line),
+        (_, None, Some(reason)) if reason.line > 0 => Some(reason.line),
+        (Some(Stop::Blocked(Cause::Job(JobFault::Line(line)))), None, _) => Some(line),
+        _ => None,
     }
-    let (most, what) = most_statements(act);
-    let most = grouped(alloc, most as u64)?;
-    Ok(format!(in alloc; "the file {file} has more than {most} {what}")?)
 }

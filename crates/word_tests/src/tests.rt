@@ -1,6 +1,7 @@
 //! Jobs, words, steps and what is said of stops, where the program cannot show it, and each public
 //! call once. What the program can show stands in checks/trials.
 mod jobs;
+mod reasons;
 mod said;
 mod steps;
 mod words;

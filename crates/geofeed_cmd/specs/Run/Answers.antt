@@ -7,7 +7,7 @@ use Rattle.geofeed_cmd.specs.declared.status.Status.TheVariants as statuses
 use Rattle.job_run.specs.declared.stop.Cause.TheVariants as causes
 use Rattle.job_run.specs.declared.stop.Stop.{Stop}
 use Rattle.job_run.specs.declared.stop.Stop.TheVariants as stops
-use Rattle.command_words.specs.Commands.{Command}
+use Rattle.job_lines.specs.Commands.{Command}
 use Rattle.job_run.specs.Acts.{Move, effect, line_of}
 use Rattle.job_run.specs.Course.{course, ended}
 use Rattle.geofeed_cmd.specs.Run.Closes.{EndsWith}

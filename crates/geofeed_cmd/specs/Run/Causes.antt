@@ -8,7 +8,7 @@ use Rattle.geofeed_cmd.specs.declared.status.Status.{Status}
 use Rattle.geofeed_cmd.specs.declared.status.Status.TheVariants as statuses
 use Rattle.job_run.specs.declared.stop.Cause.{Cause}
 use Rattle.job_run.specs.declared.stop.Cause.TheVariants as causes
-use Rattle.command_words.specs.Commands.{Command, lookup}
+use Rattle.job_lines.specs.Commands.{Command, lookup}
 use Rattle.job_run.specs.Course.{IsAt}
 use Rattle.geofeed_cmd.specs.Run.Plans.{Reaches, file_first, is_command, job_of, longest_file}
 use Rattle.geofeed_cmd.specs.Run.Plans.{plan_of, planned}

@@ -4,7 +4,7 @@ use Rattle.geo_outside.specs.Files.{Told}
 use Rattle.job_run.specs.declared.stop.Stop.TheVariants.{Blocked}
 use Rattle.job_run.specs.Acts.{effect, line_of}
 use Rattle.job_run.specs.Course.{Outcome, ended, stopped, course}
-use Rattle.command_words.specs.Commands.{Command}
+use Rattle.job_lines.specs.Commands.{Command}
 use Rattle.geofeed_cmd.specs.declared.status.Status.{Status}
 use Rattle.geofeed_cmd.specs.declared.status.Status.TheVariants as statuses
 use Rattle.geofeed_cmd.specs.Run.Lines.{status_of, stop_line}

@@ -7,7 +7,7 @@ use Rattle.mmdb_data.specs.ValueTree.{ValueTree}
 use Rattle.mmdb_file.specs.Walk.{Barrier, walk}
 use Rattle.geofeed_cmd.specs.declared.status.Status.{Status}
 use Rattle.geofeed_cmd.specs.declared.status.Status.TheVariants as statuses
-use Rattle.command_words.specs.Commands.{lookup}
+use Rattle.job_lines.specs.Commands.{lookup}
 use Rattle.job_run.specs.declared.stop.Cause.TheVariants.{Missing, TooLong, File}
 use Rattle.job_run.specs.declared.stop.Stop.TheVariants.{Blocked}
 use Rattle.geofeed_cmd.specs.Run.Ending.{Ending, ending}

@@ -19,8 +19,8 @@ use Rattle.job_run.specs.Course.{IsAt}
 use Rattle.job_run.specs.Moves.{moves_of, read_rooms, source_moves}
 use Rattle.job_run.specs.Sources.{unreadable}
 use Rattle.job_run.specs.World.{World, printing}
-use Rattle.command_words.specs.Commands.{Command, build, lookup, explain, gen, publish, check}
-use Rattle.command_words.specs.Commands.{census}
+use Rattle.job_lines.specs.Commands.{Command, build, lookup, explain, gen, publish, check}
+use Rattle.job_lines.specs.Commands.{census}
 use Rattle.published.specs.Publishing.{publishing}
 use Rattle.generated_job.specs.Job.{gen_start, gen_steps}
 use Rattle.geofeed_cmd.specs.Commands.Census.{counting}

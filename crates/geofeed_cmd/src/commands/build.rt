@@ -5,7 +5,7 @@ ghost use Rattle.geo_outside.specs.Files.{Told};
 ghost use Rattle.job_run.specs.Seen.{seen};
 ghost use Rattle.job_lines.specs.Said.{IsWithinLimits};
 ghost use Rattle.job_run.specs.Moves.{moves_of, read_rooms};
-ghost use Rattle.command_words.specs.Commands.{Command, build};
+ghost use Rattle.job_lines.specs.Commands.{Command, build};
 ghost use Rattle.geofeed_cmd.specs.Run.Answers.{Comes};
 ghost use Rattle.geofeed_cmd.specs.Run.Plans.{plan_of, planned, room_of, start_of};
 
@@ -17,6 +17,7 @@ use fan_work::Forks;
 use geo_addr::Memory;
 use geo_outside::{Folder, Gate, Sink, Steps};
 use job_lines::Job;
+use job_run::Journal;
 use std::alloc::Global;
 use std::marker::Sync;
 use std::mem::forget;
@@ -35,6 +36,7 @@ pub(crate) fn build<R: Threads + Sync, F: Folder, O: Sink, G: Gate, L: Ledger>(
     out: &mut O,
     gate: &G,
     steps: &mut Steps<L>,
+    journal: &mut Journal,
 ) -> Status
     ensures comes { (first : Told) → F.told folder.old ≡ Some first
         → Comes result (Some (build name.now)) first
@@ -51,9 +53,9 @@ pub(crate) fn build<R: Threads + Sync, F: Folder, O: Sink, G: Gate, L: Ledger>(
     ensures given { (first : Told) → F.told folder.old ≡ Some first
         → F.given folder.new ≤ F.given folder.old + room_of first (Some (build name.now)) }
 {
-    match job_in(alloc, name, folder) {
-        Ok(job) => do_job(rt, alloc, job, folder, out, gate, steps),
-        Err(why) => stop_at(alloc, why, 0, name, out),
+    match job_in(alloc, name, folder, journal) {
+        Ok(job) => do_job(rt, alloc, job, folder, out, gate, steps, journal),
+        Err(why) => stop_at(alloc, why, 0, name, out, journal),
     }
 }
 
@@ -67,6 +69,7 @@ fn do_job<R: Threads + Sync, F: Folder, O: Sink, G: Gate, L: Ledger>(
     out: &mut O,
     gate: &G,
     steps: &mut Steps<L>,
+    journal: &mut Journal,
 ) -> Status
     requires { IsWithinLimits job }
     ensures comes { (first : Told) → F.told folder.old ≡ Some first
@@ -102,7 +105,7 @@ fn do_job<R: Threads + Sync, F: Folder, O: Sink, G: Gate, L: Ledger>(
         Ok(session) => session,
         Err(Memory) => return Status::Memory,
     };
-    let status = do_whole(&forks, &[], list, &mut session, folder, out, steps);
+    let status = do_whole(&forks, &[], list, &mut session, folder, out, steps, journal);
     // The process ends: its memory goes back whole, not source by source.
     forget(session);
     status

@@ -6,7 +6,7 @@ ghost use Rattle.geo_outside.specs.Files.{Told};
 ghost use Rattle.geo_terms.specs.Sources.{InForce};
 ghost use Rattle.check_census.specs.Census.{census};
 ghost use Rattle.check_census.specs.Texts.{count_lines};
-ghost use Rattle.command_words.specs.Commands.{Command, census as census_command};
+ghost use Rattle.job_lines.specs.Commands.{Command, census as census_command};
 ghost use Rattle.job_lines.specs.Said.{IsWithinLimits};
 ghost use Rattle.job_run.specs.Acts.{effect, shows};
 ghost use Rattle.job_run.specs.Moves.{read_rooms, source_moves};
@@ -29,7 +29,7 @@ use fan_work::Forks;
 use geo_addr::{Memory, Text};
 use geo_outside::{Folder, Gate, Sink, Steps};
 use job_lines::Job;
-use job_run::{Cause, Stop, print};
+use job_run::{Cause, Journal, Stop, print};
 use std::alloc::Global;
 use std::marker::Sync;
 use std::mem::forget;
@@ -48,6 +48,7 @@ pub(crate) fn census<R: Threads + Sync, F: Folder, O: Sink, G: Gate, L: Ledger>(
     out: &mut O,
     gate: &G,
     steps: &mut Steps<L>,
+    journal: &mut Journal,
 ) -> Status
     ensures comes { (first : Told) → F.told folder.old ≡ Some first
         → Comes result (Some (census_command name.now)) first
@@ -63,9 +64,9 @@ pub(crate) fn census<R: Threads + Sync, F: Folder, O: Sink, G: Gate, L: Ledger>(
     ensures given { (first : Told) → F.told folder.old ≡ Some first
         → F.given folder.new ≤ F.given folder.old + room_of first (Some (census_command name.now)) }
 {
-    match job_in(alloc, name, folder) {
-        Ok(job) => census_by(rt, alloc, job, folder, out, gate, steps),
-        Err(why) => stop_at(alloc, why, 0, name, out),
+    match job_in(alloc, name, folder, journal) {
+        Ok(job) => census_by(rt, alloc, job, folder, out, gate, steps, journal),
+        Err(why) => stop_at(alloc, why, 0, name, out, journal),
     }
 }
 
@@ -79,6 +80,7 @@ fn census_by<R: Threads + Sync, F: Folder, O: Sink, G: Gate, L: Ledger>(
     out: &mut O,
     gate: &G,
     steps: &mut Steps<L>,
+    journal: &mut Journal,
 ) -> Status
     requires { IsWithinLimits job }
     ensures comes { (first : Told) → F.told folder.old ≡ Some first
@@ -103,7 +105,7 @@ fn census_by<R: Threads + Sync, F: Folder, O: Sink, G: Gate, L: Ledger>(
         gate,
         pieces: job.pieces,
     };
-    let mut session = match sources_of(&forks, job, folder, out, steps) {
+    let mut session = match sources_of(&forks, job, folder, out, steps, journal) {
         Ok(session) => session,
         Err(status) => return status,
     };
@@ -112,7 +114,7 @@ fn census_by<R: Threads + Sync, F: Folder, O: Sink, G: Gate, L: Ledger>(
     forget(session);
     match printed {
         Ok(()) => Status::Done,
-        Err(why) => stop_at(alloc, why, 0, "", out),
+        Err(why) => stop_at(alloc, why, 0, "", out, journal),
     }
 }
 

@@ -1,12 +1,12 @@
 //! `check JOB URL`: prints what becomes of each line of a feed of a job.
 ghost use Rattle.std.specs.Prelude.{◌≡◌, ◌⊎◌, ◌≤◌, ◌≢◌, ◌+◌, ℕ, [], ◌∷◌, ◌++◌, false, IfErr, IfOk};
-ghost use Rattle.std.specs.Prelude.{OnOk, Option, Some};
+ghost use Rattle.std.specs.Prelude.{OnOk, Option, Some, length};
 ghost use Rattle.geo_outside.specs.Count.{Rose};
 ghost use Rattle.geo_outside.specs.Files.{Told};
 ghost use Rattle.geo_terms.specs.Sources.{feed_of};
 ghost use Rattle.check_census.specs.Texts.{verdict_lines};
 ghost use Rattle.check_census.specs.Verdicts.{verdicts};
-ghost use Rattle.command_words.specs.Commands.{Command, check, check_key};
+ghost use Rattle.job_lines.specs.Commands.{Command, check, check_key};
 ghost use Rattle.job_lines.specs.Acts.{feed_key};
 ghost use Rattle.job_lines.specs.Said.{IsWithinLimits};
 ghost use Rattle.job_run.specs.Acts.{shows};
@@ -28,12 +28,13 @@ use fan_work::Forks;
 use geo_addr::{Memory, Text};
 use geo_outside::{Folder, Gate, Sink, Steps};
 use geo_terms::Feed;
-use job_lines::{Job, feed_key};
-use job_run::{Cause, Stop, print};
+use job_lines::{Job, LineFault, Reason, url_at};
+use job_run::{Cause, Journal, Stop, print};
 use precedence::Sources;
 use std::alloc::Global;
 use std::marker::Sync;
 use std::mem::forget;
+use std::sync::Arc;
 use std::sync::ledger::Ledger;
 use std::thread::Threads;
 use update_session::Session;
@@ -48,6 +49,7 @@ pub(crate) fn check<R: Threads + Sync, F: Folder, O: Sink, G: Gate, L: Ledger>(
     out: &mut O,
     gate: &G,
     steps: &mut Steps<L>,
+    journal: &mut Journal,
 ) -> Status
     ensures comes { (first : Told) → F.told folder.old ≡ Some first
         → Comes result (check_key name.now (feed_key word.now)) first
@@ -72,9 +74,28 @@ pub(crate) fn check<R: Threads + Sync, F: Folder, O: Sink, G: Gate, L: Ledger>(
         → F.given folder.new ≤ F.given folder.old
         + room_of first (check_key name.now (feed_key word.now)) }
 {
-    match feed_key(alloc, word.as_bytes()) {
-        Ok(key) => check_keyed(rt, alloc, name, key, folder, out, gate, steps),
+    match key_of(alloc, name, word, journal) {
+        Ok(key) => check_keyed(rt, alloc, name, key, folder, out, gate, steps, journal),
         Err(Memory) => Status::Memory,
+    }
+}
+
+/// The key of a feed that a word is, or `None`, of which the reason is noted.
+fn key_of(
+    alloc: Global,
+    name: &str,
+    word: &str,
+    journal: &mut Journal,
+) -> Result<Option<Text>, Memory>
+    ensures { IfOk result (λ key. key ≡ feed_key word.now) }
+{
+    match url_at(alloc, word.as_bytes(), 2) {
+        Ok(key) => Ok(Some(key)),
+        Err(LineFault::Memory) => Err(Memory),
+        Err(fault) => {
+            journal.refuse(Reason::of_word(alloc, fault, "check", name, word).ok());
+            Ok(None)
+        }
     }
 }
 
@@ -89,6 +110,7 @@ fn check_keyed<R: Threads + Sync, F: Folder, O: Sink, G: Gate, L: Ledger>(
     out: &mut O,
     gate: &G,
     steps: &mut Steps<L>,
+    journal: &mut Journal,
 ) -> Status
     ensures comes { (first : Told) → F.told folder.old ≡ Some first
         → Comes result (check_key name.now key) first
@@ -111,8 +133,18 @@ fn check_keyed<R: Threads + Sync, F: Folder, O: Sink, G: Gate, L: Ledger>(
         → F.given folder.new ≤ F.given folder.old + room_of first (check_key name.now key) }
 {
     match key {
-        Some(url) => check_feed(rt, alloc, name, url.as_str(), folder, out, gate, steps),
-        None => no_command(alloc, out),
+        Some(url) => check_feed(
+            rt,
+            alloc,
+            name,
+            url.as_str(),
+            folder,
+            out,
+            gate,
+            steps,
+            journal,
+        ),
+        None => no_command(alloc, out, journal),
     }
 }
 
@@ -128,6 +160,7 @@ fn check_feed<R: Threads + Sync, F: Folder, O: Sink, G: Gate, L: Ledger>(
     out: &mut O,
     gate: &G,
     steps: &mut Steps<L>,
+    journal: &mut Journal,
 ) -> Status
     ensures comes { (first : Told) → F.told folder.old ≡ Some first
         → Comes result (Some (check name.now url.now)) first
@@ -144,9 +177,9 @@ fn check_feed<R: Threads + Sync, F: Folder, O: Sink, G: Gate, L: Ledger>(
     ensures given { (first : Told) → F.told folder.old ≡ Some first
         → F.given folder.new ≤ F.given folder.old + room_of first (Some (check name.now url.now)) }
 {
-    match job_in(alloc, name, folder) {
-        Ok(job) => check_by(rt, alloc, job, url, folder, out, gate, steps),
-        Err(why) => stop_at(alloc, why, 0, name, out),
+    match job_in(alloc, name, folder, journal) {
+        Ok(job) => check_by(rt, alloc, job, url, folder, out, gate, steps, journal),
+        Err(why) => stop_at(alloc, why, 0, name, out, journal),
     }
 }
 
@@ -161,6 +194,7 @@ fn check_by<R: Threads + Sync, F: Folder, O: Sink, G: Gate, L: Ledger>(
     out: &mut O,
     gate: &G,
     steps: &mut Steps<L>,
+    journal: &mut Journal,
 ) -> Status
     requires { IsWithinLimits job }
     ensures comes { (first : Told) → F.told folder.old ≡ Some first
@@ -186,16 +220,17 @@ fn check_by<R: Threads + Sync, F: Folder, O: Sink, G: Gate, L: Ledger>(
         gate,
         pieces: job.pieces,
     };
-    let session = match sources_of(&forks, job, folder, out, steps) {
+    let session = match sources_of(&forks, job, folder, out, steps, journal) {
         Ok(session) => session,
         Err(status) => return status,
     };
     let printed = print_verdicts(alloc, url, &session, out);
+    offer_feeds(&printed, url, &session, journal);
     // The process ends: its memory goes back whole, not source by source.
     forget(session);
     match printed {
         Ok(()) => Status::Done,
-        Err(why) => stop_at(alloc, why, 0, url, out),
+        Err(why) => stop_at(alloc, why, 0, url, out, journal),
     }
 }
 
@@ -241,4 +276,31 @@ fn text_of(alloc: Global, sources: &Sources, feed: &Feed) -> Result<Text, Memory
 {
     let verdicts = check_census::check(alloc, sources, feed)?;
     verdict_text(alloc, verdicts.as_slice())
+}
+
+// Where no feed of this URL is in force, notes those between which it would stand.
+fn offer_feeds(printed: &Result<(), Stop>, url: &str, session: &Session, journal: &mut Journal) {
+    if !matches!(printed, Err(Stop::Blocked(Cause::NoFeed))) {
+        return;
+    }
+    let feeds = session.sources().feeds();
+    let at = place_in(feeds, url);
+    journal.offer(url_of(feeds[..at].last()), url_of(feeds[at..].first()));
+}
+
+// Where a feed of this URL stands, or where it would.
+fn place_in(feeds: &[Arc<Feed>], url: &str) -> usize
+    ensures { result ≤ length feeds.now }
+{
+    match feeds.binary_search_by(|feed| feed.url.as_str().cmp(url)) {
+        Ok(at) => at,
+        Err(at) => at,
+    }
+}
+
+fn url_of(feed: Option<&Arc<Feed>>) -> Option<Text> {
+    match feed {
+        Some(feed) => feed.url.copied().ok(),
+        None => None,
+    }
 }

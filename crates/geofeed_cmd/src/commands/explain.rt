@@ -9,7 +9,7 @@ ghost use Rattle.job_run.specs.Acts.{shows};
 ghost use Rattle.job_run.specs.Moves.{read_rooms, source_moves};
 ghost use Rattle.job_run.specs.Seen.{Prints};
 ghost use Rattle.job_run.specs.Stops.{Tail};
-ghost use Rattle.command_words.specs.Commands.{Command, explain};
+ghost use Rattle.job_lines.specs.Commands.{Command, explain};
 ghost use Rattle.explained.specs.Explanation.{explanation};
 ghost use Rattle.geo_terms.specs.Precedence.{reasons_at};
 ghost use Rattle.geofeed_cmd.specs.Commands.Explain.{explaining};
@@ -25,7 +25,7 @@ use fan_work::Forks;
 use geo_addr::{Addr, Memory, Text};
 use geo_outside::{Folder, Gate, Sink, Steps};
 use job_lines::Job;
-use job_run::{Stop, print};
+use job_run::{Journal, Stop, print};
 use std::alloc::Global;
 use std::marker::Sync;
 use std::mem::forget;
@@ -44,6 +44,7 @@ pub(crate) fn explain<R: Threads + Sync, F: Folder, O: Sink, G: Gate, L: Ledger>
     out: &mut O,
     gate: &G,
     steps: &mut Steps<L>,
+    journal: &mut Journal,
 ) -> Status
     ensures comes { (first : Told) → F.told folder.old ≡ Some first
         → Comes result (Some (explain name.now at.0)) first
@@ -60,9 +61,9 @@ pub(crate) fn explain<R: Threads + Sync, F: Folder, O: Sink, G: Gate, L: Ledger>
     ensures given { (first : Told) → F.told folder.old ≡ Some first
         → F.given folder.new ≤ F.given folder.old + room_of first (Some (explain name.now at.0)) }
 {
-    match job_in(alloc, name, folder) {
-        Ok(job) => explain_by(rt, alloc, job, at, folder, out, gate, steps),
-        Err(why) => stop_at(alloc, why, 0, name, out),
+    match job_in(alloc, name, folder, journal) {
+        Ok(job) => explain_by(rt, alloc, job, at, folder, out, gate, steps, journal),
+        Err(why) => stop_at(alloc, why, 0, name, out, journal),
     }
 }
 
@@ -77,6 +78,7 @@ fn explain_by<R: Threads + Sync, F: Folder, O: Sink, G: Gate, L: Ledger>(
     out: &mut O,
     gate: &G,
     steps: &mut Steps<L>,
+    journal: &mut Journal,
 ) -> Status
     requires { IsWithinLimits job }
     ensures comes { (first : Told) → F.told folder.old ≡ Some first
@@ -102,7 +104,7 @@ fn explain_by<R: Threads + Sync, F: Folder, O: Sink, G: Gate, L: Ledger>(
         gate,
         pieces: job.pieces,
     };
-    let session = match sources_of(&forks, job, folder, out, steps) {
+    let session = match sources_of(&forks, job, folder, out, steps, journal) {
         Ok(session) => session,
         Err(status) => return status,
     };
@@ -111,7 +113,10 @@ fn explain_by<R: Threads + Sync, F: Folder, O: Sink, G: Gate, L: Ledger>(
     forget(session);
     match printed {
         Ok(()) => Status::Done,
-        Err(why) => status_of(why),
+        Err(why) => {
+            journal.end(why);
+            status_of(why)
+        }
     }
 }
 

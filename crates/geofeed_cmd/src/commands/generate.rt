@@ -3,7 +3,7 @@ ghost use Rattle.std.specs.Prelude.{◌≡◌, ◌⊎◌, ◌≤◌, ◌≢◌, 
 ghost use Rattle.geo_outside.specs.Count.{Rose};
 ghost use Rattle.geo_outside.specs.Files.{Told};
 ghost use Rattle.job_run.specs.Seen.{seen};
-ghost use Rattle.command_words.specs.Commands.{gen};
+ghost use Rattle.job_lines.specs.Commands.{gen};
 ghost use Rattle.geofeed_cmd.specs.Run.Answers.{Comes};
 
 use crate::status::Status;
@@ -12,6 +12,7 @@ use fan_work::Forks;
 use generated_job::{gen_files, gen_session, gen_steps};
 use geo_addr::Memory;
 use geo_outside::{Folder, Gate, Sink, Steps};
+use job_run::Journal;
 use std::alloc::Global;
 use std::marker::Sync;
 use std::mem::forget;
@@ -33,6 +34,7 @@ pub(crate) fn generate<R: Threads + Sync, F: Folder, O: Sink, G: Gate, L: Ledger
     out: &mut O,
     gate: &G,
     steps: &mut Steps<L>,
+    journal: &mut Journal,
 ) -> Status
     requires few { lines ≤ 1000000 }
     ensures comes { (first : Told) → F.told folder.old ≡ Some first
@@ -75,6 +77,7 @@ pub(crate) fn generate<R: Threads + Sync, F: Folder, O: Sink, G: Gate, L: Ledger
         folder,
         out,
         steps,
+        journal,
     );
     // The process ends: its memory goes back whole, not source by source.
     forget(session);

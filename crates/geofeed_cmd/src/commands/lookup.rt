@@ -3,7 +3,7 @@ ghost use Rattle.std.specs.Prelude.{◌≡◌, ◌≢◌, ◌≤◌, ◌+◌, �
 ghost use Rattle.std.specs.FinMap as map;
 ghost use Rattle.geo_outside.specs.Count.{Rose};
 ghost use Rattle.geo_outside.specs.Files.{Told};
-ghost use Rattle.command_words.specs.Commands.{lookup};
+ghost use Rattle.job_lines.specs.Commands.{lookup};
 ghost use Rattle.job_run.specs.Acts.{shows};
 ghost use Rattle.geofeed_cmd.specs.Run.Answers.{Comes};
 ghost use Rattle.geofeed_cmd.specs.Run.Plans.{alone, lookup_plan, planned, refused};
@@ -16,7 +16,7 @@ use crate::stop::{status_of, stop_at};
 use file_lookup::{LONGEST_FILE, LookupFault, lookup_text};
 use geo_addr::{Addr, Text};
 use geo_outside::{Folder, Sink};
-use job_run::{Cause, Stop, print, read_file};
+use job_run::{Cause, Journal, Stop, print, read_file};
 use std::alloc::Global;
 
 /// Prints what the file of this name says of the address.
@@ -27,6 +27,7 @@ pub(crate) fn lookup<F: Folder, O: Sink>(
     at: Addr,
     folder: &mut F,
     out: &mut O,
+    journal: &mut Journal,
 ) -> Status
     ensures comes { (first : Told) (steps : ℕ) → F.told folder.old ≡ Some first
         → Comes result (Some (lookup name.now at.0)) first
@@ -44,9 +45,12 @@ pub(crate) fn lookup<F: Folder, O: Sink>(
     match answer_in(alloc, name, at, folder) {
         Ok(text) => match print(out, text.as_str()) {
             Ok(()) => Status::Done,
-            Err(why) => status_of(why),
+            Err(why) => {
+                journal.end(why);
+                status_of(why)
+            }
         },
-        Err(why) => stop_at(alloc, why, 0, name, out),
+        Err(why) => stop_at(alloc, why, 0, name, out, journal),
     }
 }
 

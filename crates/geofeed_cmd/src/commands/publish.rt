@@ -3,7 +3,7 @@ ghost use Rattle.std.specs.Prelude.{◌≡◌, ◌⊎◌, ◌≤◌, ◌≢◌, 
 ghost use Rattle.std.specs.FinMap as map;
 ghost use Rattle.geo_outside.specs.Count.{Rose};
 ghost use Rattle.geo_outside.specs.Files.{Told};
-ghost use Rattle.command_words.specs.Commands.{Command, publish};
+ghost use Rattle.job_lines.specs.Commands.{Command, publish};
 ghost use Rattle.job_lines.specs.Said.{IsWithinLimits};
 ghost use Rattle.job_run.specs.Acts.{shows};
 ghost use Rattle.job_run.specs.Moves.{read_rooms, source_moves};
@@ -21,6 +21,7 @@ use fan_work::Forks;
 use geo_addr::Block;
 use geo_outside::{Folder, Gate, Sink, Steps};
 use job_lines::Job;
+use job_run::Journal;
 use published::write_feed;
 use std::alloc::Global;
 use std::marker::Sync;
@@ -40,6 +41,7 @@ pub(crate) fn publish<R: Threads + Sync, F: Folder, O: Sink, G: Gate, L: Ledger>
     out: &mut O,
     gate: &G,
     steps: &mut Steps<L>,
+    journal: &mut Journal,
 ) -> Status
     requires { IsPlain block }
     ensures comes { (first : Told) → F.told folder.old ≡ Some first
@@ -58,9 +60,11 @@ pub(crate) fn publish<R: Threads + Sync, F: Folder, O: Sink, G: Gate, L: Ledger>
         → F.given folder.new ≤ F.given folder.old
         + job_room (held_job (map.get first.held name.now)) }
 {
-    match job_in(alloc, name, folder) {
-        Ok(job) => publish_by(rt, alloc, job, block, file, folder, out, gate, steps),
-        Err(why) => stop_at(alloc, why, 0, name, out),
+    match job_in(alloc, name, folder, journal) {
+        Ok(job) => publish_by(
+            rt, alloc, job, block, file, folder, out, gate, steps, journal,
+        ),
+        Err(why) => stop_at(alloc, why, 0, name, out, journal),
     }
 }
 
@@ -76,6 +80,7 @@ fn publish_by<R: Threads + Sync, F: Folder, O: Sink, G: Gate, L: Ledger>(
     out: &mut O,
     gate: &G,
     steps: &mut Steps<L>,
+    journal: &mut Journal,
 ) -> Status
     requires limits { IsWithinLimits job }
     requires plain { IsPlain block }
@@ -103,7 +108,7 @@ fn publish_by<R: Threads + Sync, F: Folder, O: Sink, G: Gate, L: Ledger>(
         gate,
         pieces: job.pieces,
     };
-    let mut session = match sources_of(&forks, job, folder, out, steps) {
+    let mut session = match sources_of(&forks, job, folder, out, steps, journal) {
         Ok(session) => session,
         Err(status) => return status,
     };
@@ -112,6 +117,6 @@ fn publish_by<R: Threads + Sync, F: Folder, O: Sink, G: Gate, L: Ledger>(
     forget(session);
     match written {
         Ok(()) => Status::Done,
-        Err(why) => stop_at(alloc, why, 0, file, out),
+        Err(why) => stop_at(alloc, why, 0, file, out, journal),
     }
 }

@@ -1,6 +1,6 @@
 //! Words that are a command, and which one.
 use super::words_of;
-use command_words::command_in;
+use job_lines::command_in;
 use std::alloc::{AllocError, Global};
 use std::test::Fail;
 

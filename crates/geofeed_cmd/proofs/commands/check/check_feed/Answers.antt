@@ -2,7 +2,7 @@
 use Rattle.std.proofs.Common.{◌≤◌, ◌∙◌, ap, arith, refl}
 use Rattle.std.specs.FinMap as map
 use Rattle.std.specs.Prelude.{Some}
-use Rattle.command_words.specs.Commands.{check}
+use Rattle.job_lines.specs.Commands.{check}
 use Rattle.geofeed_cmd.specs.Run.Plans.{job_plan}
 use Rattle.geofeed_cmd.proofs.AnswerLemmas.{comes_earlier, comes_hindered, hindered_job}
 use Rattle.geofeed_cmd.proofs.commands.check.check_feed.Goals as goal

@@ -4,7 +4,7 @@ use Rattle.job_lines.specs.declared.job.Step.{Step}
 use Rattle.job_lines.specs.Job.{default_name}
 use Rattle.job_run.specs.declared.apart.Apart.{Apart}
 use Rattle.job_run.specs.Moves.{LacksAt, moves_of}
-use Rattle.command_words.specs.Commands.{gen}
+use Rattle.job_lines.specs.Commands.{gen}
 use Rattle.generated_job.specs.Job.{gen_files, gen_start, gen_steps}
 use Rattle.generated_job.proofs.ThereLemmas.{none_lacks}
 use Rattle.geofeed_cmd.specs.Run.Plans.{planned}

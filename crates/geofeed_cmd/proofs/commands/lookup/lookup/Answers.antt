@@ -1,6 +1,6 @@
 use Rattle.std.proofs.Common.{◌∙◌, List, ℕ, ◌∷◌, [], ap, arith, refl, sym}
 use Rattle.std.specs.Prelude.{Some}
-use Rattle.command_words.specs.Commands.{lookup}
+use Rattle.job_lines.specs.Commands.{lookup}
 use Rattle.job_run.specs.Acts.{shows}
 use Rattle.geofeed_cmd.specs.Run.Plans.{alone, planned}
 use Rattle.job_run.specs.Seen.{seen}
