@@ -1,5 +1,0 @@
-use Rattle.file_tests.proofs.tests.files.sizes_and_bytes.Given as goal
-
--- the counter is that of the blank
-abbrev pub ghosts-file_of : goal.ghosts-file_of
-ghosts-file_of g a = record { name = a.blank.name; parts = a.blank.parts }

@@ -1,5 +1,0 @@
-//! Tests of references to feeds, apart, so that a change of a test proves no crate again.
-#![tactic(auto)]
-
-#[cfg(test)]
-mod tests;

@@ -1,6 +1,0 @@
-//! Tests of the readers of registries' files, apart, so that a change of a test proves no crate
-//! again.
-#![tactic(auto)]
-
-#[cfg(test)]
-mod tests;

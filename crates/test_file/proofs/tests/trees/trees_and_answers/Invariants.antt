@@ -1,0 +1,5 @@
+use Rattle.test_file.proofs.tests.trees.trees_and_answers.Given as goal
+
+-- the counter is that of the blank
+abbrev pub ghosts-holds : goal.ghosts-holds
+ghosts-holds _ a = record { name = a.blank.name; parts = a.blank.parts }

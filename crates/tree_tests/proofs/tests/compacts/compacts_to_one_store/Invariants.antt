@@ -1,5 +1,0 @@
-use Rattle.tree_tests.proofs.tests.compacts.compacts_to_one_store.Given as goal
-
--- the counter is that of the blank
-abbrev pub ghosts-compacted : goal.ghosts-compacted
-ghosts-compacted _ a = record { name = a.blank.name; parts = a.blank.parts }

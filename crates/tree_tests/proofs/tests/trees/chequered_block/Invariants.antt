@@ -1,5 +1,0 @@
-use Rattle.tree_tests.proofs.tests.trees.chequered_block.Given as goal
-
--- the counter is that of the blank
-abbrev pub ghosts-holds : goal.ghosts-holds
-ghosts-holds _ a = record { name = a.blank.name; parts = a.blank.parts }

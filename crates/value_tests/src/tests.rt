@@ -1,2 +1,0 @@
-//! The values of the data section.
-mod values;
