@@ -17,8 +17,8 @@ for crate in crates/*/; do
     grep -q "^$name:" crates.txt || fail "$name is not in crates.txt"
     grep -q "\`$name\`" docs/ARCHITECTURE.md || fail "$name is not in docs/ARCHITECTURE.md"
     grep -q "\`$name\`" docs/PROVED.md || fail "$name is not in docs/PROVED.md"
-    # A crate of tests alone has nothing that an edit could make wrong.
-    if [ -f "$crate/src/lib.rt" ] && grep -q '^pub ' "$crate/src/lib.rt"; then
+    # In a crate of tests an edit would make nothing wrong of which a clause says something.
+    if [[ "$name" != test_* ]] && [ -f "$crate/src/lib.rt" ] && grep -q '^pub ' "$crate/src/lib.rt"; then
         edits=$(find "$crate/must-fail" -name '*.edit' 2> /dev/null | wc -l)
         [ "$edits" -ge 6 ] || fail "$name has $edits must-fail edits, fewer than six"
     fi

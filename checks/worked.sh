@@ -28,6 +28,20 @@ answers() {
     [ "$printed" = "$wanted" ] || fail "$1 has the record '$printed', and not '$wanted'"
 }
 
+# hex FILE: its bytes, two digits each.
+hex() { od -An -v -tx1 "$1" | tr -d ' \n'; }
+
+# section NODES SPELT: behind so many nodes of six bytes and sixteen zero bytes the file `o` has this
+# data section, spelt as `printf` reads it, and the first letters of the marker.
+section() {
+    local rest
+    # shellcheck disable=SC2059
+    printf "$2\xAB\xCD\xEFMaxMind.com" > wanted
+    tail -c "+$((6 * $1 + 17))" o > rest
+    rest=$(hex rest)
+    [[ "$rest" == "$(hex wanted)"* ]] || fail "the data section begins with ${rest:0:160}"
+}
+
 emits 'emit o nodes 1 data 0 bits 24 bytes 225' 'emit o'
 stats x 128.0.0.0 2147483648 DE
 emits 'emit o nodes 124 data 22 bits 24 bytes 985' 'stats x x' 'emit o'
@@ -97,5 +111,22 @@ ffff:ffff:ffff:ffff:ffff:ffff:ffff:ffff JP
 2002:a00::1 AT
 2003:: SE
 END
+
+# Pointers, byte by byte: to a key, to a value, and what is shorter in full. The sections are put
+# together by hand.
+"$program" gen 1 o > printed 2>&1
+section 151 '\xE2\x44city\xE1\x45names\xE1\x42en\x46City 0\x47country\xE1\x48iso_code\x42CH'\
+'\xE1\x20\x18\xE1\x20\x21\x42US'
+printf '%s\n' 'inetnum: 192.0.2.0 - 192.0.2.255' 'geofeed: https://e.example/f.csv' > r.db
+echo '192.0.2.0/25,de,DE-BY,München,' > f.csv
+stats x 192.0.2.0 256 AT
+emits 'emit o nodes 148 data 77 bits 24 bytes 1184' \
+    'rpsl r r.db' 'stats x x' 'feed https://e.example/f.csv f.csv' 'emit o'
+section 148 '\xE3\x44city\xE1\x45names\xE1\x42en\x48München\x47country\xE1\x48iso_code\x42DE'\
+'\x4Csubdivisions\x01\x04\xE1\x20\x23\x42BY\xE1\x20\x1A\xE1\x20\x23\x42AT'
+printf '%s\n' '10.0.0.0/25,set,FR,DE-BY' '10.0.0.128/25,set,FR,FR-BY' > own
+emits 'emit o nodes 148 data 52 bits 24 bytes 1159' 'overrides own' 'emit o'
+section 148 '\xE2\x47country\xE1\x48iso_code\x42FR'\
+'\x4Csubdivisions\x01\x04\xE1\x20\x0A\x42BY\xE2\x20\x01\x20\x09\x20\x16\x20\x23'
 
 verdict

@@ -1,4 +1,5 @@
-//! Texts of addresses, prefixes and spans, read and printed.
+//! Texts of addresses, prefixes and spans, read and printed. The numbers are put together by hand
+//! from the digits of the texts; what is printed has the form of RFC 5952, which has one of them.
 use geo_addr::{
     Addr, AddrFault, Block, BlockFault, Range, addr_text, block_text, parse_addr, parse_block,
     parse_span, range_of, range_text,
@@ -164,6 +165,7 @@ static PRINTED: [PrintedRow; 8] = [
     (1 << 112, "1::"),
     (0xFFFF_C000_0201, "::ffff:c000:201"),
     (0x0001_0000_0000_0002_0000_0000_0003_0004, "1::2:0:0:3:4"),
+    // the RFC's example of a single group of zeros, which is not left out
     (
         0x2001_0DB8_0000_0001_0001_0001_0001_0001,
         "2001:db8:0:1:1:1:1:1",

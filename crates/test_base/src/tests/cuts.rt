@@ -1,4 +1,4 @@
-//! The least blocks of ranges, and their cut points.
+//! The least blocks of ranges, and their cut points, both reckoned by hand.
 use geo_addr::{Memory, Range};
 use split_core::{blocks, cuts, push_edges, put_in_order};
 use std::alloc::Global;

@@ -1,4 +1,4 @@
-//! Feeds made by a rule.
+//! Feeds made by a rule, and the lines that it gives by hand.
 use generated::gen_feed;
 use std::alloc::Global;
 use std::test::Fail;

@@ -146,16 +146,55 @@ fn length_of(
     })
 }
 
+// The read that fails, the file, the most bytes that it may have, and its length or why it is not
+// read.
+struct WholeRow {
+    failing: u64,
+    name: &'static str,
+    limit: u64,
+    wanted: Result<usize, WholeErr>,
+}
+
+// Three bytes take three reads, and a fourth one finds the end.
+static WHOLE: [WholeRow; 4] = [
+    WholeRow {
+        failing: 4,
+        name: "f",
+        limit: 3,
+        wanted: Err(WholeErr::Failed),
+    },
+    WholeRow {
+        failing: 5,
+        name: "f",
+        limit: 3,
+        wanted: Ok(3),
+    },
+    WholeRow {
+        failing: 4,
+        name: "f",
+        limit: 2,
+        wanted: Err(WholeErr::TooLong),
+    },
+    WholeRow {
+        failing: 2,
+        name: "g",
+        limit: 3,
+        wanted: Err(WholeErr::Missing),
+    },
+];
+
+fn whole_rows() -> &'static [WholeRow] {
+    &WHOLE
+}
+
+fn is_read(alloc: Global, row: &WholeRow) -> Result<bool, Memory> {
+    Ok(length_of(alloc, row.failing, row.name, row.limit)? == row.wanted)
+}
+
 #[test]
 fn a_whole_file_is_read_by_short_reads_too(rt: HostRuntime) -> Result<(), Memory> {
-    for (failing, name, limit, wanted) in [
-        (4u64, "f", 3u64, Err(WholeErr::Failed)),
-        (5, "f", 3, Ok(3)),
-        (4, "f", 2, Err(WholeErr::TooLong)),
-        (2, "g", 3, Err(WholeErr::Missing)),
-    ] {
-        let found = length_of(rt.alloc(), failing, name, limit)?;
-        assert!(rt; found == wanted, "{name}, limit {limit}");
+    for (at, row) in whole_rows().iter().enumerate() {
+        assert!(rt; is_read(rt.alloc(), row)?, "row {at}");
     }
     Ok(())
 }

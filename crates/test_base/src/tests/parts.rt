@@ -1,4 +1,4 @@
-//! Parts of files, and their lines.
+//! Parts of files, and their lines, counted by hand.
 use line_parts::{LinePart, parts_of};
 use std::alloc::Global;
 use std::test::Fail;

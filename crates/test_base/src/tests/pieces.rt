@@ -1,13 +1,12 @@
 //! The parallel map: its results, and what its gates see.
 ghost use Rattle.std.specs.Prelude.{◌<◌, ◌≤◌};
 
+use crate::Looking;
 use fan_work::{Work, map_pieces};
 use geo_addr::Memory;
-use geo_outside::{Gate, OpenGate};
+use geo_outside::OpenGate;
 use std::alloc::Global;
 use std::marker::Sync;
-use std::sync::atomic::{AtomicU64, Ordering};
-use std::thread;
 use std::thread::Threads;
 
 /// Work that adds one.
@@ -24,39 +23,10 @@ impl Work<u32, u64> for AddOne {
     }
 }
 
-/// A gate that notes which pieces came, and how many calls there were.
-#[derive(Drop)]
-struct Register {
-    came: AtomicU64,
-    calls: AtomicU64,
-}
-
-impl Register {
-    fn new() -> Register {
-        Register {
-            came: AtomicU64::new(0),
-            calls: AtomicU64::new(0),
-        }
-    }
-
-    // How many pieces came, by a function of its own, so that no other proof counts bits.
-    fn count(&self) -> u32 {
-        self.came.load(Ordering::SeqCst).count_ones()
-    }
-}
-
-impl Gate for Register {
-    fn enter(&self, piece: u32) {
-        self.came
-            .fetch_or(1u64.wrapping_shl(piece), Ordering::SeqCst);
-        self.calls.fetch_add(1, Ordering::SeqCst);
-    }
-}
-
 /// Work that says whether the gate had been entered by the piece of the item with this number.
 #[derive(Drop)]
 struct Witness<'a> {
-    gate: &'a Register,
+    gate: &'a Looking,
     pieces: [u32; 5],
 }
 
@@ -66,35 +36,7 @@ impl Work<usize, bool> for Witness<'_> {
     ghost related = { λ work x y. ⊤ };
 
     fn done(&self, item: &usize) -> Result<bool, Memory> {
-        let piece = self.pieces[*item % 5];
-        let came = self.gate.came.load(Ordering::SeqCst);
-        Ok(came.wrapping_shr(piece) & 1 == 1)
-    }
-}
-
-/// A gate at which two pieces wait for one another, though not without end.
-#[derive(Drop)]
-struct Meeting {
-    first: AtomicU64,
-    second: AtomicU64,
-    met: AtomicU64,
-}
-
-impl Gate for Meeting {
-    fn enter(&self, piece: u32) {
-        let (mine, other) = if piece == 0 {
-            (&self.first, &self.second)
-        } else {
-            (&self.second, &self.first)
-        };
-        mine.store(1, Ordering::SeqCst);
-        for _ in 0..1_000_000u32 {
-            if other.load(Ordering::SeqCst) == 1 {
-                self.met.fetch_add(1, Ordering::SeqCst);
-                return;
-            }
-            thread::yield_now();
-        }
+        Ok(self.gate.has_come(self.pieces[*item % 5]))
     }
 }
 
@@ -130,7 +72,7 @@ fn results_stand_in_the_items_order(rt: HostRuntime) -> Result<(), Memory> {
 fn seen<R: Threads + Sync>(
     rt: &R,
     alloc: Global,
-    gate: &Register,
+    gate: &Looking,
     pieces: u32,
     of_items: [u32; 5],
 ) -> Result<Vec<bool>, Memory>
@@ -154,15 +96,14 @@ fn enters_once<R: Threads + Sync>(
     requires some { 0 < pieces }
     requires few { pieces ≤ 64 }
 {
-    let gate = Register::new();
+    let gate = Looking::new();
     let seen = seen(rt, alloc, &gate, pieces, of_items)?;
-    let came = gate.count();
-    let calls = gate.calls.load(Ordering::SeqCst);
     let wanted = pieces.min(5);
-    Ok(seen.as_slice() == [true; 5].as_slice() && came == wanted && calls == u64::from(wanted))
+    let each_once = gate.pieces() == wanted && gate.calls() == u64::from(wanted);
+    Ok(seen.as_slice() == [true; 5].as_slice() && each_once)
 }
 
-// The numbers of the pieces of 5 items, reckoned by hand.
+// The piece of each of 5 items, reckoned by hand: piece j of n begins with the item j * 5 / n.
 #[test]
 fn each_piece_with_items_enters_once_before_its_first(rt: HostRuntime) -> Result<(), Memory> {
     let cases: [(u32, [u32; 5]); 4] = [
@@ -182,12 +123,8 @@ fn each_piece_with_items_enters_once_before_its_first(rt: HostRuntime) -> Result
 
 #[test]
 fn two_pieces_meet(rt: HostRuntime) -> Result<(), Memory> {
-    let gate = Meeting {
-        first: AtomicU64::new(0),
-        second: AtomicU64::new(0),
-        met: AtomicU64::new(0),
-    };
+    let gate = Looking::waiting();
     map_pieces(&rt, rt.alloc(), &gate, 2, &[1, 2], &AddOne)?;
-    assert_eq!(rt; gate.met.load(Ordering::SeqCst), 2);
+    assert_eq!(rt; gate.met(), 2);
     Ok(())
 }

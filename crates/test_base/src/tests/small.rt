@@ -1,4 +1,4 @@
-//! Lines, decimals, ranges and the small types.
+//! Lines, decimals, ranges and the small types. What is wanted was told from the texts by hand.
 use geo_addr::{
     Addr, Block, Bytes, Line, Lines, List, Memory, Range, Text, cut_at, decimal, is_blank,
     range_of, trim_blanks,

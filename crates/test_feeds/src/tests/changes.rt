@@ -1,4 +1,4 @@
-//! The grounds that an old and a new source of each kind differ on.
+//! The grounds that an old and a new source of each kind differ on, told from the lines by hand.
 use crate::tests::{feeds, overrides};
 use geo_addr::{Range, Text};
 use geo_terms::{Delegation, Reference, Stats};
@@ -7,40 +7,64 @@ use source_changes::{Compared, changed_grounds, keep_all};
 use std::alloc::Global;
 use std::test::Fail;
 
-// A reference: its line, first and last address, date, and whether its URL is the first one.
-type Row = (u64, u128, u128, u64, bool);
+// A reference of the addresses from the first to the last one.
+#[derive(Clone, Copy)]
+struct Row {
+    line: u64,
+    first: u128,
+    last: u128,
+    modified: u64,
+    url: &'static str,
+}
 
-const FIRST: &str = "a";
+const A: Row = Row {
+    line: 1,
+    first: 10,
+    last: 19,
+    modified: 7,
+    url: "a",
+};
 
-const OTHER: &str = "b";
+const A_ON_LINE_9: Row = Row { line: 9, ..A };
 
-const A: Row = (1, 10, 19, 7, true);
+const A_LATER: Row = Row { modified: 8, ..A };
 
-const A_ON_LINE_9: Row = (9, 10, 19, 7, true);
+const A_ELSEWHERE: Row = Row { url: "b", ..A };
 
-const A_LATER: Row = (1, 10, 19, 8, true);
+const B: Row = Row {
+    line: 2,
+    first: 20,
+    last: 29,
+    ..A
+};
 
-const A_ELSEWHERE: Row = (1, 10, 19, 7, false);
+const B_ON_LINE_1: Row = Row { line: 1, ..B };
 
-const B: Row = (2, 20, 29, 7, true);
+const C: Row = Row {
+    line: 3,
+    first: 15,
+    last: 24,
+    ..A
+};
 
-const B_ON_LINE_1: Row = (1, 20, 29, 7, true);
-
-const C: Row = (3, 15, 24, 7, true);
-
-const BOTH_FAMILIES: Row = (4, 5, 1 << 33, 7, true);
+const BOTH_FAMILIES: Row = Row {
+    line: 4,
+    first: 5,
+    last: 1 << 33,
+    ..A
+};
 
 fn reference(alloc: Global, row: &Row) -> Result<Reference, Fail> {
-    let (line, first, last, modified, is_first) = *row;
+    let (first, last) = (row.first, row.last);
     if first > last {
         return Err(Fail::from("no range"));
     }
     Ok(Reference {
         slot: Text::of(alloc, "ripe")?,
-        line,
+        line: row.line,
         range: Range { first, last },
-        modified,
-        url: Text::of(alloc, if is_first { FIRST } else { OTHER })?,
+        modified: row.modified,
+        url: Text::of(alloc, row.url)?,
     })
 }
 
@@ -129,82 +153,82 @@ enum Kind {
     Stats,
 }
 
-// A kind, an old and a new source of it, and the grounds on which they differ. The first word is
-// the slot of the new statistics, where the old ones have `ripe`.
-type SourceRow = (
-    Kind,
-    &'static str,
-    &'static [u8],
-    &'static [u8],
-    &'static [Grounds],
-);
+// A kind, an old and a new source of it, and the grounds on which they differ. The slot is that of
+// new statistics; the old ones have `ripe`.
+struct SourceRow {
+    kind: Kind,
+    slot: &'static str,
+    old: &'static [u8],
+    new: &'static [u8],
+    grounds: &'static [Grounds],
+}
 
 const DELEGATION: &[u8] = b"x|DE|ipv4|0.0.0.1|2||allocated";
 
 static SOURCES: [SourceRow; 9] = [
-    (
-        Kind::Overrides,
-        "",
-        b"0.0.0.1-0.0.0.2,void",
-        b"\n0.0.0.1-0.0.0.2,void",
-        &[],
-    ),
-    (
-        Kind::Overrides,
-        "",
-        b"0.0.0.1-0.0.0.2,set,,,Ulm",
-        b"\n0.0.0.1-0.0.0.2,set,,,Ulm",
-        &[],
-    ),
-    (
-        Kind::Overrides,
-        "",
-        b"0.0.0.1-0.0.0.2,set,,,Ulm",
-        b"\n0.0.0.1-0.0.0.2,set,,,Bonn",
-        &[(1, 2, 2)],
-    ),
-    (
-        Kind::Overrides,
-        "",
-        b"0.0.0.1-0.0.0.2,void",
-        b"\n0.0.0.1-0.0.0.2,set,,,Ulm",
-        &[(1, 2, 2)],
-    ),
-    (
-        Kind::Overrides,
-        "",
-        b"0.0.0.1-0.0.0.2,set,,,Ulm",
-        b"\n0.0.0.1-0.0.0.2,void",
-        &[(1, 2, 2)],
-    ),
-    (
-        Kind::Feed,
-        "",
-        b"10.0.0.0/8,DE\n10.0.0.0/24,DE\n10.0.1.0/24,FR",
-        b"10.0.1.0/24,FR\n10.0.0.0/25,DE\n10.0.0.0/8,DE",
-        &[(0x0A00_0000, 0x0A00_007F, 1), (0x0A00_0000, 0x0A00_00FF, 1)],
-    ),
-    (
-        Kind::Stats,
-        "ripe",
-        DELEGATION,
-        b"\nx|DE|ipv4|0.0.0.1|2||allocated",
-        &[],
-    ),
-    (
-        Kind::Stats,
-        "ripe",
-        DELEGATION,
-        b"\nx|FR|ipv4|0.0.0.1|2||allocated",
-        &[(1, 2, 2)],
-    ),
-    (
-        Kind::Stats,
-        "arin",
-        DELEGATION,
-        b"\nx|DE|ipv4|0.0.0.1|2||allocated",
-        &[(1, 2, 2)],
-    ),
+    SourceRow {
+        kind: Kind::Overrides,
+        slot: "",
+        old: b"0.0.0.1-0.0.0.2,void",
+        new: b"\n0.0.0.1-0.0.0.2,void",
+        grounds: &[],
+    },
+    SourceRow {
+        kind: Kind::Overrides,
+        slot: "",
+        old: b"0.0.0.1-0.0.0.2,set,,,Ulm",
+        new: b"\n0.0.0.1-0.0.0.2,set,,,Ulm",
+        grounds: &[],
+    },
+    SourceRow {
+        kind: Kind::Overrides,
+        slot: "",
+        old: b"0.0.0.1-0.0.0.2,set,,,Ulm",
+        new: b"\n0.0.0.1-0.0.0.2,set,,,Bonn",
+        grounds: &[(1, 2, 2)],
+    },
+    SourceRow {
+        kind: Kind::Overrides,
+        slot: "",
+        old: b"0.0.0.1-0.0.0.2,void",
+        new: b"\n0.0.0.1-0.0.0.2,set,,,Ulm",
+        grounds: &[(1, 2, 2)],
+    },
+    SourceRow {
+        kind: Kind::Overrides,
+        slot: "",
+        old: b"0.0.0.1-0.0.0.2,set,,,Ulm",
+        new: b"\n0.0.0.1-0.0.0.2,void",
+        grounds: &[(1, 2, 2)],
+    },
+    SourceRow {
+        kind: Kind::Feed,
+        slot: "",
+        old: b"10.0.0.0/8,DE\n10.0.0.0/24,DE\n10.0.1.0/24,FR",
+        new: b"10.0.1.0/24,FR\n10.0.0.0/25,DE\n10.0.0.0/8,DE",
+        grounds: &[(0x0A00_0000, 0x0A00_007F, 1), (0x0A00_0000, 0x0A00_00FF, 1)],
+    },
+    SourceRow {
+        kind: Kind::Stats,
+        slot: "ripe",
+        old: DELEGATION,
+        new: b"\nx|DE|ipv4|0.0.0.1|2||allocated",
+        grounds: &[],
+    },
+    SourceRow {
+        kind: Kind::Stats,
+        slot: "ripe",
+        old: DELEGATION,
+        new: b"\nx|FR|ipv4|0.0.0.1|2||allocated",
+        grounds: &[(1, 2, 2)],
+    },
+    SourceRow {
+        kind: Kind::Stats,
+        slot: "arin",
+        old: DELEGATION,
+        new: b"\nx|DE|ipv4|0.0.0.1|2||allocated",
+        grounds: &[(1, 2, 2)],
+    },
 ];
 
 fn sources() -> &'static [SourceRow] {
@@ -212,15 +236,20 @@ fn sources() -> &'static [SourceRow] {
 }
 
 fn overrides_differ(alloc: Global, row: &SourceRow) -> Result<bool, Fail> {
-    let old = overrides::read(alloc, row.2)?;
-    let new = overrides::read(alloc, row.3)?;
-    differ(alloc, old.rows.as_slice(), new.rows.as_slice(), row.4)
+    let old = overrides::read(alloc, row.old)?;
+    let new = overrides::read(alloc, row.new)?;
+    differ(alloc, old.rows.as_slice(), new.rows.as_slice(), row.grounds)
 }
 
 fn feeds_differ(alloc: Global, row: &SourceRow) -> Result<bool, Fail> {
-    let old = feeds::read(alloc, row.2)?;
-    let new = feeds::read(alloc, row.3)?;
-    differ(alloc, old.entries.as_slice(), new.entries.as_slice(), row.4)
+    let old = feeds::read(alloc, row.old)?;
+    let new = feeds::read(alloc, row.new)?;
+    differ(
+        alloc,
+        old.entries.as_slice(),
+        new.entries.as_slice(),
+        row.grounds,
+    )
 }
 
 fn delegations(alloc: Global, slot: &str, file: &[u8]) -> Result<Stats, Fail> {
@@ -232,14 +261,14 @@ fn keep(rows: &[Delegation]) {
 }
 
 fn stats_differ(alloc: Global, row: &SourceRow) -> Result<bool, Fail> {
-    let old = delegations(alloc, "ripe", row.2)?;
-    let new = delegations(alloc, row.1, row.3)?;
+    let old = delegations(alloc, "ripe", row.old)?;
+    let new = delegations(alloc, row.slot, row.new)?;
     keep(new.rows.as_slice());
-    differ(alloc, old.rows.as_slice(), new.rows.as_slice(), row.4)
+    differ(alloc, old.rows.as_slice(), new.rows.as_slice(), row.grounds)
 }
 
 fn sources_differ(alloc: Global, row: &SourceRow) -> Result<bool, Fail> {
-    match row.0 {
+    match row.kind {
         Kind::Overrides => overrides_differ(alloc, row),
         Kind::Feed => feeds_differ(alloc, row),
         Kind::Stats => stats_differ(alloc, row),

@@ -1,4 +1,4 @@
-//! Feeds: entries and notes.
+//! Feeds: entries and notes, told from the lines by hand, and how many of them large feeds have.
 use crate::tests::shown::{digit, push_line, push_notes};
 use fan_work::Forks;
 use feed_csv::{read_feed, read_feed_by_parts};

@@ -1,4 +1,4 @@
-//! Files of overrides: rows and notes.
+//! Files of overrides: rows and notes, told from the lines by hand.
 use crate::tests::shown::{push_line, push_notes};
 use geo_addr::{Addr, Range, range_text};
 use geo_terms::{Override, Overrides};

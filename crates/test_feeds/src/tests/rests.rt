@@ -1,4 +1,4 @@
-//! Rests of lines, their contents, and which are handed to the `csv` reader.
+//! Rests of lines, their contents, and which are handed to the `csv` reader, told by hand.
 use csv_lines::{Content, all_handed, content_of, rest_of};
 use std::alloc::Global;
 use std::test::Fail;

@@ -1,4 +1,6 @@
-//! Whole files: their bytes and sizes.
+//! Whole files: their bytes and sizes. All are reckoned by hand: a file has 6 bytes for each of its
+//! nodes, 16 zero bytes, the data section, and 203 bytes from the marker on; the bytes are those of
+//! the MaxMind DB format, version 2.0.
 ghost use Rattle.std.specs.Prelude.{◌≡◌, ℕ, ◌^◌, ◌<◌, ◌≤◌, Some, length, IfOk};
 ghost use Rattle.trie_core.specs.Store.{IsRootOf, leaf_at};
 
@@ -86,8 +88,8 @@ fn file_in<L: Ledger>(
     row: &Row,
     steps: &mut Steps<L>,
 ) -> Result<Emitted, Fail> {
-    let leaf = number(alloc, places, row.0)?;
-    let root = painted(rt, store, row.1, leaf, steps)?;
+    let leaf = number(alloc, places, row.country)?;
+    let root = painted(rt, store, row.ranges, leaf, steps)?;
     written(alloc, store, root, places)
 }
 
@@ -107,76 +109,92 @@ fn file_of<L: Ledger>(
     file_in(rt, alloc, &mut store, &mut places, row, &mut steps)
 }
 
-// A country and its ranges; how many nodes their file has, the bytes of its data section and all of
-// its bytes; and, where the bytes are compared, the last node, 16 zero bytes and the data section.
-type Row = (
-    &'static [u8],
-    &'static [Ends],
-    u8,
-    u64,
-    usize,
-    &'static [u8],
-);
+// A country and its ranges; how many nodes their file has, how long its data section and all of it
+// are; and, where the bytes are compared, the last node, 16 zero bytes and the data section.
+struct Row {
+    country: &'static [u8],
+    ranges: &'static [Ends],
+    nodes: u8,
+    section: u64,
+    length: usize,
+    bytes: &'static [u8],
+}
 
 static FILES: [Row; 8] = [
     // no data
-    (
-        b"",
-        &[],
-        1,
-        0,
-        225,
-        b"\0\0\x01\0\0\x01\0\0\0\0\0\0\0\0\0\0\0\0\0\0\0\0",
-    ),
+    Row {
+        country: b"",
+        ranges: &[],
+        nodes: 1,
+        section: 0,
+        length: 225,
+        bytes: b"\0\0\x01\0\0\x01\0\0\0\0\0\0\0\0\0\0\0\0\0\0\0\0",
+    },
     // 128.0.0.0/1: a node for each of the first 96 bits, which are 0, and for the last one, which
     // is 1
-    (
-        b"DE",
-        &[(0x8000_0000, 0xffff_ffff)],
-        97,
-        22,
-        823,
-        b"\0\0\x61\0\0\x71\0\0\0\0\0\0\0\0\0\0\0\0\0\0\0\0\xE1\x47country\xE1\x48iso_code\x42DE",
-    ),
+    Row {
+        country: b"DE",
+        ranges: &[(0x8000_0000, 0xffff_ffff)],
+        nodes: 97,
+        section: 22,
+        length: 823,
+        bytes: b"\0\0\x61\0\0\x71\0\0\0\0\0\0\0\0\0\0\0\0\0\0\0\0\
+\xE1\x47country\xE1\x48iso_code\x42DE",
+    },
     // all addresses: one node, whose records are the one place
-    (
-        b"FR",
-        &[(0, 0xffff_ffff), (1 << 32, u128::MAX)],
-        1,
-        22,
-        247,
-        b"\0\0\x11\0\0\x11\0\0\0\0\0\0\0\0\0\0\0\0\0\0\0\0\xE1\x47country\xE1\x48iso_code\x42FR",
-    ),
-    (
-        b"DE",
-        &[(0, 0xffff_ffff), (1 << 32, u128::MAX)],
-        1,
-        22,
-        247,
-        b"",
-    ),
+    Row {
+        country: b"FR",
+        ranges: &[(0, 0xffff_ffff), (1 << 32, u128::MAX)],
+        nodes: 1,
+        section: 22,
+        length: 247,
+        bytes: b"\0\0\x11\0\0\x11\0\0\0\0\0\0\0\0\0\0\0\0\0\0\0\0\
+\xE1\x47country\xE1\x48iso_code\x42FR",
+    },
+    Row {
+        country: b"DE",
+        ranges: &[(0, 0xffff_ffff), (1 << 32, u128::MAX)],
+        nodes: 1,
+        section: 22,
+        length: 247,
+        bytes: b"",
+    },
     // 768 addresses from 192.0.2.0
-    (b"DE", &[(0xc000_0200, 0xc000_04ff)], 121, 22, 967, b""),
+    Row {
+        country: b"DE",
+        ranges: &[(0xc000_0200, 0xc000_04ff)],
+        nodes: 121,
+        section: 22,
+        length: 967,
+        bytes: b"",
+    },
     // 128 addresses from 10.0.0.0 and from 10.0.1.0
-    (
-        b"DE",
-        &[(0x0a00_0000, 0x0a00_007f), (0x0a00_0100, 0x0a00_017f)],
-        121,
-        22,
-        967,
-        b"",
-    ),
+    Row {
+        country: b"DE",
+        ranges: &[(0x0a00_0000, 0x0a00_007f), (0x0a00_0100, 0x0a00_017f)],
+        nodes: 121,
+        section: 22,
+        length: 967,
+        bytes: b"",
+    },
     // 128 addresses from 192.0.2.0 and from 192.0.2.128
-    (
-        b"DE",
-        &[(0xc000_0200, 0xc000_027f), (0xc000_0280, 0xc000_02ff)],
-        120,
-        22,
-        961,
-        b"",
-    ),
+    Row {
+        country: b"DE",
+        ranges: &[(0xc000_0200, 0xc000_027f), (0xc000_0280, 0xc000_02ff)],
+        nodes: 120,
+        section: 22,
+        length: 961,
+        bytes: b"",
+    },
     // 256 addresses from 192.0.2.0
-    (b"DE", &[(0xc000_0200, 0xc000_02ff)], 120, 22, 961, b""),
+    Row {
+        country: b"DE",
+        ranges: &[(0xc000_0200, 0xc000_02ff)],
+        nodes: 120,
+        section: 22,
+        length: 961,
+        bytes: b"",
+    },
 ];
 
 fn files() -> &'static [Row] {
@@ -184,8 +202,8 @@ fn files() -> &'static [Row] {
 }
 
 fn has_sizes(file: &Emitted, row: &Row) -> bool {
-    let is_small = (file.nodes, file.section, file.bits) == (u64::from(row.2), row.3, 24);
-    is_small && file.bytes.len() == row.4
+    let sizes = (file.nodes, file.section, file.bits);
+    sizes == (u64::from(row.nodes), row.section, 24) && file.bytes.len() == row.length
 }
 
 /// The marker and the metadata of the epoch 1700000000 and the type `Geofeed-City`, before and
@@ -216,14 +234,14 @@ fn wanted(alloc: Global, nodes: u8, behind: &[u8]) -> Result<Vec<u8>, AllocError
 }
 
 fn has_bytes(alloc: Global, file: &Emitted, row: &Row) -> bool {
-    match wanted(alloc, row.2, row.5) {
+    match wanted(alloc, row.nodes, row.bytes) {
         Ok(bytes) => file.bytes.as_slice() == bytes.as_slice(),
         Err(_) => false,
     }
 }
 
 fn is_so(alloc: Global, file: &Emitted, row: &Row) -> bool {
-    has_sizes(file, row) && (row.5.is_empty() || has_bytes(alloc, file, row))
+    has_sizes(file, row) && (row.bytes.is_empty() || has_bytes(alloc, file, row))
 }
 
 #[test]
@@ -235,16 +253,23 @@ fn sizes_and_bytes(rt: HostRuntime) -> Result<(), Fail> {
     Ok(())
 }
 
-static WHOLE: Row = (b"DE", &[(0xc000_0200, 0xc000_02ff)], 120, 22, 961, b"");
+static WHOLE: Row = Row {
+    country: b"DE",
+    ranges: &[(0xc000_0200, 0xc000_02ff)],
+    nodes: 120,
+    section: 22,
+    length: 961,
+    bytes: b"",
+};
 
-static HALVES: Row = (
-    b"DE",
-    &[(0xc000_0280, 0xc000_02ff), (0xc000_0200, 0xc000_027f)],
-    120,
-    22,
-    961,
-    b"",
-);
+static HALVES: Row = Row {
+    country: b"DE",
+    ranges: &[(0xc000_0280, 0xc000_02ff), (0xc000_0200, 0xc000_027f)],
+    nodes: 120,
+    section: 22,
+    length: 961,
+    bytes: b"",
+};
 
 #[test]
 fn equal_trees_equal_files(rt: HostRuntime) -> Result<(), Fail> {

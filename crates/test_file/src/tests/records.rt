@@ -1,4 +1,5 @@
-//! Records of nodes and their sizes.
+//! Records of nodes and their sizes. The digits of two records are those of seven bytes, and the
+//! nodes, 16 and the data section together stay below 2^24, 2^28 and 2^32.
 use mmdb_tree::{Bits, get_record, put_node, record_bits};
 
 #[test]

@@ -1,5 +1,6 @@
 //! Trees that are painted: the leaves of addresses, with grafts too, the order of nodes and leaves,
-//! and the least lines under a block.
+//! and the least lines under a block. What is wanted is reckoned by hand: there is a node for each
+//! bit of a prefix, and equal halves share theirs.
 ghost use Rattle.std.specs.Prelude.{◌≡◌, ◌<◌, IfOk};
 ghost use Rattle.trie_core.specs.Store.{IsRootOf};
 

@@ -1,4 +1,5 @@
-//! Values of the data section: spelt, read back and packed.
+//! Values of the data section: spelt, read back and packed. The bytes are put together by hand from
+//! the tables of kinds, sizes and pointers of the MaxMind DB format, version 2.0.
 use geo_addr::{Bytes, Text};
 use mmdb_data::{DataCause, DataFault, Packer, Value, decode, encode, fits};
 use std::alloc::Global;

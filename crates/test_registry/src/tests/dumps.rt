@@ -1,4 +1,4 @@
-//! What dumps say of feeds, however they are cut.
+//! What dumps say of feeds, however they are cut. What is wanted was told from the texts by hand.
 use crate::tests::references::{push_notes, push_reference};
 use feed_refs::DumpReader;
 use geo_terms::Dump;

@@ -1,4 +1,5 @@
-//! The index of references beside the plain look-up.
+//! The index of references beside the plain look-up. The lines that are wanted of the worked
+//! references were told from their ranges and dates by hand.
 use geo_addr::{Addr, Range, Text, parse_block};
 use geo_terms::Reference;
 use geo_terms::plain::first_at;
@@ -12,46 +13,129 @@ const FEED: &str = "f";
 
 const OTHER: &str = "g";
 
-// A reference of a range, in a slot and on a line that tell it apart.
-fn reference(
-    alloc: Global,
-    name: (&str, u64),
-    ends: (u128, u128),
+// A reference of the addresses from the first to the last one.
+struct ReferenceRow {
+    slot: &'static str,
+    line: u64,
+    first: u128,
+    last: u128,
     modified: u64,
-    url: &str,
-) -> Result<Reference, Fail> {
-    let (slot, line) = name;
-    let (first, last) = ends;
+    url: &'static str,
+}
+
+fn reference(alloc: Global, row: &ReferenceRow) -> Result<Reference, Fail> {
+    let (first, last) = (row.first, row.last);
     if first > last {
         return Err(Fail::from("no range"));
     }
     Ok(Reference {
-        slot: Text::of(alloc, slot)?,
-        line,
+        slot: Text::of(alloc, row.slot)?,
+        line: row.line,
         range: Range { first, last },
-        modified,
-        url: Text::of(alloc, url)?,
+        modified: row.modified,
+        url: Text::of(alloc, row.url)?,
     })
 }
-
-// A slot, a line, the first and the last address, a date and a URL.
-type ReferenceRow = (&'static str, u64, u128, u128, u64, &'static str);
 
 // Lines 1 and 2 nest, 3 and 4 overlap, 5 and 6 are of one range and one date in two slots, 7 is
 // older than these; the others touch the ends of both families.
 static REFERENCES: [ReferenceRow; 12] = [
-    ("a", 1, 0xC000_0000, 0xC000_FFFF, 0, FEED),
-    ("a", 2, 0xC000_0200, 0xC000_02FF, 0, FEED),
-    ("a", 3, 0x0A00_0000, 0x0A00_0009, 0, OTHER),
-    ("a", 4, 0x0A00_0005, 0x0A00_0014, 0, OTHER),
-    ("b", 5, 0x0B00_0000, 0x0B00_00FF, 20, FEED),
-    ("a", 6, 0x0B00_0000, 0x0B00_00FF, 20, FEED),
-    ("a", 7, 0x0B00_0000, 0x0B00_00FF, 10, FEED),
-    ("a", 8, 0, 0, 0, OTHER),
-    ("a", 9, TOP_V4, TOP_V4, 0, OTHER),
-    ("a", 10, 0, u128::MAX, 0, OTHER),
-    ("a", 11, 1 << 32, 1 << 32, 0, OTHER),
-    ("a", 12, u128::MAX, u128::MAX, 0, OTHER),
+    ReferenceRow {
+        slot: "a",
+        line: 1,
+        first: 0xC000_0000,
+        last: 0xC000_FFFF,
+        modified: 0,
+        url: FEED,
+    },
+    ReferenceRow {
+        slot: "a",
+        line: 2,
+        first: 0xC000_0200,
+        last: 0xC000_02FF,
+        modified: 0,
+        url: FEED,
+    },
+    ReferenceRow {
+        slot: "a",
+        line: 3,
+        first: 0x0A00_0000,
+        last: 0x0A00_0009,
+        modified: 0,
+        url: OTHER,
+    },
+    ReferenceRow {
+        slot: "a",
+        line: 4,
+        first: 0x0A00_0005,
+        last: 0x0A00_0014,
+        modified: 0,
+        url: OTHER,
+    },
+    ReferenceRow {
+        slot: "b",
+        line: 5,
+        first: 0x0B00_0000,
+        last: 0x0B00_00FF,
+        modified: 20,
+        url: FEED,
+    },
+    ReferenceRow {
+        slot: "a",
+        line: 6,
+        first: 0x0B00_0000,
+        last: 0x0B00_00FF,
+        modified: 20,
+        url: FEED,
+    },
+    ReferenceRow {
+        slot: "a",
+        line: 7,
+        first: 0x0B00_0000,
+        last: 0x0B00_00FF,
+        modified: 10,
+        url: FEED,
+    },
+    ReferenceRow {
+        slot: "a",
+        line: 8,
+        first: 0,
+        last: 0,
+        modified: 0,
+        url: OTHER,
+    },
+    ReferenceRow {
+        slot: "a",
+        line: 9,
+        first: TOP_V4,
+        last: TOP_V4,
+        modified: 0,
+        url: OTHER,
+    },
+    ReferenceRow {
+        slot: "a",
+        line: 10,
+        first: 0,
+        last: u128::MAX,
+        modified: 0,
+        url: OTHER,
+    },
+    ReferenceRow {
+        slot: "a",
+        line: 11,
+        first: 1 << 32,
+        last: 1 << 32,
+        modified: 0,
+        url: OTHER,
+    },
+    ReferenceRow {
+        slot: "a",
+        line: 12,
+        first: u128::MAX,
+        last: u128::MAX,
+        modified: 0,
+        url: OTHER,
+    },
 ];
 
 fn reference_rows() -> &'static [ReferenceRow] {
@@ -61,7 +145,7 @@ fn reference_rows() -> &'static [ReferenceRow] {
 fn references(alloc: Global) -> Result<Vec<Reference>, Fail> {
     let mut refs = Vec::new(alloc);
     for row in reference_rows() {
-        refs.push(reference(alloc, (row.0, row.1), (row.2, row.3), row.4, row.5)?)?;
+        refs.push(reference(alloc, row)?)?;
     }
     Ok(refs)
 }
@@ -179,7 +263,15 @@ fn made(alloc: Global, count: u64) -> Result<Vec<Reference>, Fail> {
         let size = u128::from(next(&mut number) % 64);
         let last = first.saturating_add(size);
         let modified = next(&mut number) % 4;
-        refs.push(reference(alloc, ("a", line), (first, last), modified, FEED)?)?;
+        let row = ReferenceRow {
+            slot: "a",
+            line,
+            first,
+            last,
+            modified,
+            url: FEED,
+        };
+        refs.push(reference(alloc, &row)?)?;
     }
     Ok(refs)
 }

@@ -1,4 +1,4 @@
-//! Objects of dumps, read whole and in pieces.
+//! Objects of dumps, read whole and in pieces. What is wanted was told from the texts by hand.
 use geo_addr::Text;
 use rpsl_reader::{Attribute, Item, Reader, Selection};
 use std::alloc::Global;
@@ -218,50 +218,92 @@ fn texts(rt: HostRuntime) -> Result<(), Fail> {
     Ok(())
 }
 
-// A text: how it begins, how many letters follow, and how it ends. Then where it is cut, how many
+// A text: what stands in front of so many letters, and behind them. Then where it is cut, how many
 // items it gives, and whether the first is a note on line 1.
-type LongRow = (&'static [u8], usize, &'static [u8], usize, usize, bool);
+struct LongRow {
+    front: &'static [u8],
+    letters: usize,
+    behind: &'static [u8],
+    cut: usize,
+    items: usize,
+    noted: bool,
+}
 
 static LONG: [LongRow; 9] = [
     // a line of 1,048,576 bytes and more, which an empty line and a short object follow
-    (b"remarks: ", 1_048_567, b"\n\nrole: good\n", 0, 2, false),
-    (
-        b"remarks: ",
-        1_048_567,
-        b"\n\nrole: good\n",
-        1_048_000,
-        2,
-        false,
-    ),
-    (b"remarks: ", 1_048_568, b"\n\nrole: good\n", 0, 2, true),
-    (
-        b"remarks: ",
-        1_048_568,
-        b"\n\nrole: good\n",
-        1_048_577,
-        2,
-        true,
-    ),
-    (
-        b"remarks: ",
-        1_048_591,
-        b"\n\nrole: good\n",
-        1_048_590,
-        2,
-        true,
-    ),
-    (
-        b"remarks: ",
-        1_099_991,
-        b"\n\nrole: good\n",
-        1_099_999,
-        2,
-        true,
-    ),
+    LongRow {
+        front: b"remarks: ",
+        letters: 1_048_567,
+        behind: b"\n\nrole: good\n",
+        cut: 0,
+        items: 2,
+        noted: false,
+    },
+    LongRow {
+        front: b"remarks: ",
+        letters: 1_048_567,
+        behind: b"\n\nrole: good\n",
+        cut: 1_048_000,
+        items: 2,
+        noted: false,
+    },
+    LongRow {
+        front: b"remarks: ",
+        letters: 1_048_568,
+        behind: b"\n\nrole: good\n",
+        cut: 0,
+        items: 2,
+        noted: true,
+    },
+    LongRow {
+        front: b"remarks: ",
+        letters: 1_048_568,
+        behind: b"\n\nrole: good\n",
+        cut: 1_048_577,
+        items: 2,
+        noted: true,
+    },
+    LongRow {
+        front: b"remarks: ",
+        letters: 1_048_591,
+        behind: b"\n\nrole: good\n",
+        cut: 1_048_590,
+        items: 2,
+        noted: true,
+    },
+    LongRow {
+        front: b"remarks: ",
+        letters: 1_099_991,
+        behind: b"\n\nrole: good\n",
+        cut: 1_099_999,
+        items: 2,
+        noted: true,
+    },
     // a name of 64 letters and more
-    (b"", 63, b": v\n", 3, 1, false),
-    (b"", 64, b": v\n", 3, 1, false),
-    (b"", 65, b": v\n", 3, 1, true),
+    LongRow {
+        front: b"",
+        letters: 63,
+        behind: b": v\n",
+        cut: 3,
+        items: 1,
+        noted: false,
+    },
+    LongRow {
+        front: b"",
+        letters: 64,
+        behind: b": v\n",
+        cut: 3,
+        items: 1,
+        noted: false,
+    },
+    LongRow {
+        front: b"",
+        letters: 65,
+        behind: b": v\n",
+        cut: 3,
+        items: 1,
+        noted: true,
+    },
 ];
 
 fn long_rows() -> &'static [LongRow] {
@@ -273,9 +315,9 @@ fn letters(alloc: Global, count: usize) -> Result<Vec<u8>, Fail> {
 }
 
 fn push_long(alloc: Global, row: &LongRow, text: &mut Vec<u8>) -> Result<(), Fail> {
-    text.extend_from_slice(row.0)?;
-    text.extend_from_slice(letters(alloc, row.1)?.as_slice())?;
-    text.extend_from_slice(row.2)?;
+    text.extend_from_slice(row.front)?;
+    text.extend_from_slice(letters(alloc, row.letters)?.as_slice())?;
+    text.extend_from_slice(row.behind)?;
     Ok(())
 }
 
@@ -291,8 +333,8 @@ fn are_counted(items: &[Item], count: usize, noted: bool) -> bool {
 fn gives_long(alloc: Global, row: &LongRow) -> Result<bool, Fail> {
     let mut text = Vec::new(alloc);
     push_long(alloc, row, &mut text)?;
-    let items = items_of(alloc, text.as_slice(), Some(row.3))?;
-    Ok(are_counted(items.as_slice(), row.4, row.5))
+    let items = items_of(alloc, text.as_slice(), Some(row.cut))?;
+    Ok(are_counted(items.as_slice(), row.items, row.noted))
 }
 
 #[test]

@@ -1,4 +1,5 @@
-//! What objects of dumps say of feeds.
+//! What objects of dumps say of feeds, and their URLs. What is wanted was told from the texts by
+//! hand; the host that is not ASCII is that of RFC 3492's way of writing it.
 use feed_refs::{UrlRead, What, read_url, reference_of};
 use geo_addr::{Bytes, List, Text, range_text};
 use geo_terms::{LineNote, Reference};

@@ -1,4 +1,5 @@
-//! Statistics files: delegations, notes, and which delegation decides.
+//! Statistics files: delegations, notes, and which delegation decides. What is wanted was told from
+//! the lines by hand: the ends of a range are the digits of its address, and its count further.
 use fan_work::Forks;
 use geo_addr::Addr;
 use geo_outside::OpenGate;
@@ -9,82 +10,93 @@ use std::alloc::Global;
 use std::test::Fail;
 
 // A file, the line of its only delegation, and the ends of the range.
-type DelegationRow = (&'static [u8], u64, u128, u128);
+struct DelegationRow {
+    file: &'static [u8],
+    line: u64,
+    first: u128,
+    last: u128,
+}
 
 static DELEGATIONS: [DelegationRow; 13] = [
-    (
-        b"x|DE|ipv4|192.0.2.0|768||allocated",
-        1,
-        0xC000_0200,
-        0xC000_04FF,
-    ),
-    (
-        b"x|DE|ipv4|192.0.1.0|512||assigned",
-        1,
-        0xC000_0100,
-        0xC000_02FF,
-    ),
-    (
-        b"x|DE|ipv4|255.255.255.255|1||allocated",
-        1,
-        0xFFFF_FFFF,
-        0xFFFF_FFFF,
-    ),
-    (
-        b"x|DE|ipv4|0.0.0.0|4294967296||allocated",
-        1,
-        0,
-        0xFFFF_FFFF,
-    ),
-    (
-        b"x|DE|ipv4|10.0.0.0|0000000256||allocated",
-        1,
-        0x0A00_0000,
-        0x0A00_00FF,
-    ),
-    (
-        b"x|de|ipv6|2001:db8::|32||allocated",
-        1,
-        0x2001_0DB8 << 96,
-        (0x2001_0DB9 << 96) - 1,
-    ),
-    (b"x|DE|ipv6|::|95||allocated", 1, 0, (1 << 33) - 1),
-    (
-        b"x | DE |ipv4|\t10.0.0.0 |256||allocated|A1|e-stats",
-        1,
-        0x0A00_0000,
-        0x0A00_00FF,
-    ),
-    (
-        b"#\r\n\r\nx|DE|ipv4|10.0.0.0|256||allocated\r\n",
-        3,
-        0x0A00_0000,
-        0x0A00_00FF,
-    ),
-    (
-        b"2.3|nro|20240301\nx|DE|ipv4|10.0.0.0|256||allocated\n",
-        2,
-        0x0A00_0000,
-        0x0A00_00FF,
-    ),
-    (
-        b"x|DE|ipv4|10.0.0.0|256||allocated\nnro|*|ipv4|*|4|summary\n",
-        1,
-        0x0A00_0000,
-        0x0A00_00FF,
-    ),
-    (
-        b"x|DE|asn|64496|1||allocated\nx||ipv4|x|y||available\nx|DE|ipv4|10.0.0.0|256||allocated",
-        3,
-        0x0A00_0000,
-        0x0A00_00FF,
-    ),
-    (
-        b"\xEF\xBB\xBF2\nx|DE|ipv4|10.0.0.0|256||allocated",
-        2,
-        0x0A00_0000,
-        0x0A00_00FF,
-    ),
+    DelegationRow {
+        file: b"x|DE|ipv4|192.0.2.0|768||allocated",
+        line: 1,
+        first: 0xC000_0200,
+        last: 0xC000_04FF,
+    },
+    DelegationRow {
+        file: b"x|DE|ipv4|192.0.1.0|512||assigned",
+        line: 1,
+        first: 0xC000_0100,
+        last: 0xC000_02FF,
+    },
+    DelegationRow {
+        file: b"x|DE|ipv4|255.255.255.255|1||allocated",
+        line: 1,
+        first: 0xFFFF_FFFF,
+        last: 0xFFFF_FFFF,
+    },
+    DelegationRow {
+        file: b"x|DE|ipv4|0.0.0.0|4294967296||allocated",
+        line: 1,
+        first: 0,
+        last: 0xFFFF_FFFF,
+    },
+    DelegationRow {
+        file: b"x|DE|ipv4|10.0.0.0|0000000256||allocated",
+        line: 1,
+        first: 0x0A00_0000,
+        last: 0x0A00_00FF,
+    },
+    DelegationRow {
+        file: b"x|de|ipv6|2001:db8::|32||allocated",
+        line: 1,
+        first: 0x2001_0DB8 << 96,
+        last: (0x2001_0DB9 << 96) - 1,
+    },
+    DelegationRow {
+        file: b"x|DE|ipv6|::|95||allocated",
+        line: 1,
+        first: 0,
+        last: (1 << 33) - 1,
+    },
+    DelegationRow {
+        file: b"x | DE |ipv4|\t10.0.0.0 |256||allocated|A1|e-stats",
+        line: 1,
+        first: 0x0A00_0000,
+        last: 0x0A00_00FF,
+    },
+    DelegationRow {
+        file: b"#\r\n\r\nx|DE|ipv4|10.0.0.0|256||allocated\r\n",
+        line: 3,
+        first: 0x0A00_0000,
+        last: 0x0A00_00FF,
+    },
+    DelegationRow {
+        file: b"2.3|nro|20240301\nx|DE|ipv4|10.0.0.0|256||allocated\n",
+        line: 2,
+        first: 0x0A00_0000,
+        last: 0x0A00_00FF,
+    },
+    DelegationRow {
+        file: b"x|DE|ipv4|10.0.0.0|256||allocated\nnro|*|ipv4|*|4|summary\n",
+        line: 1,
+        first: 0x0A00_0000,
+        last: 0x0A00_00FF,
+    },
+    DelegationRow {
+        file: b"x|DE|asn|64496|1||allocated\nx||ipv4|x|y||available\n\
+x|DE|ipv4|10.0.0.0|256||allocated",
+        line: 3,
+        first: 0x0A00_0000,
+        last: 0x0A00_00FF,
+    },
+    DelegationRow {
+        file: b"\xEF\xBB\xBF2\nx|DE|ipv4|10.0.0.0|256||allocated",
+        line: 2,
+        first: 0x0A00_0000,
+        last: 0x0A00_00FF,
+    },
 ];
 
 fn delegations() -> &'static [DelegationRow] {
@@ -95,14 +107,15 @@ fn delegations() -> &'static [DelegationRow] {
 fn are_one(rows: &[Delegation], row: &DelegationRow) -> bool {
     match rows {
         [found] => {
-            found.line == row.1 && found.range.first == row.2 && found.range.last == row.3
+            let ends = (found.range.first, found.range.last);
+            found.line == row.line && ends == (row.first, row.last)
         }
         _ => false,
     }
 }
 
 fn says_one(alloc: Global, row: &DelegationRow) -> Result<bool, Fail> {
-    let stats = read_stats(alloc, "x", row.0)?;
+    let stats = read_stats(alloc, "x", row.file)?;
     Ok(are_one(stats.rows.as_slice(), row) && stats.notes.as_slice().is_empty())
 }
 
