@@ -126,7 +126,7 @@ done <<< "$limits"
 counted 30 "$rows" limits
 # The format's own limits of records, which mmdb_tree has, are powers of two as some of these are.
 mapfile -t told < <(files '*.rt' '*.antt' | grep -E '^crates/[a-z_]+/(src|specs)/' \
-    | grep -v '_tests/\|/test_\|/mmdb_tree/')
+    | grep -v '/test_\|/mmdb_tree/')
 while read -r value found; do
     named=$(grep -cE "^[A-Z_]+ $value " <<< "$limits")
     [ "$found" -eq "$named" ] \

@@ -1,5 +1,0 @@
-//! Tests of sessions, in a crate of their own, so that a change of a test proves no crate again.
-#![tactic(auto)]
-
-#[cfg(test)]
-mod tests;

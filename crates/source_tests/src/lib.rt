@@ -1,5 +1,0 @@
-//! Tests of all sources in force, apart, so that a change of a test proves no crate again.
-#![tactic(auto)]
-
-#[cfg(test)]
-mod tests;
