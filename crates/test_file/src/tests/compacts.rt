@@ -1,4 +1,4 @@
-//! Compact stores.
+//! Compact stores. The nodes are counted by hand, as in `trees`.
 ghost use Rattle.std.specs.Prelude.{◌≡◌, ◌<◌};
 
 use crate::tests::trees::{Painted, painted};

@@ -1,4 +1,5 @@
-//! What is said of stops, where the program cannot be brought to them, in the words of docs/stops.md.
+//! What is said of stops, where the program cannot be brought to them. The words are written here
+//! and in checks/trials alone.
 use geo_addr::{Memory, Text};
 use job_run::{ActKind, Cause, Journal, NotDone, Stop};
 use std::alloc::Global;

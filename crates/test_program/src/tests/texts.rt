@@ -1,4 +1,4 @@
-//! The texts of stops, where no command of the other tables comes to one.
+//! The texts of stops, where no command of the other tables comes to one: those of docs/stops.md.
 use geo_addr::Memory;
 use geofeed_cmd::stop_line;
 use job_lines::JobFault;

@@ -1,4 +1,4 @@
-//! Words that are a command, and which one.
+//! Words that are a command, and which one, told by hand: a prefix of IPv4 is 96 bits longer there.
 use super::words_of;
 use job_lines::command_in;
 use std::alloc::{AllocError, Global};

@@ -1,5 +1,6 @@
 //! Lines that stand elsewhere between two emits, what an emit touches, and what is not there. The
-//! numbers are counted from the lines and reckoned from the form of a file by hand, as in `marks`.
+//! grounds and edges were counted from the lines by hand, and the sizes of files are those that the
+//! program of checks/second gives.
 use crate::tests::acts::Act::{self, Absent, Anew, Drop, Edges, Emit, Lines, Same, Set, Touched};
 use crate::tests::acts::first_wrong_job;
 use crate::tests::given::FEED;
