@@ -1,5 +1,5 @@
-//! Why lines and words are refused, as the readers say it: told from the words by hand, and spelt as
-//! the names of the faults are.
+//! Why lines and words are refused, as the readers say it: told from the words by hand, and spelt
+//! as the names of the faults are.
 use super::words_of;
 use job_lines::{LineFault, command_or_reason, job_or_reason};
 use std::alloc::{AllocError, Global};

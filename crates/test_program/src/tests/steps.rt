@@ -1,5 +1,5 @@
-//! How the steps of a job are done with files that stand apart, and how much of it. At which step it
-//! stops was counted by hand.
+//! How the steps of a job are done with files that stand apart, and how much of it. At which step
+//! it stops was counted by hand.
 ghost use Rattle.std.specs.Prelude.{◌≡◌, ◌<◌, ◌≤◌, length, IfOk};
 
 use super::{Files, empty_folder, empty_sink, hold_all};

@@ -1,5 +1,5 @@
-//! Sources of each kind set, replaced, dropped, and dropped where they are not there. The record was
-//! told from the texts by hand.
+//! Sources of each kind set, replaced, dropped, and dropped where they are not there. The record
+//! was told from the texts by hand.
 use crate::tests::given::Kind::{Feed, Overrides, Rpsl, Stats};
 use crate::tests::scripts::Step::{Act, Records};
 use crate::tests::scripts::{Script, Step, first_wrong};
