@@ -14,6 +14,7 @@ const FEED: &str = "f";
 const OTHER: &str = "g";
 
 // A reference of the addresses from the first to the last one.
+#[derive(Clone, Copy)]
 struct ReferenceRow {
     slot: &'static str,
     line: u64,
