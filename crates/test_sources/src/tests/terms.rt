@@ -25,7 +25,7 @@ fn shown(said: &Result<Said, PlaceFault>) -> (&str, &str) {
 
 /// A country, a region, a city and how often it is repeated, and the country and region of the
 /// place, or why there is none.
-struct Fields {
+struct PlaceRow {
     country: &'static str,
     region: &'static str,
     city: &'static str,
@@ -33,50 +33,50 @@ struct Fields {
     wanted: (&'static str, &'static str),
 }
 
-static FIELDS: [Fields; 7] = [
-    Fields {
+static FIELDS: [PlaceRow; 7] = [
+    PlaceRow {
         country: "",
         region: "de-by",
         city: "",
         count: 1,
         wanted: ("DE", "DE-BY"),
     },
-    Fields {
+    PlaceRow {
         country: "zz",
         region: "",
         city: "X",
         count: 1,
         wanted: ("nothing", ""),
     },
-    Fields {
+    PlaceRow {
         country: "",
         region: "ZZ-1",
         city: "",
         count: 1,
         wanted: ("nothing", ""),
     },
-    Fields {
+    PlaceRow {
         country: "",
         region: "",
         city: "",
         count: 1,
         wanted: ("nothing", ""),
     },
-    Fields {
+    PlaceRow {
         country: "A1",
         region: "DEBY",
         city: "",
         count: 1,
         wanted: ("refused", "country"),
     },
-    Fields {
+    PlaceRow {
         country: "DE",
         region: "DEBY",
         city: "",
         count: 1,
         wanted: ("refused", "region"),
     },
-    Fields {
+    PlaceRow {
         country: "DE",
         region: "",
         city: "x",
@@ -85,11 +85,11 @@ static FIELDS: [Fields; 7] = [
     },
 ];
 
-fn fields() -> &'static [Fields] {
+fn fields() -> &'static [PlaceRow] {
     &FIELDS
 }
 
-fn name_a_place(alloc: Global, row: &Fields) -> Option<bool> {
+fn name_a_place(alloc: Global, row: &PlaceRow) -> Option<bool> {
     let city = row.city.repeat(alloc, row.count).ok()?;
     let said = place_of(alloc, row.country, row.region, city.as_str(), "");
     Some(shown(&said) == row.wanted)
