@@ -6,7 +6,8 @@ use std::io::ErrorKind;
 use std::test::Fail;
 use stop_words::{System, stop_text};
 
-/// What ended `build job`, the line of the job and what it does, what it is about, and what is said.
+/// What ended `build job`, the line of the job and what it does, what it is about,
+/// and what is said.
 type Row = (Stop, Option<(u64, ActKind)>, &'static str, &'static str);
 
 static ROWS: [Row; 8] = [
