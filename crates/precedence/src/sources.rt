@@ -499,11 +499,11 @@ impl Sources {
         ensures ascending { IfOk result (λ points. IsStrictlyIncreasing points.items) }
     {
         let speakers = self.authority.speakers()?;
-        let delegations = self.statistics.index()?;
+        let delegations = self.statistics.delegations()?;
         let mut points = Vec::with_capacity(self.alloc, self.room_in(bounds))?;
         push_inside(&mut points, speakers.cuts.as_slice(), bounds)?;
         push_feeds_inside(&mut points, self.authority.feeds(), bounds)?;
-        push_inside(&mut points, delegations.cuts.as_slice(), bounds)?;
+        push_inside(&mut points, delegations.index.cuts.as_slice(), bounds)?;
         push_inside(&mut points, self.overriding.cuts(), bounds)?;
         // A merge: each list that was appended ascends.
         points.sort()?;
