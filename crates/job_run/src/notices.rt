@@ -41,7 +41,7 @@ pub struct Notice {
     pub name: Option<Text>,
 }
 
-/// All that was noticed, up to `MOST_NOTICES`, in the order in which it was.
+/// All that was noticed, up to `MOST_NOTICES`, in the order of the lines.
 #[derive(Debug, Drop)]
 pub struct Notices {
     alloc: Global,
@@ -145,7 +145,8 @@ impl Notices {
             Some(name) => Text::of(self.alloc, name).ok(),
             None => None,
         };
-        let _ = self.list.push(Notice { line, kind, name });
+        let at = self.list.partition_point(|it| it.line <= line);
+        let _ = self.list.insert(at, Notice { line, kind, name });
     }
 }
 
