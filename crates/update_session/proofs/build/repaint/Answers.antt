@@ -1,7 +1,6 @@
-use Rattle.std.proofs.Common.{◌≡◌, ◌∙◌, List, Option, length, map, ap, arith, sym, subst, Bor}
+use Rattle.std.proofs.Common.{◌≡◌, ◌∙◌, List, length, map, ap, arith, sym, subst}
 use Rattle.std.specs.Prelude.{All}
 use Rattle.geo_addr.specs.Ranges.{Ends}
-use Rattle.geo_terms.specs.PlaceForm.{PlaceParts}
 use Rattle.geo_terms.specs.Sources.{InForce}
 use Rattle.trie_core.specs.declared.paint.Part.{Part}
 use Rattle.update_session.specs.Build.{HasNumber}
@@ -38,8 +37,8 @@ returns-clause-answers g c =
     let spoken : AnswersSpoken c.paint.new.store c.numbered.new.places c.in_ok-painted.painted s =
     AnswersSpoken-painted s c.args.touched.now c.in_ok-segments.segments.items
     c.as_slice-2.result.now c.args.store.now c.paint.new.store c.args.places.now
-    c.numbered.new.places _ c.args.root c.in_ok-painted.painted c.in_ok-segments.ensures.segments ranges
-    numbers c.in_ok-parts.ensures.places
+    c.numbered.new.places _ c.args.root c.in_ok-painted.painted
+    c.in_ok-segments.ensures.segments ranges numbers c.in_ok-parts.ensures.places
     (spoken_elsewhere s c.args.store.now c.args.places.now c.args.root c.args.touched.now
     c.requires.base)
     c.in_ok-painted.ensures.lookups in
