@@ -1,5 +1,5 @@
 //! What a file looks like that is not the source it was set as, by its first bytes.
-use geo_addr::cut_at;
+use geo_addr::{Lines, cut_at};
 use job_run::ActKind;
 
 /// What the file looks like, where that is something else than the kind of source.
@@ -50,32 +50,14 @@ fn packed_as(head: &[u8]) -> Option<&'static str> {
 
 // The first line that is neither blank nor a comment, from its first byte that is no blank.
 fn first_line(head: &[u8]) -> Option<&[u8]> {
-    let mut rest = without_mark(head);
-    while let [first, after @ ..] = rest {
-        match first {
-            b' ' | b'\t' | b'\r' | b'\n' => rest = after,
-            b'#' | b'%' => rest = behind_line(after),
-            _ => return Some(line_of(rest)),
+    for line in Lines::of(head) {
+        let text = line.text.trim_ascii_start();
+        match text {
+            [] | [b'#' | b'%', ..] => {}
+            _ => return Some(text),
         }
     }
     None
-}
-
-fn without_mark(head: &[u8]) -> &[u8] {
-    match head {
-        [0xEF, 0xBB, 0xBF, rest @ ..] => rest,
-        _ => head,
-    }
-}
-
-fn line_of(text: &[u8]) -> &[u8] {
-    let (line, _) = cut_at(text, b'\n');
-    line
-}
-
-fn behind_line(text: &[u8]) -> &[u8] {
-    let (_, behind) = cut_at(text, b'\n');
-    behind.unwrap_or(&[])
 }
 
 fn count(line: &[u8], byte: u8) -> usize {
@@ -90,18 +72,14 @@ fn count(line: &[u8], byte: u8) -> usize {
 
 // Whether it begins with a name, a colon and a blank, as the lines of an object do.
 fn is_attribute(line: &[u8]) -> bool {
-    let mut rest = line;
-    while let [first, after @ ..] = rest {
-        match first {
-            b'a'..=b'z' | b'A'..=b'Z' | b'0'..=b'9' | b'-' | b'_' => rest = after,
-            b':' => {
-                return match after {
-                    [] | [b' ' | b'\t' | b'\r', ..] => true,
-                    _ => false,
-                };
-            }
-            _ => return false,
-        }
+    let (name, behind) = cut_at(line, b':');
+    match behind {
+        Some([] | [b' ' | b'\t', ..]) => is_attribute_name(name),
+        _ => false,
     }
-    false
+}
+
+fn is_attribute_name(name: &[u8]) -> bool {
+    !name.is_empty()
+        && name.iter().all(|b| b.is_ascii_alphanumeric() || *b == b'-' || *b == b'_')
 }
