@@ -76,7 +76,7 @@ fn rows() -> &'static [Row] {
 
 /// What a command tells that ends so.
 fn journal_of(alloc: Global, row: &Row) -> Result<Journal, Memory> {
-    let mut journal = Journal::new();
+    let mut journal = Journal::new(alloc);
     journal.begin(alloc, "job");
     journal.end(row.stop);
     journal.name = Some(Text::of(alloc, row.name)?);
