@@ -1,7 +1,7 @@
 #!/usr/bin/env bash
 # The generated job of 1,000 lines: by its own command, as files of a folder in several numbers of
-# pieces, with its second feed alone, and published. (That of one line is in
-# checks/trials/generations.txt.)
+# pieces, with its second feed alone, and published; and that of 100,000 lines. (That of one line is
+# in checks/trials/generations.txt.)
 set -u
 cd "$(dirname "${BASH_SOURCE[0]}")/.." || exit 1
 . checks/with_program.bash
@@ -15,12 +15,12 @@ does() {
         || fail "'${*:2}' ends with status $status and prints '$(cat printed told)', and not '$1'"
 }
 
-# feed FIRST: the lines of the feed, of which the first has this country.
+# feed FIRST [COUNT]: so many lines of the feed, or 1,000, of which the first has this country.
 feed() {
-    awk -v first="$1" 'BEGIN { split("DE FR IT", countries, " ")
-        for (at = 0; at < 1000; at++)
-            printf "10.0.%d.%d/28,%s,,City %d,\n", int(at / 16), at % 16 * 16,
-                at ? countries[at % 3 + 1] : first, at }'
+    awk -v first="$1" -v count="${2:-1000}" 'BEGIN { split("DE FR IT", countries, " ")
+        for (at = 0; at < count; at++)
+            printf "10.%d.%d.%d/28,%s,,City %d,\n", int(at / 4096), int(at / 16) % 256,
+                at % 16 * 16, at ? countries[at % 3 + 1] : first, at }'
 }
 
 # job FEED FILE [LINE]: a job that sets the dump and this feed, with a line between them, and emits
@@ -52,6 +52,15 @@ for pair in 'a1 a3' 'a1 a64' 'b1 b3' 'b1 b64' 'c b1' 'c d'; do
     # shellcheck disable=SC2086
     cmp -s $pair || fail "of $pair the one is not the other"
 done
+
+# A hundred thousand lines, beside a job with the second feed alone.
+feed CH 100000 > many.csv
+job many.csv j 'stats gen gen.txt' > fresh
+first='nodes 100140 data 2388932 bits 24 bytes 2989993'
+second='nodes 100140 data 2388936 bits 24 bytes 2989997'
+does "emit i $first"$'\n'"emit i $second" gen 100000 i
+does "emit j $second" build fresh
+cmp -s i j || fail "the file of 100,000 generated lines is not that of the second feed alone"
 
 # A thousand places take a thousand lines, and the feed that is published says the same.
 without='nodes 1142 data 21923 bits 24 bytes 28995'
