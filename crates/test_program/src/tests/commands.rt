@@ -53,7 +53,7 @@ struct Row {
     b: bool,
 }
 
-static ROWS: [Row; 26] = [
+static ROWS: [Row; 28] = [
     Row {
         files: &[("j", b"epoch 1700000000\nemit o\n")],
         command: "build j",
@@ -142,6 +142,24 @@ emit o nodes 151 data 54 bits 24 bytes 1179\n",
     Row {
         files: &[("j", b"epoch 1\n")],
         command: "publish j 10.0.0.0/24 f",
+        faults: Faults { print: 1, ..NONE },
+        status: Status::WriteFault,
+        printed: "",
+        a: false,
+        b: false,
+    },
+    Row {
+        files: FED,
+        command: "check j https://e.example/f",
+        faults: Faults { print: 1, ..NONE },
+        status: Status::WriteFault,
+        printed: "",
+        a: false,
+        b: false,
+    },
+    Row {
+        files: FED,
+        command: "census j",
         faults: Faults { print: 1, ..NONE },
         status: Status::WriteFault,
         printed: "",
