@@ -101,7 +101,8 @@ none_found (t ∷ ts) index have =
 
 -- the start of one file more
 pub one_more_start : (starts new all : List ℕ) (n m : ℕ) (t : StatsParts)
-    (left ts : List StatsParts) → left ≡ t ∷ ts → m ≡ n + length t.rows → starts ++ starts_from n left ≡ all
+    (left ts : List StatsParts) → left ≡ t ∷ ts → m ≡ n + length t.rows
+    → starts ++ starts_from n left ≡ all
     → new ≡ starts ++ n ∷ [] → new ++ starts_from m ts ≡ all
 one_more_start starts new all n m t left ts here is before put =
     ap (λ (ns : List ℕ). ns ++ starts_from m ts) put
