@@ -57,6 +57,7 @@ impl Model for Session {
 impl Session {
     ghost use Rattle.std.specs.Prelude.{◌≡◌, ◌⊎◌, ◌≤◌, ◌<◌, ◌+◌, ◌^◌, ℕ, List, Option, [], length};
     ghost use Rattle.std.specs.Prelude.{IfOk, OnOk, OnErr, IsTrue, Some, Ok, Err, option_map};
+    ghost use Rattle.fan_work.specs.declared.forks.TheConstants.{MOST_PIECES};
     ghost use Rattle.geo_addr.specs.Bits.{bits_of};
     ghost use Rattle.geo_terms.specs.PlaceForm.{PlaceParts};
     ghost use Rattle.geo_terms.specs.Precedence.{reasons_at, record_at};
@@ -119,14 +120,19 @@ impl Session {
     /// The file of a fresh build of the sources in force.
     ///
     /// What was touched since the last emit is painted into its tree, so the work of an emit
-    /// follows what changed. What is said of the segments is looked up by pieces side by side.
+    /// follows what changed. What is said of the segments is looked up by so many pieces side by
+    /// side, each of which enters the gate.
     /// Nodes and places that a refused emit made stay.
     #[tactic(auto, unfolding(crate::specs::Touch::bound))]
     pub fn emit<R: Threads + Sync, G: Gate, L: Ledger>(
         &mut self,
-        forks: &Forks<R, G>,
+        rt: &R,
+        gate: &G,
+        pieces: u32,
         steps: &mut Steps<L>,
     ) -> Result<Emitted, EmitFault>
+        requires some { 0 < pieces }
+        requires few { pieces ≤ MOST_PIECES }
         ensures file { IfOk result (λ file. file_of self.old.state ≡ Some (value_of file)) }
 
         // Whoever follows the public standard through the bytes comes to the
@@ -153,8 +159,15 @@ impl Session {
         // With nothing touched no step is taken and nothing is made.
         ensures idle { self.old.touched ≡ [] → (self.new ≡ self.old) × (steps.new ≡ steps.old) }
     {
+        let alloc = self.alloc;
+        let forks = Forks {
+            rt,
+            alloc,
+            gate,
+            pieces,
+        };
         let root = repaint(
-            forks,
+            &forks,
             &mut self.sources,
             self.touched.as_slice(),
             &mut self.store,
@@ -173,9 +186,13 @@ impl Session {
     #[tactic(auto, unfolding(crate::specs::Touch::bound))]
     pub fn build_tree<R: Threads + Sync, G: Gate, L: Ledger>(
         &mut self,
-        forks: &Forks<R, G>,
+        rt: &R,
+        gate: &G,
+        pieces: u32,
         steps: &mut Steps<L>,
     ) -> Result<Root, EmitFault>
+        requires some { 0 < pieces }
+        requires few { pieces ≤ MOST_PIECES }
         ensures root { IfOk result (λ root. self.new.root ≡ root) }
         ensures too_large { result ≡ Err EmitFault.TooLarge → IsSpent self.old }
         ensures ticks { steps.old ≤ steps.new }
@@ -185,8 +202,15 @@ impl Session {
         ensures err { OnErr result (IsAsBefore self.old self.new) }
         ensures idle { self.old.touched ≡ [] → (self.new ≡ self.old) × (steps.new ≡ steps.old) }
     {
+        let alloc = self.alloc;
+        let forks = Forks {
+            rt,
+            alloc,
+            gate,
+            pieces,
+        };
         let root = repaint(
-            forks,
+            &forks,
             &mut self.sources,
             self.touched.as_slice(),
             &mut self.store,
