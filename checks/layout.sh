@@ -1,7 +1,7 @@
 #!/usr/bin/env bash
 # What `rt ci` does not look at: the lengths of lines and files, the first words of each file of
-# code, must-fail edits for each library, a crate's place in the documents, and that each file of
-# definitions and each function that docs/SPEC.md and docs/ARCHITECTURE.md lead to is there.
+# code, must-fail edits for each library, a crate's place in the documents, and that each function
+# that docs/ARCHITECTURE.md leads to is there.
 set -u
 export LC_ALL=C.UTF-8
 cd "$(dirname "${BASH_SOURCE[0]}")/.." || exit 1
@@ -139,15 +139,6 @@ done < <(numbers "${told[@]}" | awk -v limits="$limits" '
     }
     is_limit[$1] { found[$1]++ }
     END { for (value in found) print value, found[value] }')
-
-# A row of docs/SPEC.md names a crate and a file below its specs/.
-rows=0
-while read -r crate file; do
-    rows=$((rows + 1))
-    [ -f "crates/$crate/specs/$file.antt" ] \
-        || fail "docs/SPEC.md names $file of $crate, which is not there"
-done < <(sed -nE 's/^\| `([a-z_]+)` \| `([A-Za-z/]+)` \|.*/\1 \2/p' docs/SPEC.md)
-counted 50 "$rows" 'rows of docs/SPEC.md'
 
 # A row of the table of symptoms names functions, and then each crate with its files; one of these
 # has the function.
