@@ -1,8 +1,8 @@
 #!/usr/bin/env bash
-# docs/inside/SPEC.md is true: what the contract of `run` rests on, definition by definition, is in the
-# parts that a reader has to agree with, and nothing else is; what the promise itself rests on is in
-# the first two, and in no more than sixteen files of the first; each file of crates/*/specs is on
-# one list; and the table at its head has the files, the lines and the hours of each part.
+# docs/inside/SPEC.md is true: what the contract of `run` rests on, definition by definition, is in
+# the parts that a reader has to agree with, and nothing else is; what the promise itself rests on
+# is in the first two, and in no more than sixteen files of the first; each file of crates/*/specs
+# is on one list; and the table at its head has the files, the lines and the hours of each part.
 set -u
 export LC_ALL=C.UTF-8
 cd "$(dirname "${BASH_SOURCE[0]}")/.." || exit 1
