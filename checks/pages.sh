@@ -150,9 +150,11 @@ if unshare -n true 2> told; then
     [ ! -s table.nft ] || sed -i '1i nft -f table.nft' commands
     echo '[ ! -s table.nft ] || nft list table inet geo > loaded' >> commands
     prints unshare -n
-    [ ! -s table.nft ] || grep -q '192.0.2.192/26' loaded \
-        && grep -q '2001:db8::/32' loaded && grep -q 'saddr != @geo6 drop' loaded \
-        || fail "the table of $page is '$(cat loaded)'"
+    if [ -s table.nft ]; then
+        grep -q '192.0.2.192/26' loaded && grep -q '2001:db8::/32' loaded \
+            && grep -q 'saddr != @geo6 drop' loaded \
+            || fail "the table of $page is '$(cat loaded)'"
+    fi
 else
     prints
 fi
