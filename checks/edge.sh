@@ -116,9 +116,9 @@ ln -sfn ring ring && job ring/out.mmdb > bad && puts 5 'stop write ring/out.mmdb
 
 # What stands in the way: a folder of the name, a missing folder, a file in a folder's place.
 mkdir full full/out.mmdb && job full/out.mmdb > bad
-puts 5 'stop write full/out.mmdb' bad && told 'is a directory'
+puts 5 'stop write full/out.mmdb' bad && told 'a folder has this name'
 left 0 full
-job none/out.mmdb > bad && puts 5 'stop write none/out.mmdb' bad && told 'No such file'
+job none/out.mmdb > bad && puts 5 'stop write none/out.mmdb' bad && told 'there is no folder "none"'
 { job out.mmdb t.txt && echo 'emit none/out.mmdb' && echo 'emit out.mmdb'; } > bad
 puts 5 'stop write none/out.mmdb' bad
 cmp -s out.mmdb second && [ ! -e none ] || fail "a put that stops spoils what was put before it"
@@ -214,7 +214,8 @@ for how in - ''; do
     is_whole out.mmdb
 done
 trap - PIPE
-for ((n = 0; n < 9000; n++)); do echo 'x|DE|ipv4|here|256||allocated'; done > notes.txt
+cp s.txt notes.txt
+for ((n = 0; n < 9000; n++)); do echo 'x|DE|ipv4|here|256||allocated'; done >> notes.txt
 printf 'epoch 1700000000\nstats x notes.txt\nreport\n' > bad
 { "$program" build bad 2> told; echo $? > ended; } | head -c 5 > taken
 [ "$(cat ended taken)" = $'5\nstats' ] && told 'Broken pipe' \

@@ -91,7 +91,6 @@ LONGEST_NAME 255 job_lines/src/names.rt
 LONGEST_WORD 64 job_lines/src/names.rt
 MOST_PIECES 64 job_lines/src/form.rt
 LONGEST_FILE 1073741824 file_lookup/src/lookup.rt
-ROOM 1024 geofeed/src/sink.rt
 LARGEST_KEPT 33488896 geofeed/src/main.rt
 AMPLE 2147483648 geofeed/src/main.rt'
 

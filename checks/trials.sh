@@ -10,7 +10,7 @@ in_memory=300000
 . checks/with_program.bash
 set -f
 shopt -s nullglob dotglob
-trials=0 failing=0 runs=0 title='' good=yes into='' wanted=''
+trials=0 failing=0 runs=0 title='' good=yes into='' wanted='' told='' warned=''
 
 # broken WHAT: the table cannot be read.
 broken() {
@@ -30,9 +30,40 @@ content() {
     ! IFS= read -r -d '' found < "$1" || found="bytes of which one is 0, behind: $found"
 }
 
-# run STATUS WORDS..: the program ends so, and says nothing or one line.
+# heard: what is on standard error, in `told` but for the warnings, which stand last, in `warned`.
+heard() {
+    local line
+    content "$work/told"
+    told='' warned=''
+    while IFS= read -r line; do
+        if [[ "$line" == 'warning: '* ]]; then
+            warned+=$line$'\n'
+        else
+            told+=$line$'\n'
+        fi
+    done <<< "${found%$'\n'}"
+    [ -n "$found" ] || told=
+    [ "$found" = "$told$warned" ] \
+        || differs "what '${words[*]}' says" 'lines, the warnings last' "$found"
+}
+
+# unwarned: no warning is left that the table does not have.
+unwarned() {
+    [ -z "$warned" ] || differs "what '${words[*]}' warns of" 'nothing else' "$warned"
+    warned=
+}
+
+# warns LINE: the next warning of the last run.
+warns() {
+    local rest=${warned#"warning: $1"$'\n'}
+    [ "$rest" != "$warned" ] || differs "what '${words[*]}' warns of" "$1" "$warned"
+    warned=$rest
+}
+
+# run STATUS WORDS..: the program ends so, and says nothing or one line, but for warnings.
 run() {
     local status=$1 at ended
+    unwarned
     words=("${@:2}")
     for at in "${!words[@]}"; do
         if [ "${words[at]}" = "''" ]; then
@@ -44,8 +75,7 @@ run() {
     runs=$((runs + 1))
     "$program" "${words[@]}" < /dev/null > "$work/printed" 2> "$work/told"
     ended=$?
-    content "$work/told"
-    told=$found
+    heard
     [ "$ended" = "$status" ] \
         || differs "the status of '${words[*]}'" "$status" "$ended, saying '$told'"
     if [ "$status" = 0 ]; then
@@ -136,6 +166,7 @@ makes() {
 ends() {
     over
     [ -n "$title" ] || return
+    unwarned
     [ "$runs" -gt 0 ] || broken "'$title' runs nothing"
     [ -n "$good" ] || failing=$((failing + 1))
     cd "$work" && rm -rf "${work:?}/$trials"
@@ -177,6 +208,7 @@ follows() {
                 differs "what '${words[*]}' says" "$rest" "$told"
             fi
             ;;
+        'warns '?*) warns "$rest" ;;
         left) left '' ;;
         'left '?*) left "$rest" ;;
         'bytes '?*) into="bytes $rest" ;;

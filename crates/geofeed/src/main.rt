@@ -18,7 +18,7 @@ use crate::commit::COMMIT;
 use crate::folder::DirFolder;
 use crate::output::Output;
 use crate::sink::StdSink;
-use crate::told::{OUT_OF_MEMORY, say, tell};
+use crate::told::{OUT_OF_MEMORY, say, tell, warn};
 use geo_outside::{OpenGate, Sink, Steps};
 use geofeed_cmd::{Status, run_told};
 use job_run::{Journal, Stop};
@@ -131,7 +131,7 @@ fn answer<R: Threads + Sync + Files<File = File> + Print + Eprint + AllocGlobal,
 {
     let mut out = StdSink::new(Output::new(rt));
     let mut folder = DirFolder::new(rt);
-    let mut journal = Journal::new();
+    let mut journal = Journal::new(rt.alloc());
     let status = match asked_in(words) {
         Some(Asked::Help) => printed(&mut out, HELP, &mut journal),
         Some(Asked::Version) => version(&mut out, &mut journal),
@@ -149,15 +149,15 @@ fn answer<R: Threads + Sync + Files<File = File> + Print + Eprint + AllocGlobal,
             )
         }
     };
-    if status == Status::Done {
-        return status;
+    if status != Status::Done {
+        let system = match journal.why {
+            Some(Stop::ReadFailed | Stop::PutFailed) => folder.why(),
+            Some(Stop::SinkFailed) => out.why(),
+            _ => None,
+        };
+        tell(rt, &journal, system);
     }
-    let system = match journal.why {
-        Some(Stop::ReadFailed | Stop::PutFailed) => folder.why(),
-        Some(Stop::SinkFailed) => out.why(),
-        _ => None,
-    };
-    tell(rt, &journal, system);
+    warn(rt, &journal, &mut folder);
     status
 }
 

@@ -132,7 +132,7 @@ pub fn run<R: Threads + Sync, F: Folder, O: Sink, G: Gate, L: Ledger>(
         → result ≡ Status.WriteFault
         → Rose (O.faults out.old) (O.faults out.new) }
 {
-    let mut journal = Journal::new();
+    let mut journal = Journal::new(alloc);
     run_told(rt, alloc, words, folder, out, gate, steps, &mut journal)
 }
 

@@ -87,6 +87,7 @@ pub(crate) fn sources_of<R: Threads + Sync, F: Folder, O: Sink, G: Gate, L: Ledg
         folder,
         out,
         steps,
+        journal,
     ) {
         Ok(()) => Ok(session),
         Err(stop) => {

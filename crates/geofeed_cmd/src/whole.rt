@@ -65,6 +65,7 @@ pub(crate) fn do_whole<R: Threads + Sync, F: Folder, O: Sink, G: Gate, L: Ledger
         folder,
         out,
         steps,
+        journal,
     ) {
         Ok(()) => Status::Done,
         Err(stop) => stop_in(forks.alloc, list, stop, out, journal),

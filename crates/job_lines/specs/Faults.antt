@@ -15,6 +15,7 @@ use Rattle.feed_refs.specs.declared.feed_url.UrlRead.TheVariants.{Refused, Other
 use Rattle.job_lines.specs.Forms.{pieces_form}
 use Rattle.job_lines.specs.Names.{is_name_byte, is_slot_byte, is_visible}
 use Rattle.job_lines.specs.Commands.{is_plain, lines_in}
+use Rattle.job_lines.specs.declared.names.TheConstants.{LONGEST_NAME, LONGEST_WORD}
 use Rattle.job_lines.specs.declared.word_fault.WordFault.{WordFault}
 use Rattle.job_lines.specs.declared.word_fault.WordFault.TheVariants as faults
 
@@ -30,8 +31,8 @@ has_part part word = list_any (λ p. same_text p part) (pieces 47 word)
 -- what is true of a word where this is said of it
 abbrev pub IsSo : WordFault → List ℕ → Type 0
 IsSo faults.Empty word = is_empty word ≡ true
-IsSo faults.LongName word = 255 < length word
-IsSo faults.LongWord word = 64 < length word
+IsSo faults.LongName word = LONGEST_NAME < length word
+IsSo faults.LongWord word = LONGEST_WORD < length word
 IsSo faults.Utf8 word = is_utf8 word ≡ false
 IsSo faults.Blank word = list_all is_name_byte word ≡ false
 IsSo faults.Absolute word = is_absolute word ≡ true

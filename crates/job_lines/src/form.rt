@@ -16,6 +16,9 @@ use crate::words::next_word;
 use geo_addr::{Text, decimal};
 use std::alloc::Global;
 
+/// The most pieces that a job may ask for.
+pub(crate) const MOST_PIECES: u128 = 64;
+
 /// What a line of a job that is not passed over says.
 #[derive(Debug, Drop)]
 pub(crate) enum Form {
@@ -136,7 +139,7 @@ fn pieces_form(digits: &[u8]) -> Result<Form, WordFault>
     }
     match decimal(digits, 1, 2) {
         Some(number) => {
-            if number < 1 || number > 64 {
+            if number < 1 || number > MOST_PIECES {
                 return Err(WordFault::Pieces);
             }
             Ok(Form::Pieces(number as u32))

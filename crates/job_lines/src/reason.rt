@@ -26,7 +26,7 @@ pub struct Reason {
     pub fault: LineFault,
     /// The line's first word.
     pub first: Excerpt,
-    /// The word before the one of which the fault is said.
+    /// The word before the one of which the fault is said. It is empty where that is the first.
     pub before: Excerpt,
     /// The word of which the fault is said. It is empty where that word is missing.
     pub word: Excerpt,
@@ -77,7 +77,7 @@ impl Reason {
     /// Why the words of the command line are no command.
     pub fn of_words(alloc: Global, words: &[String], fault: LineFault) -> Result<Reason, Memory> {
         let at = fault.at() as usize;
-        let before = word_of(words, at.saturating_sub(1));
+        let before = if at == 0 { "" } else { word_of(words, at - 1) };
         Reason::of_word(alloc, fault, word_of(words, 0), before, word_of(words, at))
     }
 
@@ -105,7 +105,7 @@ impl Reason {
             line: line.number,
             fault,
             first: Excerpt::of(alloc, nth_word(line.text, 0))?,
-            before: Excerpt::of(alloc, nth_word(line.text, at.saturating_sub(1)))?,
+            before: Excerpt::of(alloc, word_before(line.text, at))?,
             word: Excerpt::of(alloc, nth_word(line.text, at))?,
         })
     }
@@ -116,6 +116,14 @@ fn word_of(words: &[String], at: usize) -> &str {
         Some(word) => word.as_str(),
         None => "",
     }
+}
+
+// The word before the one of this number in a line, or nothing.
+fn word_before(line: &[u8], at: u8) -> &[u8] {
+    if at == 0 {
+        return &[];
+    }
+    nth_word(line, at - 1)
 }
 
 // The word of this number in a line, or nothing.

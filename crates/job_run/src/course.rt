@@ -14,6 +14,7 @@ ghost use Rattle.job_run.specs.World.{World};
 use crate::acts::do_step;
 use crate::apart::Apart;
 use crate::feeds::set_together;
+use crate::journal::Journal;
 use crate::scope::Scope;
 use crate::stop::{Cause, Stop};
 use fan_work::Forks;
@@ -38,7 +39,8 @@ pub struct StepStop {
 /// that set and drop sources and keep and take what is in force. Neighbours that set feeds are
 /// done together, up to 16 of them.
 ///
-/// Sources are read from the files that stand apart, and from the folder where there are none.
+/// Sources are read from the files that stand apart, and from the folder where there are none. What
+/// is noticed on the way is written into the journal.
 pub fn do_steps<R: Threads + Sync, F: Folder, O: Sink, G: Gate, L: Ledger>(
     forks: &Forks<R, G>,
     apart: &[Apart],
@@ -48,6 +50,7 @@ pub fn do_steps<R: Threads + Sync, F: Folder, O: Sink, G: Gate, L: Ledger>(
     folder: &mut F,
     out: &mut O,
     steps: &mut Steps<L>,
+    journal: &mut Journal,
 ) -> Result<(), StepStop>
     ensures done { (start : World) → IsIn apart.now (F.told folder.old) session.old start
         → start.text ≡ []
@@ -94,7 +97,10 @@ pub fn do_steps<R: Threads + Sync, F: Folder, O: Sink, G: Gate, L: Ledger>(
     let mut at = 0;
     while at < job.len() {
         match do_first(forks, apart, scope, &job[at..], session, folder, out, steps) {
-            Ok(count) => at += count,
+            Ok(count) => {
+                journal.notices.of_done(scope, job, at, count, session);
+                at += count;
+            }
             Err(stop) => {
                 return Err(StepStop {
                     at: at + stop.at,

@@ -1,4 +1,5 @@
 //! What a command tells of itself, for who has to mend what stopped it.
+use crate::notices::Notices;
 use crate::stop::Stop;
 use geo_addr::Text;
 use job_lines::{Act, Gone, Reason, Step};
@@ -45,11 +46,13 @@ pub struct Journal {
     /// The URLs of feeds in force next below and next above one that is not.
     pub below: Option<Text>,
     pub above: Option<Text>,
+    /// What was noticed on the way.
+    pub notices: Notices,
 }
 
 impl Journal {
     /// Before the command.
-    pub fn new() -> Journal {
+    pub fn new(alloc: Global) -> Journal {
         Journal {
             why: None,
             job: None,
@@ -58,6 +61,7 @@ impl Journal {
             reason: None,
             below: None,
             above: None,
+            notices: Notices::new(alloc),
         }
     }
 
@@ -98,7 +102,7 @@ impl Journal {
     }
 }
 
-fn kind_of(act: &Act) -> ActKind {
+pub(crate) fn kind_of(act: &Act) -> ActKind {
     match act {
         Act::Rpsl { .. } => ActKind::Rpsl,
         Act::Stats { .. } => ActKind::Stats,

@@ -4,8 +4,8 @@ use Rattle.std.proofs.Common.{ap, ◌∙◌, arith, append_assoc}
 use Rattle.std.specs.List.Sorted.{IsPermutation, IsSortedBy}
 use Rattle.std.specs.Ordering.{is_le, is_lt}
 use Rattle.authority.proofs.NoteOrder.{note_exact, note_total}
-use Rattle.authority.proofs.Ordered.{alike_append, order_alike, sorted_in_order}
-use Rattle.authority.specs.Members.{weight}
+use Rattle.authority.proofs.Ordered.{order_alike, sorted_in_order}
+use Rattle.authority.specs.Members.{HaveAlike, weight}
 use Rattle.geo_terms.specs.NoteText.{note_cmp}
 use Rattle.geo_terms.specs.Report.{alias_notes, in_order, joint_notes, put_in, reader_notes, report}
 use Rattle.geo_terms.specs.Sources.{InForce}
@@ -27,20 +27,35 @@ order_weight cmp f [] = refl
 order_weight cmp f (x ∷ xs) =
     put_weight cmp f x (in_order cmp xs) ∙ ap (λ n. f x + n) (order_weight cmp f xs)
 
+weight_append : {X : Type 0} (f : X → ℕ) (xs ys : List X)
+    → weight f (xs ++ ys) ≡ weight f xs + weight f ys
+weight_append f [] ys = omega arith
+weight_append f (x ∷ xs) ys = omega (arith, weight_append f xs ys)
+
+-- what comes first may as well come second, in another order
+moved_back : {X : Type 0} (cmp : X → X → Ordering) (xs ys zs : List X)
+    → HaveAlike (ys ++ (xs ++ zs)) (in_order cmp xs ++ (ys ++ zs))
+moved_back cmp xs ys zs f =
+    omega (
+      arith,
+      order_weight cmp f xs,
+      weight_append f (in_order cmp xs) (ys ++ zs),
+      weight_append f ys zs,
+      weight_append f ys (xs ++ zs),
+      weight_append f xs zs,
+    )
+
 -- all notes, sorted
 pub report_is_sorted : (s : InForce) (notes sorted : List Note)
-    → notes ≡ (reader_notes s ++ in_order note_cmp (joint_notes s)) ++ alias_notes s
+    → notes ≡ (in_order note_cmp (joint_notes s) ++ reader_notes s) ++ alias_notes s
     → IsPermutation notes sorted
     → IsSortedBy (λ x y. is_lt (note_cmp x y)) sorted → sorted ≡ report s
 unfolding report
 report_is_sorted s notes sorted are same up =
     sorted_in_order note_cmp note_total note_exact notes sorted same up
     ∙ ap (in_order note_cmp)
-    (are ∙ append_assoc (reader_notes s) (in_order note_cmp (joint_notes s)) (alias_notes s))
+    (are ∙ append_assoc (in_order note_cmp (joint_notes s)) (reader_notes s) (alias_notes s))
     ∙ order_alike note_cmp note_total note_exact
     (reader_notes s ++ (joint_notes s ++ alias_notes s))
-    (reader_notes s ++ (in_order note_cmp (joint_notes s) ++ alias_notes s))
-    (alike_append (reader_notes s) (reader_notes s) (joint_notes s ++ alias_notes s)
-    (in_order note_cmp (joint_notes s) ++ alias_notes s) (λ f. refl)
-    (alike_append (joint_notes s) (in_order note_cmp (joint_notes s)) (alias_notes s)
-    (alias_notes s) (λ f. order_weight note_cmp f (joint_notes s)) (λ f. refl)))
+    (in_order note_cmp (joint_notes s) ++ (reader_notes s ++ alias_notes s))
+    (moved_back note_cmp (joint_notes s) (reader_notes s) (alias_notes s))

@@ -1,5 +1,6 @@
 -- Statistics files that are shared, in the order of their slots, and the index of their rows.
-use Rattle.std.proofs.Common.{◌≡◌, ◌∙◌, ℕ, zero, suc, ◌<◌, List, [], ◌∷◌, map, length, get_or, Option}
+use Rattle.std.proofs.Common.{◌≡◌, ◌∙◌, ℕ, zero, suc, ◌<◌, List, []}
+use Rattle.std.proofs.Common.{◌∷◌, map, length, get_or, Option}
 use Rattle.std.proofs.Common.{Some, None, refl, ap, sym, subst, arith}
 use Rattle.std.specs.Arc.{arc_value}
 use Rattle.std.specs.List.{find}
@@ -10,18 +11,18 @@ use Rattle.geo_terms.specs.Precedence.{text_cmp}
 use Rattle.geo_terms.specs.SlotOrder.{AreInOrder, placed, removed}
 use Rattle.geo_terms.specs.SourceForm.{StatsParts}
 use Rattle.authority.proofs.HeldLemmas.{find_map, placed_map, removed_map}
-use Rattle.authority.specs.declared.kind_index.KindIndex.{KindIndex}
 use Rattle.precedence.specs.Delegations.{AreIndexed, IsIndex, slot_of}
+use Rattle.precedence.specs.declared.delegations.Delegations.{Delegations}
 
 module _ {Z : Type 0} where
   -- what holds of an index that is made holds of the same index once more
-  pub made_same : (ts : List StatsParts) (old new : Option (Arc KindIndex Z))
+  pub made_same : (ts : List StatsParts) (old new : Option (Arc Delegations Z))
       → option_map arc_value new ≡ option_map arc_value old → AreIndexed ts old → AreIndexed ts new
   made_same ts old None e h = tt
   made_same ts None (Some made) e h = absurd (let f : Some (arc_value made) ≡ None = e in cc)
   made_same ts (Some old) (Some made) e h = subst (IsIndex ts) (sym (some_same e)) h
     where
-      some_same : {x y : KindIndex} → Some x ≡ Some y → x ≡ y
+      some_same : {x y : Delegations} → Some x ≡ Some y → x ≡ y
       some_same f = cc
 
   pub files_placed : (t : Arc StatsParts Z) (ts new : List (Arc StatsParts Z)) (x : StatsParts)

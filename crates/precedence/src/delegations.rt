@@ -1,10 +1,12 @@
 //! The delegations of several files, file by file.
-ghost use Rattle.std.specs.Prelude.{◌≡◌, IfOk, flat_map, map, slice_get};
+ghost use Rattle.std.specs.Prelude.{◌≡◌, ◌≤◌, ◌<◌, IfOk, flat_map, length, map};
+ghost use Rattle.std.specs.Prelude.{option_map, slice_get};
 ghost use Rattle.std.specs.Arc.{arc_value};
+ghost use Rattle.std.specs.List.Sorted.{IsNonDecreasing, IsPartitionPoint};
 ghost use Rattle.std.specs.Option.{option_copied};
 ghost use Rattle.geo_terms.specs.First.{first_at};
 ghost use Rattle.geo_terms.specs.Precedence.{delegation_before};
-ghost use Rattle.precedence.specs.Delegations.{IsIndex};
+ghost use Rattle.precedence.specs.Delegations.{IsIndex, starts_from};
 
 use authority::KindIndex;
 use geo_addr::{Addr, Memory};
@@ -13,36 +15,60 @@ use source_changes::push_borrows;
 use std::alloc::Global;
 use std::sync::Arc;
 
-/// The index of the delegations of several files, to be shared.
-pub fn indexed(alloc: Global, files: &[Arc<Stats>]) -> Result<Arc<KindIndex>, Memory>
-    ensures { IfOk result (λ index. IsIndex (map arc_value files.now) (arc_value index)) }
-{
-    let rows = rows_of(alloc, files)?;
-    let index = KindIndex::of_borrowed(alloc, rows.as_slice())?;
-    let index = Arc::new(alloc, index)?;
-    Ok(index)
+/// The index of the delegations of several files, and where the rows of each file start among those
+/// of all.
+#[derive(Debug, Drop)]
+pub struct Delegations {
+    pub index: KindIndex,
+    pub starts: Vec<usize>,
 }
 
-/// The delegation at an index among those of all files.
-pub fn delegation_at<'a>(files: &'a [Arc<Stats>], index: usize) -> Option<&'a Delegation>
+/// The index of the delegations of several files, to be shared.
+pub fn indexed(alloc: Global, files: &[Arc<Stats>]) -> Result<Arc<Delegations>, Memory>
+    ensures { IfOk result (λ made. IsIndex (map arc_value files.now) (arc_value made)) }
+{
+    let (rows, starts) = gathered(alloc, files)?;
+    let index = KindIndex::of_borrowed(alloc, rows.as_slice())?;
+    let made = Arc::new(alloc, Delegations { index, starts })?;
+    Ok(made)
+}
+
+/// The delegation at an index among those of all files, whose rows start at these indexes.
+pub fn delegation_at<'a>(
+    files: &'a [Arc<Stats>],
+    starts: &[usize],
+    index: usize,
+) -> Option<&'a Delegation>
+    requires { starts.now ≡ starts_from 0 (map arc_value files.now) }
     ensures { option_copied result
         ≡ slice_get (flat_map (λ t. t.rows) (map arc_value files.entry.now)) index }
 {
-    let mut left = index;
-    for file in files {
-        let rows = file.rows.as_slice();
-        if left < rows.len() {
-            return row_at(rows, left);
-        }
-        left -= rows.len();
-    }
-    None
+    let at = begun(starts, index).checked_sub(1)?;
+    let file = file_at(files, at)?;
+    row_at(file, index - starts[at])
 }
 
-fn row_at(rows: &[Delegation], index: usize) -> Option<&Delegation>
-    ensures { option_copied result ≡ slice_get rows.entry.now index }
+// How many of the files that start at these indexes start at or before an index.
+fn begun(starts: &[usize], index: usize) -> usize
+    requires { IsNonDecreasing starts.now }
+    ensures point { IsPartitionPoint (λ start. start ≤ index) (λ start. index < start)
+        starts.now result }
+    ensures bound { result ≤ length starts.now }
 {
-    rows.get(index)
+    starts.partition_point(|start| *start <= index)
+}
+
+fn file_at(files: &[Arc<Stats>], at: usize) -> Option<&Stats>
+    ensures { option_copied result ≡ option_map arc_value (slice_get files.entry.now at) }
+{
+    let file = files.get(at)?;
+    Some(file)
+}
+
+fn row_at(file: &Stats, index: usize) -> Option<&Delegation>
+    ensures { option_copied result ≡ slice_get file.entry.now.rows index }
+{
+    file.rows.as_slice().get(index)
 }
 
 /// The first delegation of these files that holds an address: each one is looked at.
@@ -57,14 +83,21 @@ pub fn first_of_all(files: &[Arc<Stats>], at: Addr) -> Option<&Delegation>
     first
 }
 
-// The delegations of all files, borrowed.
-fn rows_of<'a>(alloc: Global, files: &'a [Arc<Stats>]) -> Result<Vec<&'a Delegation>, Memory>
-    ensures { IfOk result (λ rows. map (λ d. d.now) rows.items
+// The delegations of all files, borrowed, and where those of each file start.
+fn gathered<'a>(
+    alloc: Global,
+    files: &'a [Arc<Stats>],
+) -> Result<(Vec<&'a Delegation>, Vec<usize>), Memory>
+    ensures rows { IfOk result (λ all. map (λ d. d.now) all.0.items
         ≡ flat_map (λ t. t.rows) (map arc_value files.entry.now)) }
+    ensures starts { IfOk result
+        (λ all. all.1.items ≡ starts_from 0 (map arc_value files.entry.now)) }
 {
     let mut rows = Vec::new(alloc);
+    let mut starts = Vec::with_capacity(alloc, files.len())?;
     for file in files {
+        starts.push(rows.len())?;
         push_borrows(&mut rows, file.rows.as_slice())?;
     }
-    Ok(rows)
+    Ok((rows, starts))
 }

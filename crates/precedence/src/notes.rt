@@ -13,6 +13,7 @@ use std::sync::Arc;
 pub fn push_notes(notes: &mut Vec<Note>, origin: &Origin, more: &[LineNote]) -> Result<(), Memory>
     ensures { OnOk result (notes.new.items ≡ notes.old.items ++ named origin.now more.now) }
 {
+    notes.reserve(more.len())?;
     for note in more {
         let origin = same_origin(origin)?;
         notes.push(Note {

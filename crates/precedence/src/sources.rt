@@ -353,12 +353,13 @@ impl Sources {
         ensures { reasons_of result ≡ reasons_at self.now at.0 }
     {
         let home = home(at);
+        let mut near = Near::default();
         Why {
-            over: self.override_at(home),
+            over: self.override_near(home, &mut near),
             speaker: self.speaker_at(home),
-            entry: self.entry_at(home),
-            delegation: self.delegation_at(home),
-            place: self.spoken_at(home),
+            entry: self.entry_near(home, &mut near),
+            delegation: self.delegation_near(home, &mut near),
+            place: self.spoken_near(home, &mut near),
         }
     }
 
@@ -382,10 +383,8 @@ impl Sources {
     pub fn report(&self) -> Result<Vec<Note>, Memory>
         ensures { IfOk result (λ notes. notes.items ≡ report self.now) }
     {
-        let mut notes = Vec::new(self.alloc);
+        let mut notes = self.authority.notes()?;
         self.push_reader_notes(&mut notes)?;
-        let mut joint = self.authority.notes()?;
-        notes.append(&mut joint)?;
         self.push_alias_notes(&mut notes)?;
         notes.sort_unstable_by(|x, y| x.order(y));
         Ok(notes)
@@ -499,11 +498,11 @@ impl Sources {
         ensures ascending { IfOk result (λ points. IsStrictlyIncreasing points.items) }
     {
         let speakers = self.authority.speakers()?;
-        let delegations = self.statistics.index()?;
+        let delegations = self.statistics.delegations()?;
         let mut points = Vec::with_capacity(self.alloc, self.room_in(bounds))?;
         push_inside(&mut points, speakers.cuts.as_slice(), bounds)?;
         push_feeds_inside(&mut points, self.authority.feeds(), bounds)?;
-        push_inside(&mut points, delegations.cuts.as_slice(), bounds)?;
+        push_inside(&mut points, delegations.index.cuts.as_slice(), bounds)?;
         push_inside(&mut points, self.overriding.cuts(), bounds)?;
         // A merge: each list that was appended ascends.
         points.sort()?;

@@ -2,8 +2,8 @@
 ghost use Rattle.std.specs.Prelude.{◌≡◌, option_map, IfOk};
 ghost use Rattle.std.specs.Arc.{arc_value};
 
-use crate::delegations::{delegation_at, first_of_all, indexed};
-use authority::{DropFault, KindIndex};
+use crate::delegations::{Delegations, delegation_at, first_of_all, indexed};
+use authority::DropFault;
 use geo_addr::{Addr, Memory};
 use geo_terms::{Delegation, Stats};
 use source_changes::shelf;
@@ -19,7 +19,7 @@ pub struct Statistics {
     alloc: Global,
     files: Vec<Arc<Stats>>,
     // None where a file was set or dropped since it was made.
-    index: Option<Arc<KindIndex>>,
+    delegations: Option<Arc<Delegations>>,
 }
 
 impl Model for Statistics {
@@ -32,7 +32,7 @@ impl Model for Statistics {
 
     ghost view = { λ s. map arc_value s.files.items };
 
-    ghost invariant = { λ s. AreFiles s.files.items s.index };
+    ghost invariant = { λ s. AreFiles s.files.items s.delegations };
 }
 
 impl Statistics {
@@ -54,7 +54,7 @@ impl Statistics {
         Statistics {
             alloc,
             files: Vec::new(alloc),
-            index: None,
+            delegations: None,
         }
     }
 
@@ -68,7 +68,7 @@ impl Statistics {
     {
         let stats = Arc::new(self.alloc, stats)?;
         let old = shelf::put(&mut self.files, stats)?;
-        self.index = None;
+        self.delegations = None;
         Ok(old)
     }
 
@@ -83,7 +83,7 @@ impl Statistics {
     {
         match shelf::take(&mut self.files, slot) {
             Some(old) => {
-                self.index = None;
+                self.delegations = None;
                 Ok(old)
             }
             None => Err(DropFault::NotThere),
@@ -94,17 +94,17 @@ impl Statistics {
     pub fn make_ready(&mut self) -> Result<(), Memory>
         ensures { self.new ≡ self.old }
     {
-        let index = self.index()?;
-        self.index = Some(index);
+        let delegations = self.delegations()?;
+        self.delegations = Some(delegations);
         Ok(())
     }
 
     /// The index of all delegations, file by file: the one that is kept, or a new one.
-    pub fn index(&self) -> Result<Arc<KindIndex>, Memory>
-        ensures { IfOk result (λ index. IsIndex self.now (arc_value index)) }
+    pub fn delegations(&self) -> Result<Arc<Delegations>, Memory>
+        ensures { IfOk result (λ made. IsIndex self.now (arc_value made)) }
     {
-        match shared(&self.index)? {
-            Some(index) => Ok(index),
+        match shared(&self.delegations)? {
+            Some(made) => Ok(made),
             None => indexed(self.alloc, self.files.as_slice()),
         }
     }
@@ -127,8 +127,8 @@ impl Statistics {
 
     /// How many cut points are kept, or how many delegations there are.
     pub fn count(&self) -> usize {
-        if let Some(index) = &self.index {
-            return index.cuts.len();
+        if let Some(made) = &self.delegations {
+            return made.index.cuts.len();
         }
         let mut count: usize = 0;
         for file in self.files.as_slice() {
@@ -152,11 +152,11 @@ impl Statistics {
         ensures { option_copied result
             ≡ first_at delegation_before (λ d. d.range) (flat_map (λ t. t.rows) self.now) at.0 }
     {
-        let Some(index) = &self.index else {
+        let Some(made) = &self.delegations else {
             return first_of_all(self.files.as_slice(), at);
         };
-        let offset = index.firsts.index_near(at, near)?;
-        delegation_at(self.files.as_slice(), offset)
+        let index = made.index.firsts.index_near(at, near)?;
+        delegation_at(self.files.as_slice(), made.starts.as_slice(), index)
     }
 
     /// The same files once more, shared.
@@ -166,19 +166,19 @@ impl Statistics {
         Ok(Statistics {
             alloc: self.alloc,
             files: self.files.clone()?,
-            index: shared(&self.index)?,
+            delegations: shared(&self.delegations)?,
         })
     }
 }
 
 // The index once more, shared.
-fn shared(index: &Option<Arc<KindIndex>>) -> Result<Option<Arc<KindIndex>>, Memory>
-    ensures { IfOk result (λ same. option_map arc_value same ≡ option_map arc_value index.now) }
+fn shared(made: &Option<Arc<Delegations>>) -> Result<Option<Arc<Delegations>>, Memory>
+    ensures { IfOk result (λ same. option_map arc_value same ≡ option_map arc_value made.now) }
 {
-    match index {
-        Some(index) => {
-            let index = Arc::try_clone(index)?;
-            Ok(Some(index))
+    match made {
+        Some(made) => {
+            let made = Arc::try_clone(made)?;
+            Ok(Some(made))
         }
         None => Ok(None),
     }

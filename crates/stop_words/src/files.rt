@@ -59,8 +59,10 @@ pub(crate) fn unwritten_words(
     let name = name_in(journal);
     let shown = quoted(alloc, name)?;
     let shown = shown.as_str();
-    if let (true, Some((folder, _))) = (is_kind(system, ErrorKind::NotFound), name.rsplit_once('/'))
-    {
+    if let (true, Some((folder, _))) = (
+        is_kind(system, ErrorKind::NotFound),
+        name.rsplit_once('/'),
+    ) {
         let folder = quoted(alloc, folder)?;
         return Ok(format!(in alloc;
             "the file {shown} could not be written: there is no folder {}",

@@ -5,11 +5,14 @@
 mod causes;
 mod files;
 mod hints;
+mod looks;
 mod near;
 mod refused;
 mod shown;
 mod steps;
 mod stop;
 mod usage;
+mod warned;
 
 pub use stop::{System, stop_text};
+pub use warned::{more_text, warning_text};

@@ -1,4 +1,5 @@
-//! Words of a stranger as they are shown: nothing in them acts on a terminal, and none is endless.
+//! Words of a stranger as they are shown: nothing in them acts on a terminal, and none is endless;
+//! and numbers as people write them.
 ghost use Rattle.std.specs.Prelude.{◌≡◌, false};
 ghost use Rattle.stop_words.specs.Letters.{acts};
 
@@ -65,4 +66,18 @@ fn acts(letter: char) -> bool
         '\u{2066}'..='\u{2069}' => true,
         _ => false,
     }
+}
+
+/// The number with a comma before each three digits.
+pub(crate) fn grouped(alloc: Global, number: u64) -> Result<String, Memory> {
+    let digits = format!(in alloc; "{number}")?;
+    let len = digits.len();
+    let mut text = String::new(alloc);
+    for (at, digit) in digits.chars().enumerate() {
+        if at > 0 && at % 3 == len % 3 {
+            text.push(',')?;
+        }
+        text.push(digit)?;
+    }
+    Ok(text)
 }

@@ -1,8 +1,13 @@
 //! Steps that could not be done with what there is.
 use crate::files::name_in;
-use crate::shown::quoted;
+use crate::shown::{grouped, quoted};
+use feed_csv::{LONGEST_FEED, MOST_ENTRIES};
+use feed_refs::{LONGEST_DUMP, MOST_REFERENCES};
+use file_lookup::LONGEST_FILE;
 use geo_addr::Memory;
 use job_run::{ActKind, Journal};
+use nro_stats::{LONGEST_STATS, MOST_DELEGATIONS};
+use override_rows::{LONGEST_OVERRIDES, MOST_OVERRIDES};
 use std::alloc::Global;
 
 /// A source that was to be dropped and is not set.
@@ -25,26 +30,41 @@ pub(crate) fn unmarked_words(alloc: Global, journal: &Journal) -> Result<String,
 
 /// A file that is over its bytes.
 pub(crate) fn long_words(alloc: Global, journal: &Journal) -> Result<String, Memory> {
-    let most = match kind_of(journal) {
-        Some(ActKind::Rpsl) => "1,099,511,627,776",
-        Some(ActKind::Stats) => "268,435,456",
-        Some(_) => "67,108,864",
-        None => "1,073,741,824",
-    };
+    let most = grouped(alloc, most_bytes(journal))?;
     let name = quoted(alloc, name_in(journal))?;
-    Ok(format!(in alloc; "the file {} has more than {most} bytes", name.as_str())?)
+    Ok(format!(in alloc;
+        "the file {} has more than {} bytes",
+        name.as_str(),
+        most.as_str()
+    )?)
+}
+
+// The limit of bytes of what was read: for a step, or by a command that does no job.
+fn most_bytes(journal: &Journal) -> u64 {
+    match kind_of(journal) {
+        Some(ActKind::Rpsl) => LONGEST_DUMP as u64,
+        Some(ActKind::Stats) => LONGEST_STATS as u64,
+        Some(ActKind::Feed) => LONGEST_FEED as u64,
+        Some(_) => LONGEST_OVERRIDES as u64,
+        None => LONGEST_FILE,
+    }
 }
 
 /// A file that is over its statements.
 pub(crate) fn many_words(alloc: Global, journal: &Journal) -> Result<String, Memory> {
-    let what = match kind_of(journal) {
-        Some(ActKind::Rpsl) => "references",
-        Some(ActKind::Stats) => "delegations",
-        Some(ActKind::Feed) => "prefixes",
-        _ => "overrides",
+    let (most, what) = match kind_of(journal) {
+        Some(ActKind::Rpsl) => (MOST_REFERENCES, "references"),
+        Some(ActKind::Stats) => (MOST_DELEGATIONS, "delegations"),
+        Some(ActKind::Feed) => (MOST_ENTRIES, "prefixes"),
+        _ => (MOST_OVERRIDES, "overrides"),
     };
+    let most = grouped(alloc, most as u64)?;
     let name = quoted(alloc, name_in(journal))?;
-    Ok(format!(in alloc; "the file {} has more than 2,097,152 {what}", name.as_str())?)
+    Ok(format!(in alloc;
+        "the file {} has more than {} {what}",
+        name.as_str(),
+        most.as_str()
+    )?)
 }
 
 /// What is too large for the format.

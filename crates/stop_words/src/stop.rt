@@ -3,15 +3,15 @@ use crate::causes::cause_words;
 pub use crate::files::System;
 use crate::files::{missing_words, name_in, unprinted_words, unread_words, unwritten_words};
 use crate::refused::{command_words, line_words, said};
-use crate::shown::{bare, quoted};
+use crate::shown::{bare, grouped, quoted};
 use crate::steps::{gone_words, large_words, long_words, many_words, unmarked_words};
 use file_lookup::LookupFault;
 use geo_addr::{Memory, Text};
-use job_lines::JobFault;
+use job_lines::{JobFault, LONGEST_JOB};
 use job_run::{Cause, Journal, Stop};
 use std::alloc::Global;
 
-/// One line for the person who ran the program: what journal the command, in which line of the job,
+/// One line for the person who ran the program: what stopped the command, in which line of the job,
 /// and what to do.
 pub fn stop_text(alloc: Global, journal: &Journal, system: Option<System>) -> Result<Text, Memory> {
     let what = told(alloc, journal, system)?;
@@ -57,7 +57,10 @@ fn job_words(alloc: Global, journal: &Journal, fault: JobFault) -> Result<String
         return line_words(alloc, reason);
     }
     let what = match fault {
-        JobFault::TooLong => "the job has more than 1,048,576 bytes",
+        JobFault::TooLong => {
+            let most = grouped(alloc, LONGEST_JOB as u64)?;
+            return Ok(format!(in alloc; "the job has more than {} bytes", most.as_str())?);
+        }
         JobFault::Utf8 => "the job is not UTF-8",
         JobFault::Line(_) => "the line fits no form, or stands where it may not",
         JobFault::Epoch =>
@@ -97,7 +100,8 @@ fn near_words(alloc: Global, journal: &Journal) -> Result<String, Memory> {
 fn damaged_words(alloc: Global, journal: &Journal, fault: LookupFault) -> Result<String, Memory> {
     let name = quoted(alloc, name_in(journal))?;
     let name = name.as_str();
-    let cause = cause_words(fault);
+    let cause = cause_words(alloc, fault)?;
+    let cause = cause.as_str();
     match fault {
         LookupFault::Value { at, .. } => Ok(format!(in alloc;
             "the file {name} {cause}, at byte {at} of the data section"

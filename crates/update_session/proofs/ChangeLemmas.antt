@@ -1,5 +1,5 @@
 -- The grounds that a set call finds by comparing statements are those of its change.
-use Rattle.std.proofs.Common.{◌≡◌, List, subst}
+use Rattle.std.proofs.Common.{◌≡◌, ◌∙◌, ℕ, List, Option, ap, subst}
 use Rattle.std.specs.List.Sorted.{IsPermutation}
 use Rattle.geo_addr.specs.Ranges.{Ends}
 use Rattle.geo_terms.specs.DelegationForm.{DelegationParts}
@@ -31,12 +31,16 @@ changes_by_dump s dump old new grounds of refs found =
     subst (λ xs. IsPermutation (reference_changes xs dump.refs) grounds) of
     (subst (λ xs. IsPermutation (reference_changes old xs) grounds) refs found)
 
--- entries compared with those of the feed of the same URL
-pub changes_by_feed : (s : InForce) (feed : FeedParts) (old new : List Entry)
-    (grounds : List Ends)
-    → old ≡ entries_in (named (λ x. x.url) feed.url s.feeds) → new ≡ feed.entries
+-- entries compared with those of the feed of the same URL, found by the URL of the feed that is set
+pub changes_by_feed : (s : InForce) (ready feed : FeedParts) (url : List ℕ)
+    (there : Option FeedParts) (old new : List Entry) (grounds : List Ends)
+    → feed ≡ ready → url ≡ feed.url → new ≡ feed.entries
+    → there ≡ named (λ x. x.url) url s.feeds → old ≡ entries_in there
     → IsPermutation (entry_changes old new) grounds
-    → IsPermutation (changes (SetFeed feed) s) grounds
-changes_by_feed s feed old new grounds of entries found =
-    subst (λ xs. IsPermutation (entry_changes xs feed.entries) grounds) of
-    (subst (λ xs. IsPermutation (entry_changes old xs) grounds) entries found)
+    → IsPermutation (changes (SetFeed ready) s) grounds
+changes_by_feed s ready feed url there old new grounds is name entries found of same =
+    subst (λ xs. IsPermutation (entry_changes xs ready.entries) grounds)
+    (of ∙ ap entries_in found ∙ ap (λ n. entries_in (named (λ x. x.url) n s.feeds))
+    (name ∙ ap (λ (f : FeedParts). f.url) is))
+    (subst (λ xs. IsPermutation (entry_changes old xs) grounds)
+    (entries ∙ ap (λ (f : FeedParts). f.entries) is) same)

@@ -20,6 +20,7 @@ use Rattle.trie_core.specs.Store.{record_of, tree_of, IsRootOf, GrowsBy}
 use Rattle.trie_core.specs.Tree.{Tree, look, leaf}
 use Rattle.trie_core.proofs.StoreLemmas.{IsKept-from_growth}
 use Rattle.update_session.specs.declared.marks.Mark.{Mark}
+use Rattle.update_session.specs.Calls.{HasChanged}
 use Rattle.update_session.specs.Kept.{Answers, AnswersAll, AreBased, HasBase, Held, IsBased}
 use Rattle.update_session.specs.Kept.{IsSession, RootMeans, GrowsBy as PlacesGrowBy}
 use Rattle.update_session.proofs.AliasLemmas.{spoken_from_base}
@@ -167,6 +168,24 @@ IsSession-changed stay keep s s' c pairs places root touched touched' more marks
           }));
       marks = h.marks;
     }
+
+pub HasChanged-made : (c : Change) (old : Held) (s : InForce) (touched more : List Ends)
+    → s ≡ after c old.state.sources → touched ≡ old.touched ++ more
+    → IsPermutation (changes c old.state.sources) more
+    → HasChanged c old (record old {
+      state = record old.state { sources = s };
+      touched = touched;
+    })
+HasChanged-made c old s touched more now longer same = record {
+  state = ap (λ (t : InForce). record old.state { sources = t }) now;
+  more = more;
+  touched = longer;
+  same = same;
+  store = refl;
+  places = refl;
+  root = refl;
+  marks = refl;
+}
 
 -- the root's meaning stays too
 pub RootMeans-grown : (old new : Held) (s : InForce) (m n : ℕ) → GrowsBy old.store new.store m

@@ -1,61 +1,33 @@
 //! The statements of a source that a call replaces, and the grounds that come to those touched.
-ghost use Rattle.std.specs.Prelude.{◌≡◌, ◌+◌, ◌≤◌, ◌++◌, is_some, map, option_map, OnOk};
+ghost use Rattle.std.specs.Prelude.{◌≡◌, ◌+◌, ◌≤◌, ◌++◌, option_map, OnOk};
 ghost use Rattle.std.specs.Prelude.{vec_capacity, vec_len};
 ghost use Rattle.std.specs.Arc.{arc_value};
 ghost use Rattle.std.specs.Option.{option_copied};
 ghost use Rattle.geo_terms.specs.Sources.{entries_in, rows_in};
-ghost use Rattle.source_changes.specs.Changes.{delegations_in, named, references_in};
+ghost use Rattle.source_changes.specs.Changes.{delegations_in, references_in};
 
 use geo_addr::{Memory, Range};
 use geo_terms::{Delegation, Dump, Entry, Feed, Override, Overrides, Reference, Stats};
 use std::sync::Arc;
 
-/// Whether there is a dump of a slot.
-pub(crate) fn has_dump(dumps: &[Arc<Dump>], slot: &str) -> bool
-    ensures { result ≡ is_some (named (λ d. d.slot) slot.now (map arc_value dumps.now)) }
+/// The references of a dump, and none where there is no dump.
+pub(crate) fn references_of<'a>(dump: Option<&'a Dump>) -> &'a [Reference]
+    ensures { result.now ≡ references_in (option_copied dump.entry) }
 {
-    for dump in dumps {
-        if dump.slot.as_str() == slot {
-            return true;
-        }
+    match dump {
+        Some(dump) => dump.refs.as_slice(),
+        None => &[],
     }
-    false
 }
 
-/// Whether there is a statistics file of a slot.
-pub(crate) fn has_file(files: &[Arc<Stats>], slot: &str) -> bool
-    ensures { result ≡ is_some (named (λ t. t.slot) slot.now (map arc_value files.now)) }
+/// The delegations of a statistics file, and none where there is no file.
+pub(crate) fn delegations_of<'a>(stats: Option<&'a Stats>) -> &'a [Delegation]
+    ensures { result.now ≡ delegations_in (option_copied stats.entry) }
 {
-    for file in files {
-        if file.slot.as_str() == slot {
-            return true;
-        }
+    match stats {
+        Some(stats) => stats.rows.as_slice(),
+        None => &[],
     }
-    false
-}
-
-/// The references of the dump of a slot, and none where there is no such dump.
-pub(crate) fn references_of<'a>(dumps: &'a [Arc<Dump>], slot: &str) -> &'a [Reference]
-    ensures { result.now ≡ references_in (named (λ d. d.slot) slot.now (map arc_value dumps.now)) }
-{
-    for dump in dumps {
-        if dump.slot.as_str() == slot {
-            return dump.refs.as_slice();
-        }
-    }
-    &[]
-}
-
-/// The delegations of the file of a slot, and none where there is no such file.
-pub(crate) fn delegations_of<'a>(files: &'a [Arc<Stats>], slot: &str) -> &'a [Delegation]
-    ensures { result.now ≡ delegations_in (named (λ t. t.slot) slot.now (map arc_value files.now)) }
-{
-    for file in files {
-        if file.slot.as_str() == slot {
-            return file.rows.as_slice();
-        }
-    }
-    &[]
 }
 
 /// The entries of a feed, and none where there is no feed.

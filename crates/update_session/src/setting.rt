@@ -4,9 +4,7 @@
 //! each finds the statements that come and go, makes room for their grounds,
 //! and only then changes the sources.
 
-use crate::replaced::{
-    add, delegations_of, entries_of, has_dump, has_file, make_room, references_of, rows_of,
-};
+use crate::replaced::{add, delegations_of, entries_of, make_room, references_of, rows_of};
 use crate::session::Session;
 use geo_addr::Memory;
 use geo_terms::{Dump, Feed, Overrides, Stats};
@@ -30,7 +28,7 @@ impl Session {
         kept_by_one_more();
         sources_stay();
         let new = dump.refs.as_slice();
-        let old = references_of(self.sources.dumps(), dump.slot.as_str());
+        let old = references_of(self.sources.dump_of(dump.slot.as_str()));
         let grounds = changed_grounds(self.alloc, old, new)?;
         make_room(&mut self.touched, &grounds)?;
         self.sources.set_rpsl(dump)?;
@@ -49,10 +47,10 @@ impl Session {
     {
         kept_by_one_more();
         sources_stay();
-        if !has_dump(self.sources.dumps(), slot) {
+        let Some(dump) = self.sources.dump_of(slot) else {
             return Err(DropFault::NotThere);
-        }
-        let old = references_of(self.sources.dumps(), slot);
+        };
+        let old = references_of(Some(dump));
         let grounds = changed_grounds(self.alloc, old, &[])?;
         make_room(&mut self.touched, &grounds)?;
         self.sources.drop_rpsl(slot)?;
@@ -117,7 +115,7 @@ impl Session {
         sources_stay();
         let new = stats.rows.as_slice();
         keep_all(new);
-        let old = delegations_of(self.sources.stats(), stats.slot.as_str());
+        let old = delegations_of(self.sources.stats_of(stats.slot.as_str()));
         let grounds = changed_grounds(self.alloc, old, new)?;
         make_room(&mut self.touched, &grounds)?;
         self.sources.set_stats(stats)?;
@@ -136,10 +134,10 @@ impl Session {
     {
         kept_by_one_more();
         sources_stay();
-        if !has_file(self.sources.stats(), slot) {
+        let Some(stats) = self.sources.stats_of(slot) else {
             return Err(DropFault::NotThere);
-        }
-        let old = delegations_of(self.sources.stats(), slot);
+        };
+        let old = delegations_of(Some(stats));
         let grounds = changed_grounds(self.alloc, old, &[])?;
         make_room(&mut self.touched, &grounds)?;
         self.sources.drop_stats(slot)?;

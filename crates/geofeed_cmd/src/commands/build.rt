@@ -54,7 +54,10 @@ pub(crate) fn build<R: Threads + Sync, F: Folder, O: Sink, G: Gate, L: Ledger>(
         → F.given folder.new ≤ F.given folder.old + room_of first (Some (build name.now)) }
 {
     match job_in(alloc, name, folder, journal) {
-        Ok(job) => do_job(rt, alloc, job, folder, out, gate, steps, journal),
+        Ok(job) => {
+            journal.notices.of_job(name, &job);
+            do_job(rt, alloc, job, folder, out, gate, steps, journal)
+        }
         Err(why) => stop_at(alloc, why, 0, name, out, journal),
     }
 }

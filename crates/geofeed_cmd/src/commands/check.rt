@@ -34,10 +34,9 @@ use precedence::Sources;
 use std::alloc::Global;
 use std::marker::Sync;
 use std::mem::forget;
-use std::sync::Arc;
 use std::sync::ledger::Ledger;
 use std::thread::Threads;
-use update_session::Session;
+use update_session::{ReadyFeed, Session};
 
 /// Does `check` with the URL that a word is, if it is one.
 pub(crate) fn check<R: Threads + Sync, F: Folder, O: Sink, G: Gate, L: Ledger>(
@@ -289,18 +288,18 @@ fn offer_feeds(printed: &Result<(), Stop>, url: &str, session: &Session, journal
 }
 
 // Where a feed of this URL stands, or where it would.
-fn place_in(feeds: &[Arc<Feed>], url: &str) -> usize
+fn place_in(feeds: &[ReadyFeed], url: &str) -> usize
     ensures { result ≤ length feeds.now }
 {
-    match feeds.binary_search_by(|feed| feed.url.as_str().cmp(url)) {
+    match feeds.binary_search_by(|ready| ready.feed().url.as_str().cmp(url)) {
         Ok(at) => at,
         Err(at) => at,
     }
 }
 
-fn url_of(feed: Option<&Arc<Feed>>) -> Option<Text> {
+fn url_of(feed: Option<&ReadyFeed>) -> Option<Text> {
     match feed {
-        Some(feed) => feed.url.copied().ok(),
+        Some(ready) => ready.feed().url.copied().ok(),
         None => None,
     }
 }

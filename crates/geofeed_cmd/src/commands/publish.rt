@@ -61,9 +61,12 @@ pub(crate) fn publish<R: Threads + Sync, F: Folder, O: Sink, G: Gate, L: Ledger>
         + job_room (held_job (map.get first.held name.now)) }
 {
     match job_in(alloc, name, folder, journal) {
-        Ok(job) => publish_by(
-            rt, alloc, job, block, file, folder, out, gate, steps, journal,
-        ),
+        Ok(job) => {
+            journal.notices.of_output(name, &job, file);
+            publish_by(
+                rt, alloc, job, block, file, folder, out, gate, steps, journal,
+            )
+        }
         Err(why) => stop_at(alloc, why, 0, name, out, journal),
     }
 }

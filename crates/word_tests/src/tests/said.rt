@@ -6,7 +6,8 @@ use std::io::ErrorKind;
 use std::test::Fail;
 use stop_words::{System, stop_text};
 
-/// What ended `build job`, the line of the job and what it does, what it is about, and what is said.
+/// What ended `build job`, the line of the job and what it does, what it is about,
+/// and what is said.
 type Row = (Stop, Option<(u64, ActKind)>, &'static str, &'static str);
 
 static ROWS: [Row; 8] = [
@@ -68,7 +69,7 @@ fn rows() -> &'static [Row] {
 
 /// What a command tells that ends so.
 fn journal_of(alloc: Global, row: &Row) -> Result<Journal, Memory> {
-    let mut journal = Journal::new();
+    let mut journal = Journal::new(alloc);
     journal.begin(alloc, "job");
     journal.end(row.0);
     journal.name = Some(Text::of(alloc, row.2)?);

@@ -6,7 +6,7 @@ use fan_work::Forks;
 use geo_addr::{Bytes, Memory, Text};
 use geo_outside::{MemFolder, MemSink, OpenGate, Steps};
 use job_lines::{Job, read_job};
-use job_run::{Apart, Cause, Scope, StepStop, Stop, do_steps};
+use job_run::{Apart, Cause, Journal, Scope, StepStop, Stop, do_steps};
 use mmdb_file::Meta;
 use std::alloc::Global;
 use std::marker::{Brand, Sync};
@@ -151,6 +151,7 @@ fn done<R: Threads + Sync, L: Ledger>(
         &mut world.folder,
         &mut world.out,
         &mut steps,
+        &mut Journal::new(alloc),
     )
 }
 

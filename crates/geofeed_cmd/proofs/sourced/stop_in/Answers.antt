@@ -13,8 +13,8 @@ returns-clause-closed g c step named =
     c.requires c.index-list-stop.is in
     let same : c.index-list-stop.result ≡ step = cc in
     let O = g.O.Sink in
-    let closed = rw c.name_of.ensures at c.stop_at.ensures.closed in
-    subst (λ (s : Step). Closes (O.written c.args.out.now) (O.written c.stop_at.new.out)
+    let closed = rw c.name_of.ensures at c.stop_at-status.ensures.closed in
+    subst (λ (s : Step). Closes (O.written c.args.out.now) (O.written c.stop_at-status.new.out)
     (O.faults c.args.out.now)
-    (O.faults c.stop_at.new.out) []
+    (O.faults c.stop_at-status.new.out) []
     (stop_line c.args.stop.why s.line (file_named s.act))) same closed

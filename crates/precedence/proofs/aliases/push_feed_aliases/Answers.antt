@@ -1,4 +1,4 @@
-use Rattle.std.proofs.Common.{◌≡◌, ◌∙◌, ◌++◌, List, drop, map, ap}
+use Rattle.std.proofs.Common.{◌∙◌, ◌++◌, List, ap}
 use Rattle.std.specs.List.{flat_map}
 use Rattle.geo_addr.specs.Ranges.{range_of_block}
 use Rattle.geo_terms.specs.Report.{alias_note}

@@ -1,33 +1,54 @@
-use Rattle.std.proofs.Common.{◌≡◌, ◌∙◌, ◌+◌, ◌-◌, ◌<◌, ◌≤◌, List, ap, drop, length, map, slice_get}
-use Rattle.std.proofs.Common.{subst, sym}
+use Rattle.std.proofs.Common.{◌≡◌, ◌∙◌, ◌-◌, ℕ, suc, List, ap, arith, get_or}
+use Rattle.std.proofs.Common.{map, slice_get, subst, sym}
 use Rattle.std.specs.Arc.{arc_value}
-use Rattle.std.specs.List.{flat_map}
-use Rattle.geo_terms.specs.DelegationForm.{DelegationParts}
+use Rattle.std.specs.List.Sorted.{IsNonDecreasing}
+use Rattle.std.specs.Option.{option_and_then, option_copied}
+use Rattle.std.proofs.lemmas.Option.{slice_get-map}
 use Rattle.geo_terms.specs.SourceForm.{StatsParts}
-use Rattle.precedence.proofs.RowLemmas.{in_this, in_later}
+use Rattle.precedence.specs.Delegations.{starts_from}
+use Rattle.precedence.proofs.RowLemmas.{HaveBegun, all_rows, none_found, row_found, starts_rise}
 use Rattle.precedence.proofs.delegations.delegation_at.Goals as goal
 
-pub returns-then-left-rows : goal.returns-then-left-rows
-returns-then-left-rows c =
-    let rows : c.as_slice-rows.result.now ≡ (arc_value {X = StatsParts} c.file-item.result).rows =
-    c.as_slice-rows.ensures
-    ∙ ap (λ (t : StatsParts). t.rows) (c.behind-file.view_is ∙ c.deref.ensures) in
-    c.row_at.ensures
-    ∙ ap (λ (ds : List DelegationParts). slice_get ds c.loop-file.left) rows
-    ∙ sym (in_this (arc_value {X = StatsParts}) (λ (t : StatsParts). t.rows) c.args.files.now
-    c.loop-file.file-index c.file-item.result c.loop-file-test.true c.file-item.is c.loop-file.left
-    (subst (λ (ds : List DelegationParts). c.loop-file.left < length ds) rows c.if-left-rows.true))
-    ∙ c.loop-file.invariant
+pub begun-requires : goal.begun-requires
+begun-requires c =
+    subst IsNonDecreasing (sym c.requires) (starts_rise (map arc_value c.args.files.now) 0)
 
-pub loop-file-preserved : goal.loop-file-preserved
-loop-file-preserved c =
-    let rows : c.as_slice-rows.result.now ≡ (arc_value {X = StatsParts} c.file-item.result).rows =
-    c.as_slice-rows.ensures
-    ∙ ap (λ (t : StatsParts). t.rows) (c.behind-file.view_is ∙ c.deref.ensures) in
-    ap (λ (ds : List DelegationParts).
-    slice_get (flat_map (λ (t : StatsParts). t.rows) (map (arc_value {X = StatsParts})
-    (drop (c.loop-file.file-index + 1) c.args.files.now))) (c.loop-file.left - length ds)) rows
-    ∙ sym (in_later (arc_value {X = StatsParts}) (λ (t : StatsParts). t.rows) c.args.files.now
-    c.loop-file.file-index c.file-item.result c.loop-file-test.true c.file-item.is c.loop-file.left
-    (subst (λ (ds : List DelegationParts). length ds ≤ c.loop-file.left) rows c.if-left-rows.false))
-    ∙ c.loop-file.invariant
+pub returns-in_err-at : goal.returns-in_err-at
+returns-in_err-at c =
+    let files : List StatsParts = map arc_value c.args.files.now in
+    let none : c.begun.result ≡ 0 = omega (arith, c.in_err-at.ensures) in
+    let have : HaveBegun c.args.index (starts_from 0 files) 0 =
+    subst (λ (ns : List ℕ). HaveBegun c.args.index ns 0) c.requires
+    (subst (HaveBegun c.args.index c.args.starts.now) none c.begun.ensures.point) in
+    ap option_copied c.from_residual.ensures
+    ∙ ap (λ (ts : List StatsParts). slice_get (all_rows ts) c.args.index)
+    (sym (none_found files c.args.index have))
+
+pub overflow_sub-index : goal.overflow_sub-index
+overflow_sub-index c =
+    let last : c.begun.result ≡ suc c.in_ok-at.at = omega (arith, c.in_ok-at.ensures) in
+    c.begun.ensures.point.0 c.in_ok-at.at 0 (omega arith) (omega arith)
+
+pub returns-in_err-file : goal.returns-in_err-file
+returns-in_err-file c =
+    let last : c.begun.result ≡ suc c.in_ok-at.at = omega (arith, c.in_ok-at.ensures) in
+    ap option_copied c.from_residual-in_err-file.ensures
+    ∙ ap (option_and_then
+    (λ (t : StatsParts). slice_get t.rows
+    (c.args.index - get_or c.args.starts.now c.in_ok-at.at 0)))
+    (c.in_err-file.ensures ∙ sym (slice_get-map (arc_value {X = StatsParts}) c.args.files.now
+    c.in_ok-at.at))
+    ∙ row_found (map arc_value c.args.files.now) c.args.starts.now c.begun.result c.in_ok-at.at
+    c.args.index c.requires last c.begun.ensures.bound c.begun.ensures.point
+
+pub returns : goal.returns
+returns c =
+    let last : c.begun.result ≡ suc c.in_ok-at.at = omega (arith, c.in_ok-at.ensures) in
+    c.row_at.ensures
+    ∙ ap (option_and_then
+    (λ (t : StatsParts). slice_get t.rows
+    (c.args.index - get_or c.args.starts.now c.in_ok-at.at 0)))
+    (c.in_ok-file.ensures ∙ sym (slice_get-map (arc_value {X = StatsParts}) c.args.files.now
+    c.in_ok-at.at))
+    ∙ row_found (map arc_value c.args.files.now) c.args.starts.now c.begun.result c.in_ok-at.at
+    c.args.index c.requires last c.begun.ensures.bound c.begun.ensures.point

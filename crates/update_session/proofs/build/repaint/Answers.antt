@@ -1,7 +1,6 @@
-use Rattle.std.proofs.Common.{◌≡◌, ◌∙◌, List, Option, length, map, ap, arith, sym, subst, Bor}
+use Rattle.std.proofs.Common.{◌≡◌, ◌∙◌, List, length, map, ap, arith, sym, subst}
 use Rattle.std.specs.Prelude.{All}
 use Rattle.geo_addr.specs.Ranges.{Ends}
-use Rattle.geo_terms.specs.PlaceForm.{PlaceParts}
 use Rattle.geo_terms.specs.Sources.{InForce}
 use Rattle.trie_core.specs.declared.paint.Part.{Part}
 use Rattle.update_session.specs.Build.{HasNumber}
@@ -38,8 +37,8 @@ returns-clause-answers g c =
     let spoken : AnswersSpoken c.paint.new.store c.numbered.new.places c.in_ok-painted.painted s =
     AnswersSpoken-painted s c.args.touched.now c.in_ok-segments.segments.items
     c.as_slice-2.result.now c.args.store.now c.paint.new.store c.args.places.now
-    c.numbered.new.places _ c.args.root c.in_ok-painted.painted c.in_ok-segments.ensures.segments ranges
-    numbers c.in_ok-parts.ensures.places
+    c.numbered.new.places _ c.args.root c.in_ok-painted.painted
+    c.in_ok-segments.ensures.segments ranges numbers c.in_ok-parts.ensures.places
     (spoken_elsewhere s c.args.store.now c.args.places.now c.args.root c.args.touched.now
     c.requires.base)
     c.in_ok-painted.ensures.lookups in
@@ -49,17 +48,20 @@ returns-clause-answers g c =
 pub returns-in_err-parts-clause-places : goal.returns-in_err-parts-clause-places
 returns-in_err-parts-clause-places g c =
     few_places_of c.args.sources.now c.args.touched.now c.in_ok-segments.segments.items _ _ _
-    c.in_ok-segments.ensures.segments (ap length c.as_slice.ensures.value) c.numbered.ensures.places
+    (sym c.is_empty.ensures ∙ c.if-is_empty.false) c.in_ok-segments.ensures.segments
+    (ap length c.as_slice.ensures.value) c.numbered.ensures.places
 
 pub returns-in_err-painted-clause-places : goal.returns-in_err-painted-clause-places
 returns-in_err-painted-clause-places g c =
     few_places_of c.args.sources.now c.args.touched.now c.in_ok-segments.segments.items _ _ _
-    c.in_ok-segments.ensures.segments (ap length c.as_slice.ensures.value) c.numbered.ensures.places
+    (sym c.is_empty.ensures ∙ c.if-is_empty.false) c.in_ok-segments.ensures.segments
+    (ap length c.as_slice.ensures.value) c.numbered.ensures.places
 
 pub returns-clause-places : goal.returns-clause-places
 returns-clause-places g c =
     few_places_of c.args.sources.now c.args.touched.now c.in_ok-segments.segments.items _ _ _
-    c.in_ok-segments.ensures.segments (ap length c.as_slice.ensures.value) c.numbered.ensures.places
+    (sym c.is_empty.ensures ∙ c.if-is_empty.false) c.in_ok-segments.ensures.segments
+    (ap length c.as_slice.ensures.value) c.numbered.ensures.places
 
 pub returns-in_err-painted-clause-few_ticks : goal.returns-in_err-painted-clause-few_ticks
 returns-in_err-painted-clause-few_ticks g c =
@@ -69,7 +71,7 @@ returns-in_err-painted-clause-few_ticks g c =
     omega (
       arith,
       few_parts c.args.sources.now c.args.touched.now _ c.as_slice-2.result.now
-          c.in_ok-segments.ensures.segments ranges,
+          (sym c.is_empty.ensures ∙ c.if-is_empty.false) c.in_ok-segments.ensures.segments ranges,
       c.paint.ensures.few_ticks,
     )
 
@@ -81,7 +83,7 @@ returns-clause-few_ticks g c =
     omega (
       arith,
       few_parts c.args.sources.now c.args.touched.now _ c.as_slice-2.result.now
-          c.in_ok-segments.ensures.segments ranges,
+          (sym c.is_empty.ensures ∙ c.if-is_empty.false) c.in_ok-segments.ensures.segments ranges,
       c.paint.ensures.few_ticks,
       c.with_aliases.ensures.few_ticks,
     )

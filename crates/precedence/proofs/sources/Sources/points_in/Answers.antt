@@ -1,8 +1,7 @@
-use Rattle.std.proofs.Common.{◌≡◌, ◌∙◌, ◌++◌, List, [], ℕ, ap, map, append_assoc, subst, sym}
-use Rattle.std.specs.Arc.{arc_value}
+use Rattle.std.proofs.Common.{◌∙◌, ◌++◌, List, [], ℕ, ap, map, append_assoc, subst, sym}
 use Rattle.std.specs.List.{flat_map}
 use Rattle.split_core.proofs.Edges.{points_ascend}
-use Rattle.geo_addr.specs.Ranges.{Ends, range_of_block}
+use Rattle.geo_addr.specs.Ranges.{Ends}
 use Rattle.geo_terms.specs.Cuts.{statement_ranges}
 use Rattle.geo_terms.specs.DelegationForm.{DelegationParts}
 use Rattle.geo_terms.specs.SourceForm.{FeedParts, StatsParts}
@@ -10,11 +9,11 @@ use Rattle.geo_terms.specs.Sources.{InForce, references, rows_in}
 use Rattle.geo_terms.specs.declared.statement.Override.{Override}
 use Rattle.geo_terms.specs.declared.statement.Reference.{Reference}
 use Rattle.source_changes.specs.CutPoints.{AreCutsOf}
-use Rattle.authority.specs.declared.kind_index.KindIndex.{KindIndex}
 use Rattle.authority.specs.declared.speakers.Speakers.{Speakers}
 use Rattle.cut_segments.proofs.CutLemmas.{gathered, gathered_sorted, none_gathered}
 use Rattle.cut_segments.specs.CutPoints.{AreCutsInside}
 use Rattle.precedence.proofs.FeedLemmas.{all_entries, entry_ranges}
+use Rattle.precedence.specs.declared.delegations.Delegations.{Delegations}
 use Rattle.precedence.proofs.sources.Sources.points_in.Goals as goal
 
 abbrev ranges_of : InForce → List Ends
@@ -32,8 +31,9 @@ push_inside-requires-clause-ascending c =
 pub push_inside-requires-2-clause-ascending : goal.push_inside-requires-2-clause-ascending
 push_inside-requires-2-clause-ascending c =
     (subst (AreCutsOf (rows_of c.self.inside.statistics))
-    (sym (c.as_slice-2.ensures.value ∙ ap (λ (k : KindIndex). k.cuts.items) c.deref-2.ensures))
-    c.in_ok-delegations.ensures.cuts).ascending
+    (sym (c.as_slice-2.ensures.value
+    ∙ ap (λ (k : Delegations). k.index.cuts.items) c.deref-2.ensures))
+    c.in_ok-delegations.ensures.index.cuts).ascending
 
 pub returns-clause-exact : goal.returns-clause-exact
 returns-clause-exact c =
@@ -59,8 +59,9 @@ returns-clause-exact c =
     gathered (refs ++ ents) dels c.args.bounds.now c.as_slice-2.result.now
     c.push_feeds_inside.new.cuts.items c.push_inside-2.new.found.items second
     (subst (AreCutsOf dels)
-    (sym (c.as_slice-2.ensures.value ∙ ap (λ (k : KindIndex). k.cuts.items) c.deref-2.ensures))
-    c.in_ok-delegations.ensures.cuts) c.in_ok-push_inside-2.ensures in
+    (sym (c.as_slice-2.ensures.value
+    ∙ ap (λ (k : Delegations). k.index.cuts.items) c.deref-2.ensures))
+    c.in_ok-delegations.ensures.index.cuts) c.in_ok-push_inside-2.ensures in
     let all : AreCutsInside
     (((refs ++ ents) ++ dels) ++ rows) c.args.bounds.now c.push_inside-3.new.found.items =
     gathered ((refs ++ ents) ++ dels) rows c.args.bounds.now c.cuts.result.now

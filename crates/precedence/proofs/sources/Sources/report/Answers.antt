@@ -12,17 +12,17 @@ use Rattle.precedence.proofs.sources.Sources.report.Goals as goal
 
 pub returns : goal.returns
 returns c =
-    let joint : c.in_ok-joint.joint.items ≡ in_order note_cmp (joint_notes c.args.self.now) =
-    c.in_ok-joint.ensures
+    let joint : c.in_ok-notes.notes.items ≡ in_order note_cmp (joint_notes c.args.self.now) =
+    c.in_ok-notes.ensures
     ∙ ap (λ (s : InForce). in_order note_cmp (joint_notes s)) c.self.view_is in
-    let read : c.push_reader_notes.new.notes.items ≡ reader_notes c.args.self.now =
+    let read : c.push_reader_notes.new.notes.items
+    ≡ in_order note_cmp (joint_notes c.args.self.now) ++ reader_notes c.args.self.now =
     c.in_ok-push_reader_notes.ensures
-    ∙ ap (λ (ns : List Note). ns ++ reader_notes c.args.self.now) c.new-notes.ensures.items in
-    let all : c.push_alias_notes.new.notes.items ≡ (reader_notes c.args.self.now
-    ++ in_order note_cmp (joint_notes c.args.self.now)) ++ alias_notes c.args.self.now =
-    c.in_ok-push_alias_notes.ensures ∙ ap (λ (ns : List Note). ns ++ alias_notes c.args.self.now)
-    (c.in_ok-append.ensures.items ∙ ap (λ (ns : List Note). ns ++ c.in_ok-joint.joint.items) read
-    ∙ ap (λ (ns : List Note). reader_notes c.args.self.now ++ ns) joint) in
+    ∙ ap (λ (ns : List Note). ns ++ reader_notes c.args.self.now) joint in
+    let all : c.push_alias_notes.new.notes.items ≡ (in_order note_cmp
+    (joint_notes c.args.self.now) ++ reader_notes c.args.self.now) ++ alias_notes c.args.self.now =
+    c.in_ok-push_alias_notes.ensures
+    ∙ ap (λ (ns : List Note). ns ++ alias_notes c.args.self.now) read in
     let sorted : IsSortedBy
     (λ (x y : Note). is_lt (note_cmp x y)) c.sort_unstable_by.new.self.items =
     c.sort_unstable_by.ensures.sorted (λ (x y : Note). is_lt (note_cmp x y))

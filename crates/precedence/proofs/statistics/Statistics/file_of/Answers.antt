@@ -1,13 +1,10 @@
-use Rattle.std.proofs.Common.{◌≡◌, ◌∙◌, List, Some, None, ap, map, refl, subst, sym}
+use Rattle.std.proofs.Common.{◌∙◌, Some, None, ap, map}
 use Rattle.std.specs.Arc.{arc_value}
 use Rattle.std.specs.List.{find}
 use Rattle.std.specs.Option.{option_copied}
 use Rattle.geo_terms.specs.PlaceForm.{same_text}
-use Rattle.geo_terms.specs.SlotOrder.{placed, removed}
 use Rattle.geo_terms.specs.SourceForm.{StatsParts}
-use Rattle.authority.proofs.HeldLemmas.{clones_same, order_same}
-use Rattle.precedence.specs.Delegations.{AreFiles, AreIndexed, slot_of}
-use Rattle.precedence.proofs.StatisticsLemmas.{file_found, files_placed, files_removed, made_same}
+use Rattle.precedence.proofs.StatisticsLemmas.{file_found}
 use Rattle.precedence.proofs.statistics.Statistics.file_of.Goals as goal
 
 pub returns-in_err-file : goal.returns-in_err-file

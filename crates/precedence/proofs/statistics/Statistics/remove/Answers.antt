@@ -1,13 +1,11 @@
-use Rattle.std.proofs.Common.{◌≡◌, ◌∙◌, List, Some, None, ap, map, refl, subst, sym}
+use Rattle.std.proofs.Common.{◌∙◌, List, Some, None, ap, map, refl, subst, sym}
 use Rattle.std.specs.Arc.{arc_value}
 use Rattle.std.specs.List.{find}
-use Rattle.std.specs.Option.{option_copied}
 use Rattle.geo_terms.specs.PlaceForm.{same_text}
-use Rattle.geo_terms.specs.SlotOrder.{placed, removed}
+use Rattle.geo_terms.specs.SlotOrder.{removed}
 use Rattle.geo_terms.specs.SourceForm.{StatsParts}
-use Rattle.authority.proofs.HeldLemmas.{clones_same, order_same}
-use Rattle.precedence.specs.Delegations.{AreFiles, AreIndexed, slot_of}
-use Rattle.precedence.proofs.StatisticsLemmas.{file_found, files_placed, files_removed, made_same}
+use Rattle.precedence.specs.Delegations.{AreFiles}
+use Rattle.precedence.proofs.StatisticsLemmas.{file_found, files_removed}
 use Rattle.precedence.proofs.statistics.Statistics.remove.Goals as goal
 
 pub invariant_of-self : goal.invariant_of-self
@@ -15,7 +13,7 @@ invariant_of-self c = record { slots = c.take.ensures.order; made = tt }
 
 pub invariant_of-self-in-None : goal.invariant_of-self-in-None
 invariant_of-self-in-None c =
-    subst (λ ts. AreFiles ts c.self.inside.index) (sym (c.in-None.ensures.absent refl))
+    subst (λ ts. AreFiles ts c.self.inside.delegations) (sym (c.in-None.ensures.absent refl))
     c.self.invariant
 
 pub returns-in-Some-clause-new : goal.returns-in-Some-clause-new

@@ -1,18 +1,17 @@
-use Rattle.std.proofs.Common.{◌≡◌, ◌∙◌, List, Some, None, ap, map, refl, subst, sym}
+use Rattle.std.proofs.Common.{◌∙◌, List, ap, map, subst, sym}
 use Rattle.std.specs.Arc.{arc_value}
 use Rattle.std.specs.List.{find}
-use Rattle.std.specs.Option.{option_copied}
 use Rattle.geo_terms.specs.PlaceForm.{same_text}
-use Rattle.geo_terms.specs.SlotOrder.{placed, removed}
+use Rattle.geo_terms.specs.SlotOrder.{placed}
 use Rattle.geo_terms.specs.SourceForm.{StatsParts}
-use Rattle.authority.proofs.HeldLemmas.{clones_same, order_same}
-use Rattle.precedence.specs.Delegations.{AreFiles, AreIndexed, slot_of}
-use Rattle.precedence.proofs.StatisticsLemmas.{file_found, files_placed, files_removed, made_same}
+use Rattle.precedence.specs.Delegations.{AreFiles, slot_of}
+use Rattle.precedence.proofs.StatisticsLemmas.{file_found, files_placed}
 use Rattle.precedence.proofs.statistics.Statistics.set.Goals as goal
 
 pub invariant_of-self : goal.invariant_of-self
 invariant_of-self c =
-    subst (λ ts. AreFiles ts c.self.inside.index) (sym c.in_err-old.ensures.err) c.self.invariant
+    subst (λ ts. AreFiles ts c.self.inside.delegations) (sym c.in_err-old.ensures.err)
+    c.self.invariant
 
 pub invariant_of-self-2 : goal.invariant_of-self-2
 invariant_of-self-2 c = record { slots = c.put.ensures.order; made = tt }

@@ -1,13 +1,9 @@
-use Rattle.std.proofs.Common.{◌≡◌, ◌∙◌, List, Some, None, ap, map, refl, subst, sym}
+use Rattle.std.proofs.Common.{◌∙◌, map, subst, sym}
 use Rattle.std.specs.Arc.{arc_value}
-use Rattle.std.specs.List.{find}
-use Rattle.std.specs.Option.{option_copied}
-use Rattle.geo_terms.specs.PlaceForm.{same_text}
-use Rattle.geo_terms.specs.SlotOrder.{placed, removed}
 use Rattle.geo_terms.specs.SourceForm.{StatsParts}
 use Rattle.authority.proofs.HeldLemmas.{clones_same, order_same}
-use Rattle.precedence.specs.Delegations.{AreFiles, AreIndexed, slot_of}
-use Rattle.precedence.proofs.StatisticsLemmas.{file_found, files_placed, files_removed, made_same}
+use Rattle.precedence.specs.Delegations.{AreIndexed}
+use Rattle.precedence.proofs.StatisticsLemmas.{made_same}
 use Rattle.precedence.proofs.statistics.Statistics.snapshot.Goals as goal
 
 pub invariant_of-result : goal.invariant_of-result
@@ -20,7 +16,7 @@ invariant_of-result c =
           c.in_ok-clone.field-0.items files c.self.invariant.slots;
       made =
           subst (λ ts. AreIndexed ts c.in_ok-shared.field-0) (sym files)
-          (made_same (map arc_value c.self.inside.files.items) c.self.inside.index
+          (made_same (map arc_value c.self.inside.files.items) c.self.inside.delegations
           c.in_ok-shared.field-0 c.in_ok-shared.ensures c.self.invariant.made);
     }
 

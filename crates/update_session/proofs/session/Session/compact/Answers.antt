@@ -5,7 +5,6 @@ use Rattle.std.proofs.lemmas.List.Elements.{All-from_recursion}
 use Rattle.geo_terms.specs.Sources.{InForce}
 use Rattle.trie_core.specs.declared.node.Rec.TheVariants.{Leaf}
 use Rattle.trie_core.specs.declared.node.Root.{Root}
-use Rattle.trie_core.specs.Compact.{trees_of_roots}
 use Rattle.trie_core.specs.Store.{IsRootOf}
 use Rattle.update_session.specs.contracts.session.Session.{the_view}
 use Rattle.update_session.specs.declared.marks.Mark.{Mark}

@@ -2,7 +2,6 @@ use Rattle.std.proofs.Common.{◌≡◌, ◌∙◌, ◌++◌, List, [], ap, subs
 use Rattle.std.specs.List.Sorted.{IsPermutation}
 use Rattle.geo_addr.specs.Ranges.{Ends}
 use Rattle.geo_terms.specs.declared.statement.Reference.{Reference}
-use Rattle.geo_terms.specs.SourceForm.{DumpParts}
 use Rattle.source_changes.specs.Changes.{DropDump, changes, references_in, named, reference_changes}
 use Rattle.update_session.proofs.KeptLemmas.{IsSession-changed}
 use Rattle.update_session.proofs.session.Session.drop_rpsl.Goals as goal
@@ -11,8 +10,7 @@ pub invariant_of-self-2 : goal.invariant_of-self-2
 invariant_of-self-2 c =
     let old : c.references_of-old.result.now
     ≡ references_in (named (λ x. x.slot) c.args.slot.now c.self.inside.sources.dumps) =
-    c.references_of-old.ensures ∙ ap (λ (xs : List DumpParts).
-    references_in (named (λ x. x.slot) c.args.slot.now xs)) c.dumps-2.ensures.dumps in
+    c.references_of-old.ensures ∙ ap references_in c.in-Some.ensures in
     let same : IsPermutation
     (changes (DropDump c.args.slot.now) c.self.inside.sources) c.in_ok-grounds.grounds.items =
     subst (λ (xs : List Reference). IsPermutation (reference_changes xs [])

@@ -2,7 +2,6 @@ use Rattle.std.proofs.Common.{◌≡◌, ◌∙◌, ◌++◌, List, [], ap, subs
 use Rattle.std.specs.List.Sorted.{IsPermutation}
 use Rattle.geo_addr.specs.Ranges.{Ends}
 use Rattle.geo_terms.specs.DelegationForm.{DelegationParts}
-use Rattle.geo_terms.specs.SourceForm.{StatsParts}
 use Rattle.source_changes.specs.Changes.{DropStats, changes, delegations_in, named}
 use Rattle.source_changes.specs.Changes.{delegation_changes}
 use Rattle.update_session.proofs.KeptLemmas.{IsSession-changed}
@@ -12,8 +11,7 @@ pub invariant_of-self-2 : goal.invariant_of-self-2
 invariant_of-self-2 c =
     let old : c.delegations_of-old.result.now
     ≡ delegations_in (named (λ x. x.slot) c.args.slot.now c.self.inside.sources.stats) =
-    c.delegations_of-old.ensures ∙ ap (λ (xs : List StatsParts).
-    delegations_in (named (λ x. x.slot) c.args.slot.now xs)) c.stats-2.ensures.files in
+    c.delegations_of-old.ensures ∙ ap delegations_in c.in-Some.ensures in
     let same : IsPermutation
     (changes (DropStats c.args.slot.now) c.self.inside.sources) c.in_ok-grounds.grounds.items =
     subst (λ (xs : List DelegationParts). IsPermutation (delegation_changes xs [])

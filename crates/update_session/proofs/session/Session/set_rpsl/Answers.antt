@@ -14,8 +14,8 @@ invariant_of-self-2 c =
     c.as_str.ensures ∙ ap (λ (x : DumpParts). x.slot) c.dump.view_is in
     let old : c.references_of-old.result.now
     ≡ references_in (named (λ x. x.slot) c.args.dump.slot c.self.inside.sources.dumps) =
-    c.references_of-old.ensures
-    ∙ (λ i. references_in (named (λ x. x.slot) (name i) (c.dumps.ensures.dumps i))) in
+    c.references_of-old.ensures ∙ ap references_in c.dump_of.ensures
+    ∙ (λ i. references_in (named (λ x. x.slot) (name i) c.self.inside.sources.dumps)) in
     let same = changes_by_dump c.self.inside.sources c.args.dump _ _
     c.in_ok-grounds.grounds.items old new c.in_ok-grounds.ensures in (
       c.self.invariant.0,

@@ -15,8 +15,8 @@ invariant_of-self-2 c =
     c.as_str.ensures ∙ ap (λ (x : StatsParts). x.slot) c.stats.view_is in
     let old : c.delegations_of-old.result.now
     ≡ delegations_in (named (λ x. x.slot) c.args.stats.slot c.self.inside.sources.stats) =
-    c.delegations_of-old.ensures
-    ∙ (λ i. delegations_in (named (λ x. x.slot) (name i) (c.stats-2.ensures.files i))) in
+    c.delegations_of-old.ensures ∙ ap delegations_in c.stats_of.ensures
+    ∙ (λ i. delegations_in (named (λ x. x.slot) (name i) c.self.inside.sources.stats)) in
     let sound : AreDelegations c.args.stats.rows =
     subst AreDelegations new (λ k d below. (c.keep_all.ensures k d below).place) in
     let same = changes_by_stats c.self.inside.sources c.args.stats _ _
