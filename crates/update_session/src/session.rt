@@ -2,6 +2,7 @@
 
 use crate::build::repaint;
 use crate::fault::EmitFault;
+use crate::grounds::Grounds;
 use crate::marks::Mark;
 use crate::write::{means_records, write};
 use fan_work::Forks;
@@ -29,12 +30,14 @@ pub struct Session {
     pub(crate) places: Places,
     pub(crate) root: Root,
     pub(crate) touched: Vec<Range>,
+    // The touched grounds in the list of the last mark, if they have not changed since.
+    pub(crate) noted: Option<Grounds>,
     pub(crate) marks: Vec<Mark>,
 }
 
 impl Model for Session {
     ghost use Rattle.std.specs.Prelude.{◌≤◌, length};
-    ghost use Rattle.update_session.specs.Kept.{Held, IsSession};
+    ghost use Rattle.update_session.specs.Kept.{Held, IsNoted, IsSession};
 
     ghost Value = { Held };
 
@@ -47,7 +50,7 @@ impl Model for Session {
       marks = s.marks.items;
     } };
 
-    ghost invariant = { λ s. (length s.meta.name ≤ 64)
+    ghost invariant = { λ s. ((length s.meta.name ≤ 64) × IsNoted s.noted s.touched.items)
         × IsSession s.sources s.store s.places s.root s.touched.items s.marks.items };
 }
 
@@ -87,6 +90,7 @@ impl Session {
             places: Places::new(alloc),
             root,
             touched: Vec::new(alloc),
+            noted: None,
             marks: Vec::new(alloc),
         })
     }
@@ -161,6 +165,7 @@ impl Session {
         let file = write(self.alloc, &self.store, &self.places, root, &self.meta)?;
         self.root = root;
         self.touched.clear();
+        self.noted = None;
         Ok(file)
     }
 
@@ -191,6 +196,7 @@ impl Session {
         )?;
         self.root = root;
         self.touched.clear();
+        self.noted = None;
         Ok(root)
     }
 
