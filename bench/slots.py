@@ -3,9 +3,10 @@
 
     python3 bench/slots.py dumps|stats SLOTS STATEMENTS FOLDER
 
-It writes FOLDER/job and its files: so many slots, each with so many statements, all of one size, dealt out to the
-slots in turn in the order of their addresses; so those of one slot ascend, and those of all have to be put in order.
-Of dumps it sets one feed too. The job sets all slots and emits once.
+It writes FOLDER/job and its files: so many slots, each with so many statements, all of one size,
+dealt out to the slots in turn in the order of their addresses; so those of one slot ascend, and
+those of all have to be put in order. Of dumps it sets one feed too. The job sets all slots and
+emits once.
 """
 import os, sys
 
@@ -24,9 +25,12 @@ def main(kind, slots, each, folder):
                 for line in range(each):
                     first = (line * slots + slot) * size
                     if kind == "stats":
-                        out.write("x|%s|ipv4|%s|%d||allocated\n" % (codes[(slot + line) % 5], address(first), size))
+                        code = codes[(slot + line) % 5]
+                        out.write("x|%s|ipv4|%s|%d||allocated\n" % (code, address(first), size))
                     else:
-                        out.write("inetnum: %s - %s\ngeofeed: https://e.example/%d.csv\n\n" % (address(first), address(first + size - 1), line % 400))
+                        last = address(first + size - 1)
+                        out.write("inetnum: %s - %s\n" % (address(first), last))
+                        out.write("geofeed: https://e.example/%d.csv\n\n" % (line % 400))
             job.write("%s %s %s\n" % ("stats" if kind == "stats" else "rpsl", name, name))
         if kind == "dumps":
             with open(folder + "/feed", "w") as out:

@@ -1,6 +1,6 @@
 #!/usr/bin/env bash
 # `run` promises all that `run_told` promises, which `main` calls: their clauses have the same names
-# and the same texts, in the same order.
+# and the same texts, in the same order. And docs/inside/PROVED.md has a row for each.
 set -u
 cd "$(dirname "${BASH_SOURCE[0]}")/.." || exit 1
 . checks/words.bash
@@ -19,5 +19,10 @@ clauses() {
 counted 18 "$(clauses run | grep -c '^    ensures')" "clauses of run"
 differ=$(diff <(clauses run) <(clauses run_told)) \
     || fail "run and run_told promise different things: $differ"
+
+while read -r clause; do
+    grep -qE "^\| [^|]*\`$clause\`[^|]* \|" docs/inside/PROVED.md \
+        || fail "docs/inside/PROVED.md has no row for the clause $clause of run"
+done < <(clauses run | sed -nE 's/^    ensures ([a-z_]+) .*/\1/p')
 
 verdict

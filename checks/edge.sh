@@ -214,7 +214,8 @@ for how in - ''; do
     is_whole out.mmdb
 done
 trap - PIPE
-{ cat s.txt; for ((n = 0; n < 9000; n++)); do echo 'x|DE|ipv4|here|256||allocated'; done; } > notes.txt
+cp s.txt notes.txt
+for ((n = 0; n < 9000; n++)); do echo 'x|DE|ipv4|here|256||allocated'; done >> notes.txt
 printf 'epoch 1700000000\nstats x notes.txt\nreport\n' > bad
 { "$program" build bad 2> told; echo $? > ended; } | head -c 5 > taken
 [ "$(cat ended taken)" = $'5\nstats' ] && told 'Broken pipe' \

@@ -1,7 +1,7 @@
 #!/usr/bin/env bash
 # What `rt ci` does not look at: the lengths of lines and files, the first words of each file of
-# code, must-fail edits for each library, a crate's place in the documents, and that each file of
-# definitions and each function that docs/SPEC.md and docs/ARCHITECTURE.md lead to is there.
+# code, must-fail edits for each library, a crate's place in the documents and in its layer, and
+# that each function that docs/inside/ARCHITECTURE.md leads to is there.
 set -u
 export LC_ALL=C.UTF-8
 cd "$(dirname "${BASH_SOURCE[0]}")/.." || exit 1
@@ -15,8 +15,9 @@ for crate in crates/*/; do
     crates=$((crates + 1))
     name=$(basename "$crate")
     grep -q "^$name:" crates.txt || fail "$name is not in crates.txt"
-    grep -q "\`$name\`" docs/ARCHITECTURE.md || fail "$name is not in docs/ARCHITECTURE.md"
-    grep -q "\`$name\`" docs/PROVED.md || fail "$name is not in docs/PROVED.md"
+    for page in docs/inside/ARCHITECTURE.md docs/inside/PROVED.md; do
+        grep -q "\`$name\`" "$page" || fail "$name is not in $page"
+    done
     # In a crate of tests an edit would make nothing wrong of which a clause says something.
     if [[ "$name" != test_* ]] && [ -f "$crate/src/lib.rt" ] && grep -q '^pub ' "$crate/src/lib.rt"; then
         edits=$(find "$crate/must-fail" -name '*.edit' 2> /dev/null | wc -l)
@@ -139,14 +140,31 @@ done < <(numbers "${told[@]}" | awk -v limits="$limits" '
     is_limit[$1] { found[$1]++ }
     END { for (value in found) print value, found[value] }')
 
-# A row of docs/SPEC.md names a crate and a file below its specs/.
-rows=0
-while read -r crate file; do
-    rows=$((rows + 1))
-    [ -f "crates/$crate/specs/$file.antt" ] \
-        || fail "docs/SPEC.md names $file of $crate, which is not there"
-done < <(sed -nE 's/^\| `([a-z_]+)` \| `([A-Za-z/]+)` \|.*/\1 \2/p' docs/SPEC.md)
-counted 50 "$rows" 'rows of docs/SPEC.md'
+# The table of layers: at most nine, each library and the program in one of them, and each crate
+# that it uses in the same or an earlier one. And each of them has a symptom.
+map=docs/inside/ARCHITECTURE.md
+declare -A layer=()
+while IFS='|' read -r _ number crates _; do
+    number=${number//[^0-9]/}
+    [ "$number" -le 9 ] || fail "$map has more than nine layers"
+    for name in $(grep -oE '`[a-z_]+`:' <<< "$crates" | tr -d '`:'); do
+        [ -z "${layer[$name]:-}" ] || fail "$map has $name in two layers"
+        [ -d "crates/$name" ] || fail "$map has $name in a layer, which is not there"
+        layer[$name]=$number
+    done
+done < <(sed -n '/^## Layers/,/^## Where/p' "$map" | grep -E '^\| [0-9]\.')
+counted 20 "${#layer[@]}" 'crates in layers'
+while IFS=': ' read -r name uses; do
+    [ -d "crates/$name" ] || continue
+    case "$name" in *_tests | test_*) continue ;; esac
+    [ -n "${layer[$name]:-}" ] || fail "$map has $name in no layer"
+    for used in $uses; do
+        [ "${layer[$used]:-0}" -le "${layer[$name]:-9}" ] \
+            || fail "$map has $name in a layer before that of $used, which it uses"
+    done
+    sed -n '/^## Symptom/,/^## What may/p' "$map" | grep -q "\`$name\`" \
+        || fail "$map has no symptom for $name"
+done < <(grep -v '^#' crates.txt)
 
 # A row of the table of symptoms names functions, and then each crate with its files; one of these
 # has the function.
@@ -162,9 +180,9 @@ while IFS='|' read -r _ _ names places _; do
     for name in $(grep -oE '`[A-Za-z_:]+`' <<< "$names" | tr -d '`'); do
         rows=$((rows + 1))
         grep -qE "(fn|trait) ${name##*::}\>" "${files[@]}" \
-            || fail "docs/ARCHITECTURE.md looks for $name in ${files[*]}, which do not have it"
+            || fail "$map looks for $name in ${files[*]}, which do not have it"
     done
-done < <(sed -n '/^## Symptom/,/^## What may/p' docs/ARCHITECTURE.md | grep '^| ' | tail -n +2)
+done < <(sed -n '/^## Symptom/,/^## What may/p' "$map" | grep '^| ' | tail -n +2)
 counted 40 "$rows" 'functions of the table of symptoms'
 
 verdict

@@ -86,6 +86,20 @@ tried made.mmdb gen 3000 made.mmdb
 } > large
 tried - lookup large 192.0.2.1
 
+# Marks between which nothing changed share the list of touched grounds: before the first emit of
+# 100,000 statements 10,000 of them take at most 50 MB.
+awk -v lines=120000 -f "$statistics" > many.txt
+printf 'epoch 1700000000\nstats made many.txt\nemit many.mmdb\n' > plain
+awk '/^emit/ { for (n = 0; n < 10000; n++) print "mark m" n } { print }' plain > marked
+limit=$least
+until { (ulimit -v "$limit" && exec "$program" build plain > whole 2> told); } 2> told; do
+    limit=$((limit + limit / 20))
+    [ "$limit" -lt 4000000 ] || { fail "'build plain' does not end well with $limit KiB"; break; }
+done
+(ulimit -v $((limit + 45000)) && exec "$program" build marked) > printed 2> told \
+    || fail "10,000 marks of 100,000 statements take more than 50 MB: $(cat told)"
+cmp -s whole printed || fail "10,000 marks change what is printed: $(head -c 300 printed)"
+
 seed=${SEED:-20261129} step=4
 [ -z "${ALL:-}" ] || step=1
 

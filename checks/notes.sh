@@ -10,8 +10,8 @@ count=0
 
 # rows PAGE LETTER: for each row of the table of examples the code, and then the cell.
 rows() {
-    sed -n "/^| code | .*example line/,\$s/^| \\($2[0-9][0-9]\\) | \\(.*\\) | [^|]* |\$/\\1 \\2/p" \
-        "$docs/$1"
+    sed -n '/^| code | .*example line/,/^$/p' "$docs/$1" \
+        | sed -n "s/^| \\($2[0-9][0-9]\\) | \\(.*\\) | [^|]* |\$/\\1 \\2/p"
 }
 
 # spans CELL: the lines that the cell shows, in the order in which they stand in a file. Some bytes

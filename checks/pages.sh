@@ -36,15 +36,22 @@ printf '%s\n' 'netname:        EXAMPLE-NET' 'country:        DE' \
 END
 chmod +x bin/whois
 
-# block TAG PAGE: the lines of the page's blocks of this tag.
-block() { sed -n "/^\`\`\`$1\$/,/^\`\`\`\$/p" "$top/$2" | grep -v '^```'; }
+# block TAG PAGE: the lines of the page's blocks of this tag, where `section` has the name of one of
+# its sections in that.
+block() {
+    awk -v section="$section" '
+        BEGIN { inside = section == "" }
+        section != "" && /^## / { inside = $0 == "## " section }
+        inside' "$top/$2" | sed -n "/^\`\`\`$1\$/,/^\`\`\`\$/p" | grep -v '^```'
+}
 
-# stands PAGE: a folder of its own with the examples, to run a page's commands in; they are in the
-# file `commands` there.
+# stands PAGE [SECTION]: a folder of its own with the examples, to run the commands of a page or of
+# one section in; they are in the file `commands` there.
 stands() {
     page=$1
-    cd "$work" || exit 1
-    mkdir "$(basename "$page" .md)" && cd "$(basename "$page" .md)" || exit 1
+    section=${2:-}
+    here=$(basename "$page" .md)${section:+-${section// /-}}
+    mkdir "$work/$here" && cd "$work/$here" || exit 1
     here=$PWD
     cp -r "$top/examples" .
     block sh "$page" | sed "s|/var/|$here/var/|g" > commands
@@ -118,7 +125,7 @@ for page in explain check publish census not-in-the-sources; do
     prints
 done
 
-stands docs/whole-file.md
+stands docs/tools.md 'The file as a whole'
 if /usr/bin/python3 -c 'import maxminddb.decoder' 2> /dev/null; then
     prints
     [ -s examples/realistic/map.html ] && [ -s examples/realistic/changes.html ] \
@@ -128,7 +135,7 @@ else
 fi
 
 # Firewalls: in a network of its own, with the table of the page.
-stands docs/firewalls.md
+stands docs/tools.md Firewalls
 block nft "$page" > table.nft
 for asks in 'nft list tables' 'ipset list'; do
     word=${asks%% *}
@@ -143,16 +150,18 @@ if unshare -n true 2> told; then
     [ ! -s table.nft ] || sed -i '1i nft -f table.nft' commands
     echo '[ ! -s table.nft ] || nft list table inet geo > loaded' >> commands
     prints unshare -n
-    [ ! -s table.nft ] || grep -q '192.0.2.192/26' loaded \
-        && grep -q '2001:db8::/32' loaded && grep -q 'saddr != @geo6 drop' loaded \
-        || fail "the table of $page is '$(cat loaded)'"
+    if [ -s table.nft ]; then
+        grep -q '192.0.2.192/26' loaded && grep -q '2001:db8::/32' loaded \
+            && grep -q 'saddr != @geo6 drop' loaded \
+            || fail "the table of $page is '$(cat loaded)'"
+    fi
 else
     prints
 fi
 
 # Serving: a real nginx with the block of the page finds the country, and that of the next file
 # without a reload.
-stands docs/serving.md
+stands docs/readers.md 'Into service'
 printf 'x|DE|ipv4|192.0.2.0|256||allocated\n' > s.txt
 printf 'epoch 1700000000\nstats x s.txt\nemit city.mmdb\n' > job
 "$program" build job > printed || fail "the job for $page ends with status $?"

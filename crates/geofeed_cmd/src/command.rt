@@ -48,8 +48,8 @@ use std::thread::Threads;
 /// line. The first line that cannot be done ends it, and one line on why is printed
 /// behind what was printed before.
 ///
-/// What each answer leaves is in the document on runs (`docs/run.md`): `Comes` has a case for each,
-/// and `Causes` says of the job alone when it comes.
+/// What each answer leaves is in the document on runs (`docs/inside/run.md`): `Comes` has a case
+/// for each, and `Causes` says of the job alone when it comes.
 pub fn run<R: Threads + Sync, F: Folder, O: Sink, G: Gate, L: Ledger>(
     rt: &R,
     alloc: Global,

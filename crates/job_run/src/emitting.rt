@@ -94,7 +94,7 @@ fn emitted<R: Threads + Sync, G: Gate, L: Ledger>(
     ensures grown { HasGrown session.old session.new }
     ensures done { OnOk result (HasEmitted session.old session.new) }
 {
-    match session.emit(forks, steps) {
+    match session.emit(forks.rt, forks.gate, forks.pieces, steps) {
         Ok(file) => Ok(file),
         Err(EmitFault::TooLarge) => Err(Stop::Blocked(Cause::TooLarge)),
         Err(EmitFault::Memory) => Err(Stop::Memory),

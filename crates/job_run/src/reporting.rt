@@ -1,5 +1,6 @@
 //! The report of a session, printed.
-ghost use Rattle.std.specs.Prelude.{◌≡◌, ◌⊎◌, ◌≤◌, [], IfErr, IfOk, OnOk, flat_map, string_bytes};
+ghost use Rattle.std.specs.Prelude.{◌≡◌, ◌⊎◌, ◌≤◌, [], ◌++◌, IfErr, IfOk, OnOk, decimal, flat_map};
+ghost use Rattle.std.specs.Prelude.{length, string_bytes};
 ghost use Rattle.geo_outside.specs.Count.{Rose};
 ghost use Rattle.geo_terms.specs.NoteText.{note_line};
 ghost use Rattle.geo_terms.specs.Report.{report};
@@ -11,7 +12,7 @@ use crate::printing::print;
 use crate::stop::Stop;
 use geo_addr::{Memory, Text};
 use geo_outside::Sink;
-use geo_terms::{Note, note_text};
+use geo_terms::Note;
 use std::alloc::Global;
 use update_session::Session;
 
@@ -43,26 +44,71 @@ fn session_text(alloc: Global, session: &Session) -> Result<Text, Memory>
     report_text(alloc, notes.as_slice())
 }
 
-/// The text of a report with these notes.
+/// The text of a report with these notes, in one block whose size is reckoned ahead.
 #[tactic(auto, unfolding(crate::specs::Acts::report_text))]
 fn report_text(alloc: Global, notes: &[Note]) -> Result<Text, Memory>
     ensures { IfOk result (λ text. text ≡ report_text notes.now) }
 {
-    let lines = note_lines(alloc, notes)?;
+    let mut text = String::with_capacity(alloc, text_len(notes))?;
+    push_lines(notes, &mut text)?;
     let count = notes.len();
-    let text = format!(in alloc; "{lines}notes {count}\n")?;
+    write!(text, "notes {count}\n")?;
     let text = Text::from_string(text)?;
     Ok(text)
 }
 
-/// The lines of the notes.
-fn note_lines(alloc: Global, notes: &[Note]) -> Result<String, Memory>
-    ensures { IfOk result (λ lines. string_bytes lines ≡ flat_map note_line notes.now) }
+/// Puts the lines of the notes behind a text.
+fn push_lines(notes: &[Note], text: &mut String) -> Result<(), Memory>
+    ensures { OnOk result
+        (string_bytes text.new ≡ string_bytes text.old ++ flat_map note_line notes.now) }
 {
-    let mut lines = String::new(alloc);
     for note in notes {
-        let line = note_text(alloc, note)?;
-        lines.push_str(line.as_str())?;
+        push_line(note, text)?;
     }
-    Ok(lines)
+    Ok(())
+}
+
+/// Puts the line of a note behind a text.
+#[tactic(auto, unfolding(geo_terms::specs::NoteText::note_line))]
+fn push_line(note: &Note, text: &mut String) -> Result<(), Memory>
+    ensures { OnOk result (string_bytes text.new ≡ string_bytes text.old ++ note_line note.now) }
+{
+    let kind = note.origin.kind();
+    let name = note.origin.name();
+    let line = note.line;
+    let code = note.rule.code();
+    write!(text, "{kind} {name} {line} {code}\n")?;
+    Ok(())
+}
+
+/// How many bytes the text of a report with these notes takes.
+fn text_len(notes: &[Note]) -> usize {
+    let mut len = "notes \n".len() + digits(notes.len() as u64);
+    for note in notes {
+        len = len.saturating_add(line_len(note));
+    }
+    len
+}
+
+/// How many bytes the line of a note takes, with its three blanks and its line feed.
+fn line_len(note: &Note) -> usize {
+    let kind = note.origin.kind().len();
+    let name = note.origin.name().len();
+    let words = kind
+        .saturating_add(name)
+        .saturating_add(note.rule.code().len());
+    words
+        .saturating_add(digits(note.line))
+        .saturating_add("   \n".len())
+}
+
+/// How many digits a number has.
+fn digits(number: u64) -> usize
+    ensures enough { length (decimal number) ≤ result }
+    ensures few { result ≤ 20 }
+{
+    match number.checked_ilog10() {
+        Some(log) => log as usize + 1,
+        None => 1,
+    }
 }

@@ -89,7 +89,7 @@ impl FullValues {
         if number >= MOST_NUMBERS {
             return Err(Memory);
         }
-        // A spelling in the map takes no slot, so those who crowd it do not have the table made anew.
+        // A spelling in the map takes no slot, so whoever crowds it has no table made anew.
         let taken = number.saturating_sub(self.others.len());
         if self.slots.len() < 2 * taken + 2 {
             let (slots, others) = table_of(self.alloc, self.list.as_slice())?;

@@ -1,6 +1,7 @@
 -- The row at an index among those of several files, by where the rows of each file start.
 use Rattle.std.proofs.Common.{◌≡◌, ◌∙◌, ℕ, zero, suc, ◌+◌, ◌-◌, ◌<◌, ◌≤◌, ◌++◌, List}
-use Rattle.std.proofs.Common.{[], ◌∷◌, append-nil, append_assoc, get_or, length, refl, sym, ap, arith}
+use Rattle.std.proofs.Common.{[], ◌∷◌, append-nil, append_assoc, get_or, length}
+use Rattle.std.proofs.Common.{refl, sym, ap, arith}
 use Rattle.std.proofs.Common.{slice_get, subst}
 use Rattle.std.specs.List.{flat_map}
 use Rattle.std.specs.List.Sorted.{IsNonDecreasing, IsPartitionPoint}
@@ -85,7 +86,8 @@ row_found ts starts begun at index are last within have =
     option_and_then (λ (t : StatsParts). slice_get t.rows (index - get_or ns at 0))
     (slice_get ts at)) are
     ∙ row_found_from ts 0 at index
-    (subst (λ (ns : List ℕ). suc at ≤ length ns) are (subst (λ (n : ℕ). n ≤ length starts) last within))
+    (subst (λ (ns : List ℕ). suc at ≤ length ns) are
+    (subst (λ (n : ℕ). n ≤ length starts) last within))
     (subst (λ (ns : List ℕ). HaveBegun index ns (suc at)) are
     (subst (HaveBegun index starts) last have))
     ∙ ap (slice_get (all_rows ts)) zero
@@ -98,8 +100,9 @@ none_found (t ∷ ts) index have =
     let none : index < 0 = have.1 0 0 (omega arith) (omega arith) in absurd (omega arith)
 
 -- the start of one file more
-pub one_more_start : (starts new all : List ℕ) (n m : ℕ) (t : StatsParts) (left ts : List StatsParts)
-    → left ≡ t ∷ ts → m ≡ n + length t.rows → starts ++ starts_from n left ≡ all
+pub one_more_start : (starts new all : List ℕ) (n m : ℕ) (t : StatsParts)
+    (left ts : List StatsParts) → left ≡ t ∷ ts → m ≡ n + length t.rows
+    → starts ++ starts_from n left ≡ all
     → new ≡ starts ++ n ∷ [] → new ++ starts_from m ts ≡ all
 one_more_start starts new all n m t left ts here is before put =
     ap (λ (ns : List ℕ). ns ++ starts_from m ts) put

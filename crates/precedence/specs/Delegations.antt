@@ -1,5 +1,6 @@
 -- What is kept of the delegations of several files.
-use Rattle.std.specs.Prelude.{◌≡◌, ℕ, ◌+◌, ⊤, List, [], ◌∷◌, Option, Some, None, flat_map, length, map}
+use Rattle.std.specs.Prelude.{◌≡◌, ℕ, ◌+◌, ⊤, List, [], ◌∷◌, Option}
+use Rattle.std.specs.Prelude.{Some, None, flat_map, length, map}
 use Rattle.std.specs.Arc.{arc_value}
 use Rattle.std.specs.declared.sync.Arc.{Arc}
 use Rattle.geo_terms.specs.Precedence.{delegation_cmp}
@@ -28,6 +29,7 @@ module _ {Z : Type 0} where
   AreIndexed stats (Some made) = IsIndex stats (arc_value made)
 
   -- what is kept where these files are in force
-  pub record AreFiles (files : List (Arc StatsParts Z)) (kept : Option (Arc Delegations Z)) : Type 0 where
+  pub record AreFiles (files : List (Arc StatsParts Z)) (kept : Option (Arc Delegations Z))
+      : Type 0 where
     pub slots : AreInOrder slot_of files
     pub made : AreIndexed (map arc_value files) kept

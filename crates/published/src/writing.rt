@@ -92,7 +92,7 @@ fn feed_of<R: Threads + Sync, G: Gate, L: Ledger>(
     ensures grown { HasGrown session.old session.new }
     ensures done { OnOk result (HasEmitted session.old session.new) }
 {
-    match session.build_tree(forks, steps) {
+    match session.build_tree(forks.rt, forks.gate, forks.pieces, steps) {
         Ok(_) => {}
         Err(EmitFault::TooLarge) => return Err(Stop::Blocked(Cause::TooLarge)),
         Err(EmitFault::Memory) => return Err(Stop::Memory),

@@ -1,6 +1,7 @@
 -- What a search by halving for a name tells of a shelf, and what is put in or taken out by it.
 use Rattle.std.proofs.Common.{◌≡◌, ℕ, zero, suc, ◌<◌, ◌≤◌, true, false, cond, not, List, [], ◌∷◌}
-use Rattle.std.proofs.Common.{length, get_or, set, Option, Some, None, Ok, Err, slice_get, refl, sym}
+use Rattle.std.proofs.Common.{length, get_or, set, Option, Some, None, Ok}
+use Rattle.std.proofs.Common.{Err, slice_get, refl, sym}
 use Rattle.std.proofs.Common.{ap, ◌∙◌, subst, arith}
 use Rattle.std.proofs.lemmas.Option.{slice_get-get_or}
 use Rattle.std.specs.List.{find, insert, remove}

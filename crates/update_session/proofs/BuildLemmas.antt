@@ -1,6 +1,6 @@
 -- What a root answers after the segments were painted on it.
 use Rattle.std.proofs.Common.{◌≡◌, ℕ, zero, suc, ◌+◌, ◌*◌, ◌^◌, ◌<◌, ◌≤◌, Bool, true, false, cond}
-use Rattle.std.proofs.Common.{◌&&◌, leb, List, [], ◌∷◌, ◌++◌, length, map, get_or}
+use Rattle.std.proofs.Common.{◌&&◌, leb, eqb, List, [], ◌∷◌, ◌++◌, length, map, get_or}
 use Rattle.std.proofs.Common.{Option, Some, None, refl, sym, ap, ◌∙◌, subst, arith}
 use Rattle.std.proofs.Common.{length-append, append_assoc, append-nil}
 use Rattle.std.specs.Prelude.{slice_get}
@@ -50,19 +50,25 @@ GrowsBy-trans x y z m n all (more, y-is, few) (late, z-is, few') le = (
   omega (arith, few, few', le, length-append more late),
 )
 
--- an emit gives numbers to no more places than the segments are, and paints no more parts
+-- where something is touched, an emit gives numbers to no more places than the segments are,
+-- and paints no more parts
 pub few_places_of : (s : InForce) (touched segments : List Ends) (n : ℕ)
-    (before after : List PlaceParts) → AreSteady s touched segments → n ≡ length segments
-    → GrowsBy before after n → GrowsBy before after (few_places touched s)
+    (before after : List PlaceParts) → eqb (length touched) 0 ≡ false
+    → AreSteady s touched segments → n ≡ length segments → GrowsBy before after n
+    → GrowsBy before after (few_places touched s)
 unfolding few_places
-few_places_of s touched segments n before after steady is (more, after-is, few) =
+few_places_of s [] segments n before after some steady is grown =
+    absurd (let this : true ≡ false = some in cc)
+few_places_of s (r ∷ rs) segments n before after some steady is (more, after-is, few) =
     (more, after-is, omega (arith, few, is, steady.few))
 
 pub few_parts : (s : InForce) (touched segments : List Ends) (ps : List Part)
-    → AreSteady s touched segments → map (λ p. p.range) ps ≡ segments
+    → eqb (length touched) 0 ≡ false → AreSteady s touched segments
+    → map (λ p. p.range) ps ≡ segments
     → 256 * length ps + 256 ≤ bound touched s
 unfolding bound few_places
-few_parts s touched segments ps steady ranges =
+few_parts s [] segments ps some steady ranges = absurd (let this : true ≡ false = some in cc)
+few_parts s (r ∷ rs) segments ps some steady ranges =
     omega (arith, sym (length-map ps (λ (p : Part). p.range)) ∙ ap length ranges, steady.few)
 
 pub Answers-grown : (pairs : List Pair) (before after : List PlaceParts)

@@ -144,7 +144,9 @@ length-edges (r ∷ rs) = omega (arith, length-edges rs)
 pub bound_by_statements : (touched : List Ends) (s : InForce)
     → bound touched s ≤ 256 * (length touched + 2 * length (statement_ranges s) + 1)
 unfolding bound few_places touch
-bound_by_statements touched s =
+bound_by_statements [] s = omega arith
+bound_by_statements (r ∷ more) s =
+    let touched : List Ends = r ∷ more in
     let rs : List Ends = statement_ranges s in
     let kept_are : length (filter (is_touched touched) (edges rs))
     ≡ count_by (is_touched touched) (edges rs) = length-filter (is_touched touched) (edges rs) in
@@ -172,8 +174,13 @@ touch-moved order xs ys all moved =
 pub few_places-moved : OrderDoesNotMatter → (xs ys : List Ends) (s : InForce) → IsPermutation xs ys
     → few_places ys s ≡ few_places xs s
 unfolding few_places
-few_places-moved order xs ys s moved =
-    ap (λ n. n + 1) (touch-moved order xs ys (statement_ranges s) moved)
+few_places-moved order [] [] s moved = refl
+few_places-moved order [] (y ∷ ys) s moved =
+    let alike : suc (length ys) ≡ 0 = (order [] (y ∷ ys) moved).0 in absurd (omega (arith, alike))
+few_places-moved order (x ∷ xs) [] s moved =
+    let alike : 0 ≡ suc (length xs) = (order (x ∷ xs) [] moved).0 in absurd (omega (arith, alike))
+few_places-moved order (x ∷ xs) (y ∷ ys) s moved =
+    ap (λ n. n + 1) (touch-moved order (x ∷ xs) (y ∷ ys) (statement_ranges s) moved)
 
 pub bound-moved : OrderDoesNotMatter → (xs ys : List Ends) (s : InForce) → IsPermutation xs ys
     → bound ys s ≡ bound xs s

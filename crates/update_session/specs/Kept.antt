@@ -1,5 +1,6 @@
 -- What a session keeps from one emit to the next, and what its root answers.
-use Rattle.std.specs.Prelude.{◌≡◌, ℕ, ◌^◌, ◌<◌, ◌≤◌, false, List, ◌++◌, length, Option, Some}
+use Rattle.std.specs.Prelude.{◌≡◌, ℕ, ⊤, ◌^◌, ◌<◌, ◌≤◌, false, List, ◌++◌, length, Option}
+use Rattle.std.specs.Prelude.{None, Some}
 use Rattle.std.specs.List.{AllByRecursion}
 use Rattle.geo_addr.specs.Ranges.{Ends}
 use Rattle.geo_terms.specs.Alias.{is_alias}
@@ -60,6 +61,11 @@ pub record IsBased (s : InForce) (pairs : List Pair) (places : List PlaceParts) 
 abbrev pub AreBased : List Pair → List PlaceParts → List Mark → Type 0
 AreBased pairs places marks =
     AllByRecursion (λ m. IsBased m.sources pairs places m.root m.touched) marks
+
+-- what is noted of the touched grounds, if anything is, is these grounds
+abbrev pub IsNoted : Option (List Ends) → List Ends → Type 0
+IsNoted None touched = ⊤
+IsNoted (Some noted) touched = noted ≡ touched
 
 -- what holds of every session
 pub record IsSession (s : InForce) (pairs : List Pair) (places : List PlaceParts) (root : Root)

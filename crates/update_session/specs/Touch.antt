@@ -1,5 +1,5 @@
 -- How much an emit touches.
-use Rattle.std.specs.Prelude.{ℕ, ◌+◌, ◌*◌, List, [], length, flat_map, filter, nat_eq}
+use Rattle.std.specs.Prelude.{ℕ, ◌+◌, ◌*◌, List, [], ◌∷◌, length, flat_map, filter, nat_eq}
 use Rattle.geo_addr.specs.Ranges.{Ends, edges_of}
 use Rattle.geo_terms.specs.Cuts.{statement_ranges}
 use Rattle.geo_terms.specs.Sources.{InForce}
@@ -15,9 +15,10 @@ edges ranges = each_once nat_eq [] (flat_map edges_of ranges)
 unfoldable pub touch : (changed all : List Ends) → ℕ
 touch changed all = length changed + length (filter (is_touched changed) (edges all))
 
--- the most places that an emit gives numbers to
+-- the most places that an emit gives numbers to: none where nothing is touched
 unfoldable pub few_places : (touched : List Ends) → InForce → ℕ
-few_places touched s = touch touched (statement_ranges s) + 1
+few_places [] s = 0
+few_places (r ∷ rs) s = touch (r ∷ rs) (statement_ranges s) + 1
 
 -- the most steps that an emit takes, and the most nodes that it makes
 unfoldable pub bound : (touched : List Ends) → InForce → ℕ

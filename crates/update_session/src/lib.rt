@@ -7,6 +7,7 @@ mod build;
 mod choosing;
 mod compacting;
 mod fault;
+mod grounds;
 pub mod laws;
 mod marking;
 mod marks;

@@ -1,7 +1,8 @@
 //! The calls that mark a session and go back to a mark.
 
 use crate::fault::BackFault;
-use crate::marks::{copied, find_mark, make_mark, put_mark};
+use crate::grounds::{copied, listed};
+use crate::marks::{find_mark, make_mark, put_mark};
 use crate::session::Session;
 use geo_addr::Memory;
 
@@ -14,14 +15,17 @@ impl Session {
     /// Marks the sources in force, to go back to them, and with them what the next emit rests on. A
     /// mark of the same name is replaced.
     ///
-    /// The sources are shared: a mark costs their number and that of the touched grounds.
+    /// The sources are shared, so a mark costs their number, and that of the touched grounds where
+    /// these changed since the last mark.
     pub fn mark(&mut self, name: &str) -> Result<(), Memory>
         ensures ok { OnOk result (HasMarked name.now self.old self.new) }
         ensures err { OnErr result (self.new ≡ self.old) }
     {
-        let touched = self.touched.as_slice();
+        let grounds = listed(self.alloc, &self.noted, self.touched.as_slice())?;
+        let touched = grounds.share()?;
         let mark = make_mark(self.alloc, name, &self.sources, self.root, touched)?;
         put_mark(&mut self.marks, mark)?;
+        self.noted = Some(grounds);
         Ok(())
     }
 
@@ -38,10 +42,12 @@ impl Session {
         };
         let root = mark.root;
         let touched = copied(self.alloc, mark.touched.as_slice())?;
+        let noted = mark.touched.share()?;
         let sources = mark.sources.snapshot()?;
         self.sources = sources;
         self.root = root;
         self.touched = touched;
+        self.noted = Some(noted);
         Ok(())
     }
 }

@@ -5,7 +5,8 @@ ghost use Rattle.geo_terms.specs.PlaceForm.{same_text};
 ghost use Rattle.source_changes.specs.Changes.{named};
 ghost use Rattle.update_session.specs.Marks.{with_one, with_roots};
 
-use geo_addr::{List, Memory, Range, Text};
+use crate::grounds::Grounds;
+use geo_addr::{Memory, Text};
 use precedence::Sources;
 use std::alloc::Global;
 use trie_core::Root;
@@ -16,38 +17,28 @@ pub(crate) struct Mark {
     pub(crate) name: Text,
     pub(crate) sources: Sources,
     pub(crate) root: Root,
-    pub(crate) touched: List<Range>,
+    pub(crate) touched: Grounds,
 }
 
-/// A mark of this name. The sources are shared; the grounds are copied.
+/// A mark of this name. The sources and the grounds are shared.
 pub(crate) fn make_mark(
     alloc: Global,
     name: &str,
     sources: &Sources,
     root: Root,
-    touched: &[Range],
+    touched: Grounds,
 ) -> Result<Mark, Memory>
     ensures { IfOk result (λ mark. mark
-        ≡ record { name = name.now; sources = sources.now; root = root; touched = touched.now }) }
+        ≡ record { name = name.now; sources = sources.now; root = root; touched = touched }) }
 {
     let name = Text::of(alloc, name)?;
     let sources = sources.snapshot()?;
-    let touched = List::of(copied(alloc, touched)?);
     Ok(Mark {
         name,
         sources,
         root,
         touched,
     })
-}
-
-/// The same grounds in a list of their own.
-pub(crate) fn copied(alloc: Global, grounds: &[Range]) -> Result<Vec<Range>, Memory>
-    ensures { IfOk result (λ copy. copy.items ≡ grounds.now) }
-{
-    let mut copy = Vec::with_capacity(alloc, grounds.len())?;
-    copy.extend_from_slice(grounds)?;
-    Ok(copy)
 }
 
 // Where the mark of a name stands.

@@ -2,6 +2,7 @@
 
 use crate::build::repaint;
 use crate::fault::EmitFault;
+use crate::grounds::Grounds;
 use crate::marks::Mark;
 use crate::write::{means_records, write};
 use fan_work::Forks;
@@ -29,12 +30,14 @@ pub struct Session {
     pub(crate) places: Places,
     pub(crate) root: Root,
     pub(crate) touched: Vec<Range>,
+    // The touched grounds in the list of the last mark, if they have not changed since.
+    pub(crate) noted: Option<Grounds>,
     pub(crate) marks: Vec<Mark>,
 }
 
 impl Model for Session {
     ghost use Rattle.std.specs.Prelude.{◌≤◌, length};
-    ghost use Rattle.update_session.specs.Kept.{Held, IsSession};
+    ghost use Rattle.update_session.specs.Kept.{Held, IsNoted, IsSession};
 
     ghost Value = { Held };
 
@@ -47,13 +50,14 @@ impl Model for Session {
       marks = s.marks.items;
     } };
 
-    ghost invariant = { λ s. (length s.meta.name ≤ 64)
+    ghost invariant = { λ s. ((length s.meta.name ≤ 64) × IsNoted s.noted s.touched.items)
         × IsSession s.sources s.store s.places s.root s.touched.items s.marks.items };
 }
 
 impl Session {
     ghost use Rattle.std.specs.Prelude.{◌≡◌, ◌⊎◌, ◌≤◌, ◌<◌, ◌+◌, ◌^◌, ℕ, List, Option, [], length};
     ghost use Rattle.std.specs.Prelude.{IfOk, OnOk, OnErr, IsTrue, Some, Ok, Err, option_map};
+    ghost use Rattle.fan_work.specs.declared.forks.TheConstants.{MOST_PIECES};
     ghost use Rattle.geo_addr.specs.Bits.{bits_of};
     ghost use Rattle.geo_terms.specs.PlaceForm.{PlaceParts};
     ghost use Rattle.geo_terms.specs.Precedence.{reasons_at, record_at};
@@ -87,6 +91,7 @@ impl Session {
             places: Places::new(alloc),
             root,
             touched: Vec::new(alloc),
+            noted: None,
             marks: Vec::new(alloc),
         })
     }
@@ -115,14 +120,19 @@ impl Session {
     /// The file of a fresh build of the sources in force.
     ///
     /// What was touched since the last emit is painted into its tree, so the work of an emit
-    /// follows what changed. What is said of the segments is looked up by pieces side by side.
+    /// follows what changed. What is said of the segments is looked up by so many pieces side by
+    /// side, each of which enters the gate.
     /// Nodes and places that a refused emit made stay.
     #[tactic(auto, unfolding(crate::specs::Touch::bound))]
     pub fn emit<R: Threads + Sync, G: Gate, L: Ledger>(
         &mut self,
-        forks: &Forks<R, G>,
+        rt: &R,
+        gate: &G,
+        pieces: u32,
         steps: &mut Steps<L>,
     ) -> Result<Emitted, EmitFault>
+        requires some { 0 < pieces }
+        requires few { pieces ≤ MOST_PIECES }
         ensures file { IfOk result (λ file. file_of self.old.state ≡ Some (value_of file)) }
 
         // Whoever follows the public standard through the bytes comes to the
@@ -149,8 +159,15 @@ impl Session {
         // With nothing touched no step is taken and nothing is made.
         ensures idle { self.old.touched ≡ [] → (self.new ≡ self.old) × (steps.new ≡ steps.old) }
     {
+        let alloc = self.alloc;
+        let forks = Forks {
+            rt,
+            alloc,
+            gate,
+            pieces,
+        };
         let root = repaint(
-            forks,
+            &forks,
             &mut self.sources,
             self.touched.as_slice(),
             &mut self.store,
@@ -161,6 +178,7 @@ impl Session {
         let file = write(self.alloc, &self.store, &self.places, root, &self.meta)?;
         self.root = root;
         self.touched.clear();
+        self.noted = None;
         Ok(file)
     }
 
@@ -168,9 +186,13 @@ impl Session {
     #[tactic(auto, unfolding(crate::specs::Touch::bound))]
     pub fn build_tree<R: Threads + Sync, G: Gate, L: Ledger>(
         &mut self,
-        forks: &Forks<R, G>,
+        rt: &R,
+        gate: &G,
+        pieces: u32,
         steps: &mut Steps<L>,
     ) -> Result<Root, EmitFault>
+        requires some { 0 < pieces }
+        requires few { pieces ≤ MOST_PIECES }
         ensures root { IfOk result (λ root. self.new.root ≡ root) }
         ensures too_large { result ≡ Err EmitFault.TooLarge → IsSpent self.old }
         ensures ticks { steps.old ≤ steps.new }
@@ -180,8 +202,15 @@ impl Session {
         ensures err { OnErr result (IsAsBefore self.old self.new) }
         ensures idle { self.old.touched ≡ [] → (self.new ≡ self.old) × (steps.new ≡ steps.old) }
     {
+        let alloc = self.alloc;
+        let forks = Forks {
+            rt,
+            alloc,
+            gate,
+            pieces,
+        };
         let root = repaint(
-            forks,
+            &forks,
             &mut self.sources,
             self.touched.as_slice(),
             &mut self.store,
@@ -191,6 +220,7 @@ impl Session {
         )?;
         self.root = root;
         self.touched.clear();
+        self.noted = None;
         Ok(root)
     }
 

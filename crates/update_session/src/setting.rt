@@ -33,6 +33,7 @@ impl Session {
         make_room(&mut self.touched, &grounds)?;
         self.sources.set_rpsl(dump)?;
         add(&mut self.touched, grounds);
+        self.noted = None;
         Ok(())
     }
 
@@ -55,6 +56,7 @@ impl Session {
         make_room(&mut self.touched, &grounds)?;
         self.sources.drop_rpsl(slot)?;
         add(&mut self.touched, grounds);
+        self.noted = None;
         Ok(())
     }
 
@@ -81,6 +83,7 @@ impl Session {
         make_room(&mut self.touched, &grounds)?;
         self.sources.set_ready_feed(ready)?;
         add(&mut self.touched, grounds);
+        self.noted = None;
         Ok(())
     }
 
@@ -103,6 +106,7 @@ impl Session {
         make_room(&mut self.touched, &grounds)?;
         self.sources.drop_feed(url)?;
         add(&mut self.touched, grounds);
+        self.noted = None;
         Ok(())
     }
 
@@ -120,6 +124,7 @@ impl Session {
         make_room(&mut self.touched, &grounds)?;
         self.sources.set_stats(stats)?;
         add(&mut self.touched, grounds);
+        self.noted = None;
         Ok(())
     }
 
@@ -142,6 +147,7 @@ impl Session {
         make_room(&mut self.touched, &grounds)?;
         self.sources.drop_stats(slot)?;
         add(&mut self.touched, grounds);
+        self.noted = None;
         Ok(())
     }
 
@@ -157,6 +163,7 @@ impl Session {
         make_room(&mut self.touched, &grounds)?;
         self.sources.set_overrides(rows)?;
         add(&mut self.touched, grounds);
+        self.noted = None;
         Ok(())
     }
 
@@ -178,6 +185,7 @@ impl Session {
         make_room(&mut self.touched, &grounds)?;
         self.sources.drop_overrides()?;
         add(&mut self.touched, grounds);
+        self.noted = None;
         Ok(())
     }
 }

@@ -44,7 +44,7 @@ fn counted<R: Threads + Sync, G: Gate, L: Ledger>(
     requires some { 0 < blank.parts }
 {
     let mut steps: Steps<L> = Steps::new(blank);
-    session.emit(forks, &mut steps)
+    session.emit(forks.rt, forks.gate, forks.pieces, &mut steps)
 }
 
 // The file of the sources in force.

@@ -34,7 +34,8 @@ returns-in_err-file c =
     let last : c.begun.result ≡ suc c.in_ok-at.at = omega (arith, c.in_ok-at.ensures) in
     ap option_copied c.from_residual-in_err-file.ensures
     ∙ ap (option_and_then
-    (λ (t : StatsParts). slice_get t.rows (c.args.index - get_or c.args.starts.now c.in_ok-at.at 0)))
+    (λ (t : StatsParts). slice_get t.rows
+    (c.args.index - get_or c.args.starts.now c.in_ok-at.at 0)))
     (c.in_err-file.ensures ∙ sym (slice_get-map (arc_value {X = StatsParts}) c.args.files.now
     c.in_ok-at.at))
     ∙ row_found (map arc_value c.args.files.now) c.args.starts.now c.begun.result c.in_ok-at.at
@@ -45,7 +46,8 @@ returns c =
     let last : c.begun.result ≡ suc c.in_ok-at.at = omega (arith, c.in_ok-at.ensures) in
     c.row_at.ensures
     ∙ ap (option_and_then
-    (λ (t : StatsParts). slice_get t.rows (c.args.index - get_or c.args.starts.now c.in_ok-at.at 0)))
+    (λ (t : StatsParts). slice_get t.rows
+    (c.args.index - get_or c.args.starts.now c.in_ok-at.at 0)))
     (c.in_ok-file.ensures ∙ sym (slice_get-map (arc_value {X = StatsParts}) c.args.files.now
     c.in_ok-at.at))
     ∙ row_found (map arc_value c.args.files.now) c.args.starts.now c.begun.result c.in_ok-at.at

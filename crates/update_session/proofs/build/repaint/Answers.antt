@@ -48,17 +48,20 @@ returns-clause-answers g c =
 pub returns-in_err-parts-clause-places : goal.returns-in_err-parts-clause-places
 returns-in_err-parts-clause-places g c =
     few_places_of c.args.sources.now c.args.touched.now c.in_ok-segments.segments.items _ _ _
-    c.in_ok-segments.ensures.segments (ap length c.as_slice.ensures.value) c.numbered.ensures.places
+    (sym c.is_empty.ensures ∙ c.if-is_empty.false) c.in_ok-segments.ensures.segments
+    (ap length c.as_slice.ensures.value) c.numbered.ensures.places
 
 pub returns-in_err-painted-clause-places : goal.returns-in_err-painted-clause-places
 returns-in_err-painted-clause-places g c =
     few_places_of c.args.sources.now c.args.touched.now c.in_ok-segments.segments.items _ _ _
-    c.in_ok-segments.ensures.segments (ap length c.as_slice.ensures.value) c.numbered.ensures.places
+    (sym c.is_empty.ensures ∙ c.if-is_empty.false) c.in_ok-segments.ensures.segments
+    (ap length c.as_slice.ensures.value) c.numbered.ensures.places
 
 pub returns-clause-places : goal.returns-clause-places
 returns-clause-places g c =
     few_places_of c.args.sources.now c.args.touched.now c.in_ok-segments.segments.items _ _ _
-    c.in_ok-segments.ensures.segments (ap length c.as_slice.ensures.value) c.numbered.ensures.places
+    (sym c.is_empty.ensures ∙ c.if-is_empty.false) c.in_ok-segments.ensures.segments
+    (ap length c.as_slice.ensures.value) c.numbered.ensures.places
 
 pub returns-in_err-painted-clause-few_ticks : goal.returns-in_err-painted-clause-few_ticks
 returns-in_err-painted-clause-few_ticks g c =
@@ -68,7 +71,7 @@ returns-in_err-painted-clause-few_ticks g c =
     omega (
       arith,
       few_parts c.args.sources.now c.args.touched.now _ c.as_slice-2.result.now
-          c.in_ok-segments.ensures.segments ranges,
+          (sym c.is_empty.ensures ∙ c.if-is_empty.false) c.in_ok-segments.ensures.segments ranges,
       c.paint.ensures.few_ticks,
     )
 
@@ -80,7 +83,7 @@ returns-clause-few_ticks g c =
     omega (
       arith,
       few_parts c.args.sources.now c.args.touched.now _ c.as_slice-2.result.now
-          c.in_ok-segments.ensures.segments ranges,
+          (sym c.is_empty.ensures ∙ c.if-is_empty.false) c.in_ok-segments.ensures.segments ranges,
       c.paint.ensures.few_ticks,
       c.with_aliases.ensures.few_ticks,
     )

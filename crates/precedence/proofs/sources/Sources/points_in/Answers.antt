@@ -31,7 +31,8 @@ push_inside-requires-clause-ascending c =
 pub push_inside-requires-2-clause-ascending : goal.push_inside-requires-2-clause-ascending
 push_inside-requires-2-clause-ascending c =
     (subst (AreCutsOf (rows_of c.self.inside.statistics))
-    (sym (c.as_slice-2.ensures.value ∙ ap (λ (k : Delegations). k.index.cuts.items) c.deref-2.ensures))
+    (sym (c.as_slice-2.ensures.value
+    ∙ ap (λ (k : Delegations). k.index.cuts.items) c.deref-2.ensures))
     c.in_ok-delegations.ensures.index.cuts).ascending
 
 pub returns-clause-exact : goal.returns-clause-exact
@@ -58,7 +59,8 @@ returns-clause-exact c =
     gathered (refs ++ ents) dels c.args.bounds.now c.as_slice-2.result.now
     c.push_feeds_inside.new.cuts.items c.push_inside-2.new.found.items second
     (subst (AreCutsOf dels)
-    (sym (c.as_slice-2.ensures.value ∙ ap (λ (k : Delegations). k.index.cuts.items) c.deref-2.ensures))
+    (sym (c.as_slice-2.ensures.value
+    ∙ ap (λ (k : Delegations). k.index.cuts.items) c.deref-2.ensures))
     c.in_ok-delegations.ensures.index.cuts) c.in_ok-push_inside-2.ensures in
     let all : AreCutsInside
     (((refs ++ ents) ++ dels) ++ rows) c.args.bounds.now c.push_inside-3.new.found.items =

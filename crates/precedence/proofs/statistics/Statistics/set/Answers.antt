@@ -10,7 +10,8 @@ use Rattle.precedence.proofs.statistics.Statistics.set.Goals as goal
 
 pub invariant_of-self : goal.invariant_of-self
 invariant_of-self c =
-    subst (λ ts. AreFiles ts c.self.inside.delegations) (sym c.in_err-old.ensures.err) c.self.invariant
+    subst (λ ts. AreFiles ts c.self.inside.delegations) (sym c.in_err-old.ensures.err)
+    c.self.invariant
 
 pub invariant_of-self-2 : goal.invariant_of-self-2
 invariant_of-self-2 c = record { slots = c.put.ensures.order; made = tt }

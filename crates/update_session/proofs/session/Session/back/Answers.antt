@@ -18,7 +18,7 @@ invariant_of-self c =
     (λ m. IsBased m.sources c.self.inside.store c.self.inside.places m.root m.touched)
     c.args.name.now c.self.inside.marks.items c.in-Some.mark.now c.self.invariant.1.marks found in
     let touched = c.in_ok-touched.ensures ∙ c.as_slice-2.ensures in (
-      c.self.invariant.0,
+      (c.self.invariant.0.0, c.in_ok-noted.ensures ∙ sym touched),
       record {
         now =
             subst (λ (s : InForce). IsBased s c.self.inside.store c.self.inside.places

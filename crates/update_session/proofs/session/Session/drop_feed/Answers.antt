@@ -16,7 +16,7 @@ invariant_of-self-2 c =
     (changes (DropFeed c.args.url.now) c.self.inside.sources) c.in_ok-grounds.grounds.items =
     subst (λ (xs : List Entry). IsPermutation (entry_changes xs []) c.in_ok-grounds.grounds.items)
     old c.in_ok-grounds.ensures in (
-      c.self.invariant.0,
+      (c.self.invariant.0.0, tt),
       IsSession-changed c.sources_stay.ensures c.kept_by_one_more.ensures c.self.inside.sources
           c.drop_feed.new.self (DropFeed c.args.url.now) _ _ _ c.self.inside.touched.items
           c.add.new.touched.items c.in_ok-grounds.grounds.items _

@@ -15,7 +15,7 @@ invariant_of-self-2 c =
     (changes DropOverrides c.self.inside.sources) c.in_ok-grounds.grounds.items =
     subst (λ (xs : List Override). IsPermutation (override_changes xs [])
     c.in_ok-grounds.grounds.items) old c.in_ok-grounds.ensures in (
-      c.self.invariant.0,
+      (c.self.invariant.0.0, tt),
       IsSession-changed c.sources_stay.ensures c.kept_by_one_more.ensures c.self.inside.sources
           c.drop_overrides.new.self (DropOverrides) _ _ _ c.self.inside.touched.items
           c.add.new.touched.items c.in_ok-grounds.grounds.items _

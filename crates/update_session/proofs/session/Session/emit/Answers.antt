@@ -51,7 +51,7 @@ returns-clause-fewest g c =
 
 pub invariant_of-self-2 : goal.invariant_of-self-2
 invariant_of-self-2 g c = (
-  c.self.invariant.0,
+  (c.self.invariant.0.0, tt),
   subst (λ (s : InForce). IsSession s c.repaint.new.store c.repaint.new.places c.in_ok-root.root
       c.clear.new.self.items c.self.inside.marks.items) (sym c.repaint.ensures.same)
       (IsSession-emitted _ _ _ _ _ _ _ _ _ _ _ _ c.repaint.ensures.grows c.repaint.ensures.places

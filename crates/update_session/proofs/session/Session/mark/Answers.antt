@@ -7,17 +7,18 @@ use Rattle.update_session.proofs.session.Session.mark.Goals as goal
 
 pub invariant_of-self-2 : goal.invariant_of-self-2
 invariant_of-self-2 c =
+    let grounds = c.in_ok-grounds.ensures ∙ c.as_slice.ensures.value in
     let is = c.in_ok-mark.ensures ∙ ap (λ (rs : List Ends). record {
       name = c.args.name.now;
       sources = c.self.inside.sources;
       root = c.self.inside.root;
       touched = rs;
-    }) c.as_slice-touched.ensures.value in
+    }) (c.in_ok-touched.ensures ∙ grounds) in
     let one : IsBased c.in_ok-mark.mark.sources c.self.inside.store c.self.inside.places
     c.in_ok-mark.mark.root c.in_ok-mark.mark.touched =
     subst (λ (m : Mark). IsBased m.sources c.self.inside.store c.self.inside.places m.root
     m.touched) (sym is) c.self.invariant.1.now in (
-      c.self.invariant.0,
+      (c.self.invariant.0.0, grounds),
       record {
         now = c.self.invariant.1.now;
         marks =

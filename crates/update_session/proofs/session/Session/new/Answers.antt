@@ -6,7 +6,7 @@ use Rattle.update_session.proofs.session.Session.new.Goals as goal
 
 pub invariant_of-result : goal.invariant_of-result
 invariant_of-result c = (
-  c.requires,
+  (c.requires, tt),
   IsSession-begun _ _ _ _ _ _ c.new.ensures c.new-3.ensures.items c.new-4.ensures.items
       c.empty-root.ensures.of c.empty-root.ensures.tree,
 )

@@ -22,7 +22,7 @@ invariant_of-self-2 c =
     c.in_ok-grounds.grounds.items) old
     (subst (λ (xs : List Override). IsPermutation (override_changes c.rows_of-old.result.now xs)
     c.in_ok-grounds.grounds.items) new c.in_ok-grounds.ensures) in (
-      c.self.invariant.0,
+      (c.self.invariant.0.0, tt),
       IsSession-changed c.sources_stay.ensures c.kept_by_one_more.ensures c.self.inside.sources
           c.set_overrides.new.self (SetOverrides c.args.rows) _ _ _ c.self.inside.touched.items
           c.add.new.touched.items c.in_ok-grounds.grounds.items _

@@ -38,7 +38,7 @@ invariant_of-self-2 c =
           (ap (λ (f : FeedParts). f.entries) (c.feed.view_is ∙ c.feed-feed.ensures.feed))
           c.feed.invariant.distinct;
     } in (
-      c.self.invariant.0,
+      (c.self.invariant.0.0, tt),
       IsSession-changed c.sources_stay.ensures c.kept_by_one_more.ensures c.self.inside.sources
           c.set_ready_feed.new.self (SetFeed c.args.ready) _ _ _ c.self.inside.touched.items
           c.add.new.touched.items c.in_ok-grounds.grounds.items _

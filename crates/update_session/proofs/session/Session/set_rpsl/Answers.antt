@@ -18,7 +18,7 @@ invariant_of-self-2 c =
     ∙ (λ i. references_in (named (λ x. x.slot) (name i) c.self.inside.sources.dumps)) in
     let same = changes_by_dump c.self.inside.sources c.args.dump _ _
     c.in_ok-grounds.grounds.items old new c.in_ok-grounds.ensures in (
-      c.self.invariant.0,
+      (c.self.invariant.0.0, tt),
       IsSession-changed c.sources_stay.ensures c.kept_by_one_more.ensures c.self.inside.sources
           c.set_rpsl.new.self (SetDump c.args.dump) _ _ _ c.self.inside.touched.items
           c.add.new.touched.items c.in_ok-grounds.grounds.items _

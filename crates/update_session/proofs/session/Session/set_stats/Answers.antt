@@ -21,7 +21,7 @@ invariant_of-self-2 c =
     subst AreDelegations new (λ k d below. (c.keep_all.ensures k d below).place) in
     let same = changes_by_stats c.self.inside.sources c.args.stats _ _
     c.in_ok-grounds.grounds.items old new c.in_ok-grounds.ensures in (
-      c.self.invariant.0,
+      (c.self.invariant.0.0, tt),
       IsSession-changed c.sources_stay.ensures c.kept_by_one_more.ensures c.self.inside.sources
           c.set_stats.new.self (SetStats c.args.stats) _ _ _ c.self.inside.touched.items
           c.add.new.touched.items c.in_ok-grounds.grounds.items _
