@@ -19,7 +19,7 @@ for crate in crates/*/; do
         grep -q "\`$name\`" "$page" || fail "$name is not in $page"
     done
     # In a crate of tests an edit would make nothing wrong of which a clause says something.
-    if [[ "$name" != test_* ]] && [ -f "$crate/src/lib.rt" ] && grep -q '^pub ' "$crate/src/lib.rt"; then
+    if [[ "$name" != test_* ]] && grep -qs '^pub ' "$crate/src/lib.rt"; then
         edits=$(find "$crate/must-fail" -name '*.edit' 2> /dev/null | wc -l)
         [ "$edits" -ge 6 ] || fail "$name has $edits must-fail edits, fewer than six"
     fi
@@ -156,7 +156,7 @@ done < <(sed -n '/^## Layers/,/^## Where/p' "$map" | grep -E '^\| [0-9]\.')
 counted 20 "${#layer[@]}" 'crates in layers'
 while IFS=': ' read -r name uses; do
     [ -d "crates/$name" ] || continue
-    case "$name" in *_tests | test_*) continue ;; esac
+    case "$name" in test_*) continue ;; esac
     [ -n "${layer[$name]:-}" ] || fail "$map has $name in no layer"
     for used in $uses; do
         [ "${layer[$used]:-0}" -le "${layer[$name]:-9}" ] \

@@ -31,8 +31,8 @@ answers() {
 # hex FILE: its bytes, two digits each.
 hex() { od -An -v -tx1 "$1" | tr -d ' \n'; }
 
-# section NODES SPELT: behind so many nodes of six bytes and sixteen zero bytes the file `o` has this
-# data section, spelt as `printf` reads it, and the first letters of the marker.
+# section NODES SPELT: behind so many nodes of six bytes and sixteen zero bytes the file `o` has
+# this data section, spelt as `printf` reads it, and the first letters of the marker.
 section() {
     local rest
     # shellcheck disable=SC2059
