@@ -20,7 +20,7 @@ feed() {
     awk -v first="$1" -v count="${2:-1000}" 'BEGIN { split("DE FR IT", countries, " ")
         for (at = 0; at < count; at++)
             printf "10.%d.%d.%d/28,%s,,City %d,\n", int(at / 4096), int(at / 16) % 256,
-                at % 16 * 16, at ? countries[at % 3 + 1] : first, at }'
+                at % 16 * 16, at ? countries[at % 3 + 1] : first, at % 1000 }'
 }
 
 # job FEED FILE [LINE]: a job that sets the dump and this feed, with a line between them, and emits
@@ -56,8 +56,8 @@ done
 # A hundred thousand lines, beside a job with the second feed alone.
 feed CH 100000 > many.csv
 job many.csv j 'stats gen gen.txt' > fresh
-first='nodes 100140 data 2388932 bits 24 bytes 2989993'
-second='nodes 100140 data 2388936 bits 24 bytes 2989997'
+first='nodes 5032 data 41738 bits 24 bytes 72150'
+second='nodes 5040 data 41751 bits 24 bytes 72211'
 does "emit i $first"$'\n'"emit i $second" gen 100000 i
 does "emit j $second" build fresh
 cmp -s i j || fail "the file of 100,000 generated lines is not that of the second feed alone"
