@@ -223,8 +223,7 @@ fn check_by<R: Threads + Sync, F: Folder, O: Sink, G: Gate, L: Ledger>(
         Ok(session) => session,
         Err(status) => return status,
     };
-    let printed = print_verdicts(alloc, url, &session, out);
-    offer_feeds(&printed, url, &session, journal);
+    let printed = print_verdicts(alloc, url, &session, out, journal);
     // The process ends: its memory goes back whole, not source by source.
     forget(session);
     match printed {
@@ -239,6 +238,7 @@ fn print_verdicts<O: Sink>(
     url: &str,
     session: &Session,
     out: &mut O,
+    journal: &mut Journal,
 ) -> Result<(), Stop>
     ensures done { (told : Option Told) (steps : ℕ) (world : World)
         → IsIn [] told session.now world
@@ -259,7 +259,10 @@ fn print_verdicts<O: Sink>(
     let sources = session.sources();
     let feed = match sources.feed_of(url) {
         Some(feed) => feed,
-        None => return Err(Stop::Blocked(Cause::NoFeed)),
+        None => {
+            offer_feeds(sources, url, journal);
+            return Err(Stop::Blocked(Cause::NoFeed));
+        }
     };
     let text = match text_of(alloc, sources, feed) {
         Ok(text) => text,
@@ -277,12 +280,9 @@ fn text_of(alloc: Global, sources: &Sources, feed: &Feed) -> Result<Text, Memory
     verdict_text(alloc, verdicts.as_slice())
 }
 
-// Where no feed of this URL is in force, notes those between which it would stand.
-fn offer_feeds(printed: &Result<(), Stop>, url: &str, session: &Session, journal: &mut Journal) {
-    if !matches!(printed, Err(Stop::Blocked(Cause::NoFeed))) {
-        return;
-    }
-    let feeds = session.sources().feeds();
+// Notes the feeds between which one of this URL would stand.
+fn offer_feeds(sources: &Sources, url: &str, journal: &mut Journal) {
+    let feeds = sources.feeds();
     let at = place_in(feeds, url);
     journal.offer(url_of(feeds[..at].last()), url_of(feeds[at..].first()));
 }

@@ -1,7 +1,8 @@
 //! Why lines and words are refused, as the readers say it: told from the words by hand, and spelt
 //! as the names of the faults are.
 use super::words_of;
-use job_lines::{LineFault, command_or_reason, job_or_reason};
+use geo_addr::Memory;
+use job_lines::{LineFault, Reason, command_or_reason, job_or_reason};
 use std::alloc::{AllocError, Global};
 use std::test::Fail;
 
@@ -50,6 +51,28 @@ static WORDS: [Row; 7] = [
     ("build j", "None"),
 ];
 
+/// Words, and the word before the one that is refused.
+static BEFORE: [Row; 3] = [
+    ("bulid j", ""),
+    ("build", "build"),
+    ("lookup 1.2.3.4 f", "1.2.3.4"),
+];
+
+fn before() -> &'static [Row] {
+    &BEFORE
+}
+
+fn is_before(alloc: Global, row: &Row) -> Result<bool, Memory> {
+    let words = words_of(alloc, row.0)?;
+    match command_or_reason(words.as_slice()) {
+        Ok(_) => Ok(false),
+        Err(fault) => {
+            let reason = Reason::of_words(alloc, words.as_slice(), fault)?;
+            Ok(reason.before.text.as_str() == row.1)
+        }
+    }
+}
+
 fn lines() -> &'static [Row] {
     &LINES
 }
@@ -93,6 +116,14 @@ fn why_lines_and_words_are_refused(rt: HostRuntime) -> Result<(), Fail> {
     }
     for row in words() {
         assert!(rt; are_words_told(rt.alloc(), row)?, "{}", row.0);
+    }
+    Ok(())
+}
+
+#[test]
+fn words_before_those_that_are_refused(rt: HostRuntime) -> Result<(), Fail> {
+    for row in before() {
+        assert!(rt; is_before(rt.alloc(), row)?, "{}", row.0);
     }
     Ok(())
 }
