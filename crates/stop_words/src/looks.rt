@@ -81,5 +81,7 @@ fn is_attribute(line: &[u8]) -> bool {
 
 fn is_attribute_name(name: &[u8]) -> bool {
     !name.is_empty()
-        && name.iter().all(|b| b.is_ascii_alphanumeric() || *b == b'-' || *b == b'_')
+        && name
+            .iter()
+            .all(|b| b.is_ascii_alphanumeric() || *b == b'-' || *b == b'_')
 }
