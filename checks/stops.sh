@@ -143,4 +143,12 @@ while IFS= read -r line; do
 done < <(sed -n '/^## In words/,/^## /p' "$page" | sed -n '/^```/,/^```/p' | grep -v '^```')
 counted 5 "$count" 'lines of words that docs/stops.md shows'
 
+# Of warnings a hundred are told, and how many more there are.
+: > empty
+{ echo 'epoch 1' && for ((n = 0; n < 104; n++)); do echo 'overrides empty'; done; } > job
+"$program" build job > printed 2> told
+[ "$? $(wc -l < told)" = '0 101' ] \
+    && [ "$(tail -n 1 told)" = 'warning: job: 3 more warnings are not shown' ] \
+    || fail "of 103 warnings it tells $(wc -l < told): $(tail -n 1 told)"
+
 verdict
