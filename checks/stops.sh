@@ -144,8 +144,8 @@ done < <(sed -n '/^## In words/,/^## /p' "$page" | sed -n '/^```/,/^```/p' | gre
 counted 5 "$count" 'lines of words that docs/stops.md shows'
 
 # Of warnings a hundred are told, and how many more there are.
-: > empty
-{ echo 'epoch 1' && for ((n = 0; n < 104; n++)); do echo 'overrides empty'; done; } > job
+echo 'x|DE|ipv4|192.0.2.0|256||allocated' > given
+{ echo 'epoch 1' && for ((n = 0; n < 104; n++)); do echo 'stats x given'; done; } > job
 "$program" build job > printed 2> told
 [ "$? $(wc -l < told)" = '0 101' ] \
     && [ "$(tail -n 1 told)" = 'warning: job: 3 more warnings are not shown' ] \
