@@ -484,8 +484,13 @@ module _ (old new : Table) (n : ℕ) (x : Vec ℕ) (at p v : ℕ)
       behind : IsPutAt old new n x at (ranked r ∷ []) → IsPut old new n x at
       behind put =
           put_of (ap length slots)
-          (inr (taken, inr ((λ e. full (sym second_read ∙ e)),
-          subst (λ (k : ℕ). IsPutAt old new n x at (ranked k ∷ [])) rank put)))
+          (inr (
+            taken,
+            inr (
+              (λ e. full (sym second_read ∙ e)),
+              subst (λ (k : ℕ). IsPutAt old new n x at (ranked k ∷ [])) rank put,
+            ),
+          ))
 
       pub put_third : u ≡ 0 → ((q : ℕ) → get nat_cmp new.ranks q
           ≡ cond (is_eq (nat_cmp r q)) (Some (n + 1)) (get nat_cmp old.ranks q))

@@ -1,7 +1,8 @@
 -- How the values that stand in full are found: at two slots of their spellings, by a second number
 -- of theirs, or in an ordered map.
-use Rattle.std.specs.Prelude.{◌≡◌, ◌≢◌, ◌⊎◌, ℕ, zero, suc, ◌+◌, ◌-◌, ◌%◌, ◌<◌, cond, nat_eq, List}
-use Rattle.std.specs.Prelude.{[], ◌∷◌, length, get_or, slice_get, take, Option, Some, None}
+use Rattle.std.specs.Prelude.{◌≡◌, ◌≢◌, ◌⊎◌, ℕ, zero, suc, ◌+◌, ◌-◌, ◌*◌, ◌%◌, ◌^◌, ◌<◌, cond}
+use Rattle.std.specs.Prelude.{nat_eq, List, [], ◌∷◌, length, get_or, slice_get, take, Option, Some}
+use Rattle.std.specs.Prelude.{None}
 use Rattle.std.specs.BTreeMap.{BTreeMap, get}
 use Rattle.std.specs.Cmp.Lexicographic.{pointwise, slice_cmp}
 use Rattle.std.specs.Global.{Vec}
@@ -27,11 +28,13 @@ bytes_cmp a b = slice_cmp nat_cmp a.items b.items
 unfoldable pub mixed : List ℕ → ℕ
 mixed spelled = folding.finish (folding.write folding.initial spelled)
 
--- what it is mixed to once more, behind what it was mixed to
+-- what it is mixed to once more, behind what it was mixed to, and below that what it is mixed to
+-- behind this
 unfoldable pub mixed_again : List ℕ → ℕ
 mixed_again spelled =
-    folding.finish (folding.write (folding.write folding.initial (to_le_bytes w64 (mixed spelled)))
-    spelled)
+    let again =
+    folding.write (folding.write folding.initial (to_le_bytes w64 (mixed spelled))) spelled in
+    folding.finish again * 2 ^ 64 + folding.finish (folding.write again spelled)
 
 -- the first of the two slots that follow from a number, of so many; the second is the next one
 abbrev pub slot_by : ℕ → ℕ → ℕ

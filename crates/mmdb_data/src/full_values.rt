@@ -31,7 +31,7 @@ pub(crate) struct FullValues {
 #[derive(Debug, Drop)]
 struct Table {
     slots: Vec<u32>,
-    ranks: BTreeMap<u64, u32>,
+    ranks: BTreeMap<u128, u32>,
     others: BTreeMap<Vec<u8>, u64>,
 }
 
@@ -138,7 +138,7 @@ impl Table {
     }
 
     // What the rank has, and 0 where none of it came.
-    fn at_rank(&self, rank: u64) -> u32
+    fn at_rank(&self, rank: u128) -> u32
         ensures { result ≡ held self.now (ranked rank) }
     {
         self.ranks.get(&rank).copied().unwrap_or(0)
@@ -160,16 +160,18 @@ fn mixed(spelled: &[u8]) -> u64
     hasher.finish()
 }
 
-// What it is mixed to once more, behind what it was mixed to, so that spellings which were made for
-// the first number do not share the second.
-fn mixed_again(first: u64, spelled: &[u8]) -> u64
+// What it is mixed to twice more, each time behind what it was mixed to before, so that spellings
+// which were made for the first number do not share this one.
+fn mixed_again(first: u64, spelled: &[u8]) -> u128
     requires { first ≡ mixed spelled.now }
     ensures { result ≡ mixed_again spelled.now }
 {
     let mut hasher = FoldHasher::default();
     hasher.write(&first.to_le_bytes());
     hasher.write(spelled);
-    hasher.finish()
+    let second = hasher.finish();
+    hasher.write(spelled);
+    u128::from(second) * (1 << 64) + u128::from(hasher.finish())
 }
 
 // The first of the two slots that follow from a number.

@@ -6,7 +6,9 @@ pub returns : goal.returns
 unfolding mixed_again
 returns c =
     rw (
-      c.finish.ensures,
+      c.finish-2.ensures,
+      c.finish-second.ensures,
+      c.write-3.ensures,
       c.write-2.ensures,
       c.write.ensures,
       c.to_le_bytes.ensures,
