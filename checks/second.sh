@@ -15,8 +15,8 @@ g++ -O2 -std=c++17 -o "$second" "$top/checks/second/second.cpp" > told 2>&1 \
 
 # both JOB: the two programs do the job in the folders `one` and `two`.
 both() {
-    (cd one && exec "$program" build "$1" > printed 2>&1) \
-        || fail "$what ends otherwise: $(tail -n 1 one/printed)"
+    (cd one && exec "$program" build "$1" > printed 2> "$work/words") \
+        || fail "$what ends otherwise: $(head -n 1 "$work/words")"
     (cd two && exec "$second" build "$1" > printed 2>&1) \
         || fail "$what is nothing for the second program: $(cat two/printed)"
 }
@@ -34,8 +34,9 @@ for ((batch = 0; left > 0 && failed == 0; batch++)); do
     cd .. && cp -r one two
     for ((n = 1; n <= jobs; n++)); do
         cd "$work/one/$n" || exit 1
-        "$program" build job > printed 2>&1 \
-            || fail "job $n of the seed $((seed + batch)) ends otherwise: $(tail -n 1 printed)"
+        "$program" build job > printed 2> "$work/words" \
+            || fail "job $n of the seed $((seed + batch)) ends otherwise:" \
+                "$(head -n 1 "$work/words")"
         cd "$work/two/$n" || exit 1
         "$second" build job > printed 2>&1 \
             || fail "job $n of the seed $((seed + batch)) is nothing for the second program"
