@@ -1,10 +1,11 @@
--- The slots and the others find each spelling, also once a new one was put.
+-- The table finds each spelling, also once a new one was put.
 use Rattle.std.proofs.Common.{◌≡◌, ◌≢◌, ◌⊎◌, inl, inr, ℕ, zero, suc, ◌+◌, ◌<◌, Bool, true, false}
 use Rattle.std.proofs.Common.{cond}
 use Rattle.std.proofs.Common.{true≢false, List, [], ◌∷◌, ◌++◌, length, get_or, slice_get, set, take}
 use Rattle.std.proofs.Common.{drop}
 use Rattle.std.proofs.Common.{replicate, Option, Some, None, refl, sym, ap, subst, ◌∙◌, arith}
 use Rattle.std.proofs.Common.{length-append, map as map_list}
+use Rattle.std.proofs.lemmas.Bool.Decides.{nat_tests}
 use Rattle.std.proofs.lemmas.Grind.{get_or_default_zero}
 use Rattle.std.proofs.lemmas.Option.{slice_get_read}
 use Rattle.std.specs.Prelude.{nat_eq, option_map}
@@ -12,10 +13,12 @@ use Rattle.std.specs.BTreeMap.{BTreeMap, get, get_by}
 use Rattle.std.specs.Cmp.Lexicographic.{pointwise, slice_cmp, texts_ties, bytes_decides}
 use Rattle.std.specs.Global.{Vec}
 use Rattle.std.specs.Map.{lookup}
+use Rattle.std.specs.Option.{unwrap_or}
 use Rattle.std.specs.Ordering.{nat_cmp, is_eq}
-use Rattle.mmdb_data.specs.FullValues.{entry_view, first_slot}
-use Rattle.mmdb_data.specs.FullValues.{Entries, bytes_cmp, slots_of, said_or, told, look, AreNew}
-use Rattle.mmdb_data.specs.FullValues.{IsTable, IsOther, IsPut}
+use Rattle.mmdb_data.specs.declared.full_values.Table.{Table}
+use Rattle.mmdb_data.specs.FullValues.{Entries, entry_view, bytes_cmp, mixed, mixed_again, slot_by}
+use Rattle.mmdb_data.specs.FullValues.{Spot, slot, ranked, held, spots_of, said_or, told, look}
+use Rattle.mmdb_data.specs.FullValues.{AreNew, IsTable, IsOther, IsHeld, IsPutAt, IsPut, IsAlike}
 use Rattle.mmdb_data.proofs.Keeps.{lookup-push, lookup-stays, lookup-new}
 
 -- ---- lists
@@ -44,6 +47,18 @@ same_or_not (suc m) zero = inr (λ e. absurd (omega (arith, e)))
 same_or_not (suc m) (suc n) = elim (same_or_not m n) [
   | inl e ↦ inl (ap suc e)
   | inr d ↦ inr (λ e. d (let f : m ≡ n = omega (arith, e) in f))
+]
+
+same_spot_or_not : (p q : Spot) → (p ≡ q) ⊎ (p ≢ q)
+same_spot_or_not (slot m) (slot n) = elim (same_or_not m n) [
+  | inl e ↦ inl (ap slot e)
+  | inr d ↦ inr (λ e. d (let f : m ≡ n = cc in f))
+]
+same_spot_or_not (slot m) (ranked n) = inr (λ e. absurd (cc))
+same_spot_or_not (ranked m) (slot n) = inr (λ e. absurd (cc))
+same_spot_or_not (ranked m) (ranked n) = elim (same_or_not m n) [
+  | inl e ↦ inl (ap ranked e)
+  | inr d ↦ inr (λ e. d (let f : m ≡ n = cc in f))
 ]
 
 zeros : (m p : ℕ) → ◌≡◌ {A = ℕ} (get_or (replicate m 0) p 0) 0
@@ -87,14 +102,14 @@ entry_found test (e ∷ entries) (suc k) entry at holds none =
     by true is inner = absurd (cc)
     by false is inner = inner is
 
-module _ (entries : Entries) (slots : List ℕ) where
+module _ (entries : Entries) (table : Table) where
   -- nothing is found of what no entry spells
-  pub look_none : (other : Option ℕ) (x : List ℕ) (ps : List ℕ)
+  pub look_none : (other : Option ℕ) (x : List ℕ) (ps : List Spot)
       → lookup (pointwise nat_eq x) entries ≡ None → other ≡ None
-      → look entries slots other x ps ≡ None
+      → look entries table other x ps ≡ None
   look_none other x [] none rest = rest
   look_none other x (p ∷ ps) none rest =
-      by_slot (get_or slots p 0) (look entries slots other x ps) (look_none other x ps none rest)
+      by_spot (held table p) (look entries table other x ps) (look_none other x ps none rest)
     where
       by_entry : (k : ℕ) (found : Option (List ℕ × ℕ)) (r : Option ℕ)
           → slice_get entries k ≡ found → r ≡ None → said_or x found r ≡ None
@@ -106,9 +121,9 @@ module _ (entries : Entries) (slots : List ℕ) where
               absurd (entry_found (pointwise nat_eq x) entries k e at same none)
           by_test false differs = is
 
-      by_slot : (v : ℕ) (r : Option ℕ) → r ≡ None → told entries x v r ≡ None
-      by_slot zero r is = refl
-      by_slot (suc k) r is = by_entry k (slice_get entries k) r refl is
+      by_spot : (v : ℕ) (r : Option ℕ) → r ≡ None → told entries x v r ≡ None
+      by_spot zero r is = refl
+      by_spot (suc k) r is = by_entry k (slice_get entries k) r refl is
 
 itself : (x : List ℕ) → pointwise nat_eq x x ≡ true
 itself x = (bytes_decides x x).1 refl
@@ -139,88 +154,78 @@ get_by_bytes z others = get_by (λ (k : Vec ℕ). slice_cmp nat_cmp z k.items) o
 
 -- ---- one more
 
-module _ (entries : Entries) (slots : List ℕ) (others : BTreeMap (Vec ℕ) ℕ) (x : Vec ℕ) (at : ℕ)
-    (new : lookup (pointwise nat_eq x.items) entries ≡ None)
-    (slots' : List ℕ) (others' : BTreeMap (Vec ℕ) ℕ) where
+module _ (entries : Entries) (old new : Table) (x : Vec ℕ) (at : ℕ)
+    (first : lookup (pointwise nat_eq x.items) entries ≡ None) where
   abbrev more : Entries
   more = entries ++ (x.items, at) ∷ []
 
-  abbrev Put : List ℕ → Type 0
-  Put ps = IsPut slots slots' others others' (length entries) x at ps
+  abbrev Put : List Spot → Type 0
+  Put ps = IsPutAt old new (length entries) x at ps
 
-  -- a slot that was taken stays
-  taken_stays : (ps : List ℕ) → Put ps → (p k : ℕ) → get_or slots p 0 ≡ suc k
-      → get_or slots' p 0 ≡ suc k
-  taken_stays [] put p k is = ap (λ (s : List ℕ). get_or s p 0) put.0 ∙ is
+  -- a spot that was taken stays
+  taken_stays : (ps : List Spot) → Put ps → (p : Spot) (k : ℕ) → held old p ≡ suc k
+      → held new p ≡ suc k
+  taken_stays [] put p k is = put.0 p ∙ is
   taken_stays (q ∷ ps) put p k is = elim put [
-    | inl free ↦ elim (same_or_not p q) [
-      | inl same ↦ absurd (omega (arith, is, free.0, ap (λ (r : ℕ). get_or slots r 0) same))
-      | inr differs ↦
-          ap (λ (s : List ℕ). get_or s p 0) free.2
-          ∙ set_other slots q p (suc (length entries)) differs ∙ is
+    | inl free ↦ elim (same_spot_or_not p q) [
+      | inl same ↦ absurd (omega (arith, is, free.0, ap (held old) same))
+      | inr differs ↦ free.1.elsewhere p differs ∙ is
     ]
     | inr rest ↦ taken_stays ps rest.1 p k is
   ]
 
-  -- what a slot holds is old, or the new number
-  slot_old_or_new : (ps : List ℕ) → Put ps → (p k : ℕ) → get_or slots' p 0 ≡ suc k
-      → (get_or slots p 0 ≡ suc k) ⊎ (k ≡ length entries)
-  slot_old_or_new [] put p k is = inl (sym (ap (λ (s : List ℕ). get_or s p 0) put.0) ∙ is)
-  slot_old_or_new (q ∷ ps) put p k is = elim put [
-    | inl free ↦
-        let read = ap (λ (s : List ℕ). get_or s p 0) free.2 in
-        elim (same_or_not p q) [
-          | inl same ↦ inr (omega (
-            arith,
-            is,
-            read,
-            ap (λ (r : ℕ). get_or (set slots q (suc (length entries))) r 0) same,
-            set_here slots q (suc (length entries)) free.1,
-          ))
-          | inr differs ↦ inl (sym (set_other slots q p (suc (length entries)) differs)
-              ∙ sym read ∙ is)
-        ]
-    | inr rest ↦ slot_old_or_new ps rest.1 p k is
+  -- what a spot holds is old, or the new number
+  spot_old_or_new : (ps : List Spot) → Put ps → (p : Spot) (k : ℕ) → held new p ≡ suc k
+      → (held old p ≡ suc k) ⊎ (k ≡ length entries)
+  spot_old_or_new [] put p k is = inl (sym (put.0 p) ∙ is)
+  spot_old_or_new (q ∷ ps) put p k is = elim put [
+    | inl free ↦ elim (same_spot_or_not p q) [
+      | inl same ↦ inr (omega (arith, is, ap (held new) same, free.1.here))
+      | inr differs ↦ inl (sym (free.1.elsewhere p differs) ∙ is)
+    ]
+    | inr rest ↦ spot_old_or_new ps rest.1 p k is
   ]
 
   -- what the others hold is old, or the new spelling
-  other_old_or_new : (ps : List ℕ) → Put ps → (y : Vec ℕ) (a : ℕ) → get bytes_cmp others' y ≡ Some a
-      → (get bytes_cmp others y ≡ Some a)
+  other_old_or_new : (ps : List Spot) → Put ps → (y : Vec ℕ) (a : ℕ)
+      → get bytes_cmp new.others y ≡ Some a
+      → (get bytes_cmp old.others y ≡ Some a)
       ⊎ ((pointwise nat_eq x.items y.items ≡ true) × (a ≡ at))
   other_old_or_new [] put y a is =
       by (pointwise nat_eq x.items y.items) refl (sym (put.1 y) ∙ is)
     where
       by : (b : Bool) → pointwise nat_eq x.items y.items ≡ b
-          → cond b (Some at) (get bytes_cmp others y) ≡ Some a
-          → (get bytes_cmp others y ≡ Some a)
+          → cond b (Some at) (get bytes_cmp old.others y) ≡ Some a
+          → (get bytes_cmp old.others y ≡ Some a)
           ⊎ ((pointwise nat_eq x.items y.items ≡ true) × (a ≡ at))
       by true same h = inr (same, (let e : a ≡ at = cc in e))
       by false differs h = inl h
   other_old_or_new (q ∷ ps) put y a is = elim put [
-    | inl free ↦ inl (sym (free.3 y) ∙ is)
+    | inl free ↦ inl (sym (free.1.others y) ∙ is)
     | inr rest ↦ other_old_or_new ps rest.1 y a is
   ]
 
-  other_stays : (ps : List ℕ) → Put ps → (y : Vec ℕ) (a : ℕ)
-      → pointwise nat_eq x.items y.items ≡ false → get bytes_cmp others y ≡ Some a
-      → get bytes_cmp others' y ≡ Some a
+  other_stays : (ps : List Spot) → Put ps → (y : Vec ℕ) (a : ℕ)
+      → pointwise nat_eq x.items y.items ≡ false → get bytes_cmp old.others y ≡ Some a
+      → get bytes_cmp new.others y ≡ Some a
   other_stays [] put y a differs is =
-      put.1 y ∙ ap (λ (b : Bool). cond b (Some at) (get bytes_cmp others y)) differs ∙ is
+      put.1 y ∙ ap (λ (b : Bool). cond b (Some at) (get bytes_cmp old.others y)) differs ∙ is
   other_stays (q ∷ ps) put y a differs is = elim put [
-    | inl free ↦ free.3 y ∙ is
+    | inl free ↦ free.1.others y ∙ is
     | inr rest ↦ other_stays ps rest.1 y a differs is
   ]
 
   abbrev Within : Type 0
-  Within = (p k : ℕ) → get_or slots p 0 ≡ suc k → k < length entries
+  Within = (p : Spot) (k : ℕ) → held old p ≡ suc k → k < length entries
 
-  -- a slot that was taken, read after the new one was put
-  told_taken : Within → (ps : List ℕ) → Put ps → (y : List ℕ) (p k : ℕ) → get_or slots p 0 ≡ suc k
+  -- a spot that was taken, read after the new one was put
+  told_taken : Within → (ps : List Spot) → Put ps → (y : List ℕ) (p : Spot) (k : ℕ)
+      → held old p ≡ suc k
       → (e : List ℕ × ℕ) × (slice_get entries k ≡ Some e)
-      × ((r : Option ℕ) → told more y (get_or slots' p 0) r
+      × ((r : Option ℕ) → told more y (held new p) r
       ≡ cond (pointwise nat_eq y e.0) (Some e.1) r)
-  told_taken old ps put y p k is =
-      let e = read_within entries k (old p k is) in (
+  told_taken within ps put y p k is =
+      let e = read_within entries k (within p k is) in (
         e.0,
         e.1,
         λ r. ap (λ (v : ℕ). told more y v r) (taken_stays ps put p k is)
@@ -228,86 +233,73 @@ module _ (entries : Entries) (slots : List ℕ) (others : BTreeMap (Vec ℕ) ℕ
       )
 
   -- the new one is found
-  look_new : Within → (ps : List ℕ) → Put ps
-      → look more slots' (get bytes_cmp others' x) x.items ps ≡ Some at
-  look_new old [] put =
-      put.1 x ∙ ap (λ (b : Bool). cond b (Some at) (get bytes_cmp others x)) (itself x.items)
-  look_new old (p ∷ ps) put = elim put [
+  look_new : Within → (ps : List Spot) → Put ps
+      → look more new (get bytes_cmp new.others x) x.items ps ≡ Some at
+  look_new within [] put =
+      put.1 x ∙ ap (λ (b : Bool). cond b (Some at) (get bytes_cmp old.others x)) (itself x.items)
+  look_new within (p ∷ ps) put = elim put [
     | inl free ↦
-        let rest = look more slots' (get bytes_cmp others' x) x.items ps in
-        ap (λ (v : ℕ). told more x.items v rest)
-        (ap (λ (s : List ℕ). get_or s p 0) free.2
-        ∙ set_here slots p (suc (length entries)) free.1)
+        let rest = look more new (get bytes_cmp new.others x) x.items ps in
+        ap (λ (v : ℕ). told more x.items v rest) free.1.here
         ∙ told_entry more x.items (length entries) (x.items, at)
         (slice_get-last entries (x.items, at)) rest
         ∙ ap (λ (b : Bool). cond b (Some at) rest) (itself x.items)
-    | inr rest ↦ by (get_or slots p 0) refl rest.0 (look_new old ps rest.1)
+    | inr rest ↦ by (held old p) refl rest.0 (look_new within ps rest.1)
   ]
     where
-      by : (v : ℕ) → get_or slots p 0 ≡ v → get_or slots p 0 ≢ 0
-          → look more slots' (get bytes_cmp others' x) x.items ps ≡ Some at
-          → look more slots' (get bytes_cmp others' x) x.items (p ∷ ps) ≡ Some at
+      by : (v : ℕ) → held old p ≡ v → held old p ≢ 0
+          → look more new (get bytes_cmp new.others x) x.items ps ≡ Some at
+          → look more new (get bytes_cmp new.others x) x.items (p ∷ ps) ≡ Some at
       by zero is some inner = absurd (some is)
       by (suc k) is some inner =
-          let t = told_taken old (p ∷ ps) put x.items p k is in
-          let rest = look more slots' (get bytes_cmp others' x) x.items ps in
+          let t = told_taken within (p ∷ ps) put x.items p k is in
+          let rest = look more new (get bytes_cmp new.others x) x.items ps in
           t.2 rest
           ∙ ap (λ (b : Bool). cond b (Some t.0.1) rest)
           (not_true (pointwise nat_eq x.items t.0.0)
-          (λ same. entry_found (pointwise nat_eq x.items) entries k t.0 t.1 same new))
+          (λ same. entry_found (pointwise nat_eq x.items) entries k t.0 t.1 same first))
           ∙ inner
 
   -- what was found is found still
-  look_stays : Within → (put : List ℕ) → Put put → (y : Vec ℕ) (a : ℕ)
-      → (get bytes_cmp others y ≡ Some a → get bytes_cmp others' y ≡ Some a) → (ps : List ℕ)
-      → look entries slots (get bytes_cmp others y) y.items ps ≡ Some a
-      → look more slots' (get bytes_cmp others' y) y.items ps ≡ Some a
-  look_stays old qs put y a other [] is = other is
-  look_stays old qs put y a other (p ∷ ps) is =
-      by (get_or slots p 0) refl is (look_stays old qs put y a other ps)
+  look_stays : Within → (qs : List Spot) → Put qs → (y : Vec ℕ) (a : ℕ)
+      → (get bytes_cmp old.others y ≡ Some a → get bytes_cmp new.others y ≡ Some a)
+      → (ps : List Spot) → look entries old (get bytes_cmp old.others y) y.items ps ≡ Some a
+      → look more new (get bytes_cmp new.others y) y.items ps ≡ Some a
+  look_stays within qs put y a other [] is = other is
+  look_stays within qs put y a other (p ∷ ps) is =
+      by (held old p) refl is (look_stays within qs put y a other ps)
     where
       before : Option ℕ
-      before = look entries slots (get bytes_cmp others y) y.items ps
+      before = look entries old (get bytes_cmp old.others y) y.items ps
 
       after : Option ℕ
-      after = look more slots' (get bytes_cmp others' y) y.items ps
+      after = look more new (get bytes_cmp new.others y) y.items ps
 
       by_test : (b : Bool) (n : ℕ) → (before ≡ Some a → after ≡ Some a)
           → cond b (Some n) before ≡ Some a → cond b (Some n) after ≡ Some a
       by_test true n inner h = h
       by_test false n inner h = inner h
 
-      by : (v : ℕ) → get_or slots p 0 ≡ v → told entries y.items (get_or slots p 0) before ≡ Some a
+      by : (v : ℕ) → held old p ≡ v → told entries y.items (held old p) before ≡ Some a
           → (before ≡ Some a → after ≡ Some a)
-          → told more y.items (get_or slots' p 0) after ≡ Some a
+          → told more y.items (held new p) after ≡ Some a
       by zero v-is h inner =
           let f : None ≡ Some a =
           sym (ap (λ (v : ℕ). told entries y.items v before) v-is) ∙ h in
           absurd (cc)
       by (suc k) v-is h inner =
-          let t = told_taken old qs put y.items p k v-is in
+          let t = told_taken within qs put y.items p k v-is in
           t.2 after
           ∙ by_test (pointwise nat_eq y.items t.0.0) t.0.1 inner
           (sym (told_entry entries y.items k t.0 t.1 before)
           ∙ sym (ap (λ (v : ℕ). told entries y.items v before) v-is) ∙ h)
 
-module _ (entries : Entries) (slots : List ℕ) (others : BTreeMap (Vec ℕ) ℕ)
-    (table : IsTable entries slots others) (x : Vec ℕ) (at : ℕ)
-    (new : lookup (pointwise nat_eq x.items) entries ≡ None)
-    (slots' : List ℕ) (others' : BTreeMap (Vec ℕ) ℕ)
-    (put : IsPut slots slots' others others' (length entries) x at
-    (slots_of x.items (length slots))) where
-  length_stays : (ps : List ℕ) → IsPut slots slots' others others' (length entries) x at ps
-      → length slots' ≡ length slots
-  length_stays [] put = ap length put.0
-  length_stays (p ∷ ps) put = elim put [
-    | inl free ↦ ap length free.2 ∙ length-set slots p (suc (length entries))
-    | inr rest ↦ length_stays ps rest.1
-  ]
-
-  pub table_longer : IsTable (entries ++ (x.items, at) ∷ []) slots' others'
+module _ (entries : Entries) (old : Table) (table : IsTable entries old) (x : Vec ℕ) (at : ℕ)
+    (first : lookup (pointwise nat_eq x.items) entries ≡ None)
+    (new : Table) (put : IsPut old new (length entries) x at) where
+  pub table_longer : IsTable (entries ++ (x.items, at) ∷ []) new
   table_longer = record {
-    some = omega (arith, same, table.some);
+    some = omega (arith, put.len, table.some);
     within = within;
     of = of;
     finds = finds;
@@ -316,78 +308,73 @@ module _ (entries : Entries) (slots : List ℕ) (others : BTreeMap (Vec ℕ) ℕ
       longer : Entries
       longer = entries ++ (x.items, at) ∷ []
 
-      qs : List ℕ
-      qs = slots_of x.items (length slots)
+      len : ℕ
+      len = length old.slots.items
 
-      same : length slots' ≡ length slots
-      same = length_stays qs put
+      qs : List Spot
+      qs = spots_of x.items len
 
-      within : (p k : ℕ) → get_or slots' p 0 ≡ suc k → k < length longer
-      within p k is =
-          elim (slot_old_or_new entries slots others x at new slots' others' qs put p k is) [
-            | inl old ↦ omega (
-              arith,
-              table.within p k old,
-              length-append entries ((x.items, at) ∷ []),
-            )
-            | inr last ↦ omega (arith, last, length-append entries ((x.items, at) ∷ []))
-          ]
+      within : (p : Spot) (k : ℕ) → held new p ≡ suc k → k < length longer
+      within p k is = elim (spot_old_or_new entries old new x at first qs put.put p k is) [
+        | inl before ↦ omega (
+          arith,
+          table.within p k before,
+          length-append entries ((x.items, at) ∷ []),
+        )
+        | inr last ↦ omega (arith, last, length-append entries ((x.items, at) ∷ []))
+      ]
 
       same_spelling : (y : Vec ℕ) → pointwise nat_eq x.items y.items ≡ true → x.items ≡ y.items
       same_spelling y h = (bytes_decides x.items y.items).0 h
 
-      of : (y : Vec ℕ) (a : ℕ) → get bytes_cmp others' y ≡ Some a
+      of : (y : Vec ℕ) (a : ℕ) → get bytes_cmp new.others y ≡ Some a
           → lookup (pointwise nat_eq y.items) longer ≡ Some a
-      of y a is =
-          elim (other_old_or_new entries slots others x at new slots' others' qs put y a is) [
-            | inl old ↦
-                lookup-stays (pointwise nat_eq y.items) entries ((x.items, at) ∷ []) a
-                (table.of y a old)
-            | inr last ↦
-                let e = same_spelling y last.0 in
-                subst (λ (z : List ℕ). lookup (pointwise nat_eq z) longer ≡ Some a) e
-                (lookup-new (pointwise nat_eq x.items) entries x.items at new (itself x.items)
-                ∙ ap Some (sym last.1))
-          ]
+      of y a is = elim (other_old_or_new entries old new x at first qs put.put y a is) [
+        | inl before ↦
+            lookup-stays (pointwise nat_eq y.items) entries ((x.items, at) ∷ []) a
+            (table.of y a before)
+        | inr last ↦
+            let e = same_spelling y last.0 in
+            subst (λ (z : List ℕ). lookup (pointwise nat_eq z) longer ≡ Some a) e
+            (lookup-new (pointwise nat_eq x.items) entries x.items at first (itself x.items)
+            ∙ ap Some (sym last.1))
+      ]
 
       by_offset : (y : Vec ℕ) (b : Bool) → pointwise nat_eq x.items y.items ≡ b
           → (r : Option ℕ) → lookup (pointwise nat_eq y.items) entries ≡ r
-          → look longer slots' (get bytes_cmp others' y) y.items (slots_of y.items (length slots))
+          → look longer new (get bytes_cmp new.others y) y.items (spots_of y.items len)
           ≡ lookup (pointwise nat_eq y.items) longer
       by_offset y true equal r is = new_one
         where
           e : x.items ≡ y.items
           e = same_spelling y equal
 
-          other : get bytes_cmp others' y ≡ get bytes_cmp others' x
-          other = ap (λ (z : List ℕ). get_by_bytes z others') (sym e)
-
-          new_one : look longer slots' (get bytes_cmp others' y) y.items
-              (slots_of y.items (length slots)) ≡ lookup (pointwise nat_eq y.items) longer
+          new_one : look longer new (get bytes_cmp new.others y) y.items (spots_of y.items len)
+              ≡ lookup (pointwise nat_eq y.items) longer
           new_one =
-              subst (λ (z : List ℕ). look longer slots' (get_by_bytes z others') z
-              (slots_of z (length slots)) ≡ lookup (pointwise nat_eq z) longer) e
-              (look_new entries slots others x at new slots' others' table.within qs put
-              ∙ sym (lookup-new (pointwise nat_eq x.items) entries x.items at new (itself x.items)))
+              subst (λ (z : List ℕ). look longer new (get_by_bytes z new.others) z
+              (spots_of z len) ≡ lookup (pointwise nat_eq z) longer) e
+              (look_new entries old new x at first table.within qs put.put
+              ∙ sym (lookup-new (pointwise nat_eq x.items) entries x.items at first
+              (itself x.items)))
       by_offset y false differs (Some a) is =
-          look_stays entries slots others x at new slots' others' table.within qs put y a
-          (other_stays entries slots others x at new slots' others' qs put y a differs)
-          (slots_of y.items (length slots)) (table.finds y ∙ is)
+          look_stays entries old new x at first table.within qs put.put y a
+          (other_stays entries old new x at first qs put.put y a differs)
+          (spots_of y.items len) (table.finds y ∙ is)
           ∙ sym (lookup-stays (pointwise nat_eq y.items) entries ((x.items, at) ∷ []) a is)
       by_offset y false differs None is =
           let none : lookup (pointwise nat_eq y.items) longer ≡ None =
           lookup-push (pointwise nat_eq y.items) entries (x.items, at)
           (turned x.items y.items differs) ∙ is in
-          look_none longer slots' (get bytes_cmp others' y) y.items
-          (slots_of y.items (length slots)) none
-          (none_of (get bytes_cmp others' y) (λ a h.
+          look_none longer new (get bytes_cmp new.others y) y.items (spots_of y.items len) none
+          (none_of (get bytes_cmp new.others y) (λ a h.
           let f : None ≡ Some a = sym none ∙ of y a h in absurd (cc)))
           ∙ sym none
 
-      finds : (y : Vec ℕ) → look longer slots' (get bytes_cmp others' y) y.items
-          (slots_of y.items (length slots')) ≡ lookup (pointwise nat_eq y.items) longer
+      finds : (y : Vec ℕ) → look longer new (get bytes_cmp new.others y) y.items
+          (spots_of y.items (length new.slots.items)) ≡ lookup (pointwise nat_eq y.items) longer
       finds y =
-          rw same (by_offset y (pointwise nat_eq x.items y.items) refl
+          rw put.len (by_offset y (pointwise nat_eq x.items y.items) refl
           (lookup (pointwise nat_eq y.items) entries) refl)
 
 -- what the map holds once a spelling was put there
@@ -402,43 +389,125 @@ other_put x key at old new same put y =
 
 -- ---- what a note does
 
-module _ (slots : List ℕ) (others : BTreeMap (Vec ℕ) ℕ) (n : ℕ) (x : Vec ℕ) (at slot v : ℕ)
-    (is : slot ≡ first_slot x.items (length slots)) (fits : slot + 1 < length slots)
-    (first : v ≡ get_or slots slot v) where
-  first_read : get_or slots slot 0 ≡ v
-  first_read = sym (get_or_default_zero slots slot v (omega (arith, fits))) ∙ sym first
+-- a number was put into a slot
+held_slot : (old new : Table) (n p : ℕ) → p < length old.slots.items
+    → new.slots.items ≡ set old.slots.items p (n + 1) → new.ranks ≡ old.ranks
+    → new.others ≡ old.others → IsHeld old new n (slot p)
+held_slot old new n p within slots ranks others = record {
+  here = omega (
+    arith,
+    ap (λ (s : List ℕ). get_or s p 0) slots,
+    set_here old.slots.items p (n + 1) within,
+  );
+  elsewhere = elsewhere;
+  others = λ y. ap (λ (m : BTreeMap (Vec ℕ) ℕ). get bytes_cmp m y) others;
+}
+  where
+    elsewhere : (q : Spot) → q ≢ slot p → held new q ≡ held old q
+    elsewhere (slot m) other =
+        ap (λ (s : List ℕ). get_or s m 0) slots
+        ∙ set_other old.slots.items p m (n + 1) (λ e. other (ap slot e))
+    elsewhere (ranked r) other =
+        ap (λ (m : BTreeMap ℕ ℕ). unwrap_or (get nat_cmp m r) 0) ranks
 
-  next : (k : ℕ) → set slots k (n + 1) ≡ set slots k (suc n)
-  next k = ap (set slots k) (omega arith)
+-- a number was put at a rank
+held_rank : (old new : Table) (n r : ℕ) → new.slots.items ≡ old.slots.items
+    → ((q : ℕ) → get nat_cmp new.ranks q
+    ≡ cond (is_eq (nat_cmp r q)) (Some (n + 1)) (get nat_cmp old.ranks q))
+    → new.others ≡ old.others → IsHeld old new n (ranked r)
+held_rank old new n r slots ranks others = record {
+  here =
+      ap (λ (o : Option ℕ). unwrap_or o 0) (ranks r
+      ∙ ap (λ (b : Bool). cond b (Some (n + 1)) (get nat_cmp old.ranks r)) own)
+      ∙ (let next : n + 1 ≡ suc n = omega arith in next);
+  elsewhere = elsewhere;
+  others = λ y. ap (λ (m : BTreeMap (Vec ℕ) ℕ). get bytes_cmp m y) others;
+}
+  where
+    own : is_eq (nat_cmp r r) ≡ true
+    own = grind (arith, nat_tests)
 
-  pub put_first : v ≡ 0 → IsPut slots (set slots slot (n + 1)) others others n x at
-      (slots_of x.items (length slots))
-  put_first free =
-      subst (λ (k : ℕ). IsPut slots (set slots slot (n + 1)) others others n x at
-      (k ∷ (k + 1) ∷ [])) is
-      (inl (first_read ∙ free, omega (arith, fits), next slot, λ y. refl))
+    apart : (q : ℕ) → q ≢ r → is_eq (nat_cmp r q) ≡ false
+    apart q differs =
+        not_true (is_eq (nat_cmp r q)) (λ same.
+        differs (let e : q ≡ r = grind (arith, nat_tests) in e))
 
-  taken : v ≢ 0 → get_or slots slot 0 ≢ 0
-  taken some e = some (sym first_read ∙ e)
+    elsewhere : (q : Spot) → q ≢ ranked r → held new q ≡ held old q
+    elsewhere (slot m) other = ap (λ (s : List ℕ). get_or s m 0) slots
+    elsewhere (ranked q) other =
+        ap (λ (o : Option ℕ). unwrap_or o 0) (ranks q
+        ∙ ap (λ (b : Bool). cond b (Some (n + 1)) (get nat_cmp old.ranks q))
+        (apart q (λ e. other (ap ranked e))))
 
-  module _ (some : v ≢ 0) (w : ℕ) (second : w ≡ get_or slots (slot + 1) w) where
-    second_read : get_or slots (slot + 1) 0 ≡ w
-    second_read = sym (get_or_default_zero slots (slot + 1) w fits) ∙ sym second
+read : (slots : List ℕ) (p v : ℕ) → p < length slots → v ≡ get_or slots p v → get_or slots p 0 ≡ v
+read slots p v within is = sym (get_or_default_zero slots p v within) ∙ sym is
 
-    pub put_second : w ≡ 0 → IsPut slots (set slots (slot + 1) (n + 1)) others others n x at
-        (slots_of x.items (length slots))
-    put_second free =
-        subst (λ (k : ℕ). IsPut slots (set slots (slot + 1) (n + 1)) others others n x at
-        (k ∷ (k + 1) ∷ [])) is
-        (inr (taken some, inl (second_read ∙ free, fits, next (slot + 1), λ y. refl)))
+module _ (old new : Table) (n : ℕ) (x : Vec ℕ) (at p v : ℕ)
+    (is : p ≡ slot_by (mixed x.items) (length old.slots.items))
+    (fits : p + 1 < length old.slots.items) (first : v ≡ get_or old.slots.items p v) where
+  abbrev spots : List Spot
+  spots = slot p ∷ slot (p + 1) ∷ ranked (mixed_again x.items) ∷ []
 
-    pub put_beside : w ≢ 0 → (others' : BTreeMap (Vec ℕ) ℕ) → IsOther x at others others'
-        → IsPut slots slots others others' n x at (slots_of x.items (length slots))
-    put_beside full others' other =
-        subst (λ (k : ℕ). IsPut slots slots others others' n x at (k ∷ (k + 1) ∷ [])) is
-        (inr (taken some, inr ((λ e. full (sym second_read ∙ e)), (refl, other))))
+  put_of : length new.slots.items ≡ length old.slots.items → IsPutAt old new n x at spots
+      → IsPut old new n x at
+  put_of len put = record {
+    len = len;
+    put =
+        subst (λ (k : ℕ). IsPutAt old new n x at
+        (slot k ∷ slot (k + 1) ∷ ranked (mixed_again x.items) ∷ [])) is put;
+  }
 
--- ---- what a slot says
+  first_read : get_or old.slots.items p 0 ≡ v
+  first_read = read old.slots.items p v (omega (arith, fits)) first
+
+  pub put_first : v ≡ 0 → new.slots.items ≡ set old.slots.items p (n + 1) → new.ranks ≡ old.ranks
+      → new.others ≡ old.others → IsPut old new n x at
+  put_first free slots ranks others =
+      put_of (ap length slots ∙ length-set old.slots.items p (n + 1))
+      (inl (first_read ∙ free, held_slot old new n p (omega (arith, fits)) slots ranks others))
+
+  module _ (some : v ≢ 0) (w : ℕ) (second : w ≡ get_or old.slots.items (p + 1) w) where
+    taken : get_or old.slots.items p 0 ≢ 0
+    taken e = some (sym first_read ∙ e)
+
+    second_read : get_or old.slots.items (p + 1) 0 ≡ w
+    second_read = read old.slots.items (p + 1) w fits second
+
+    pub put_second : w ≡ 0 → new.slots.items ≡ set old.slots.items (p + 1) (n + 1)
+        → new.ranks ≡ old.ranks → new.others ≡ old.others → IsPut old new n x at
+    put_second free slots ranks others =
+        put_of (ap length slots ∙ length-set old.slots.items (p + 1) (n + 1))
+        (inr (taken, inl (second_read ∙ free, held_slot old new n (p + 1) fits slots ranks others)))
+
+    module _ (full : w ≢ 0) (r u : ℕ) (rank : r ≡ mixed_again x.items)
+        (third : u ≡ held old (ranked r)) (slots : new.slots.items ≡ old.slots.items) where
+      behind : IsPutAt old new n x at (ranked r ∷ []) → IsPut old new n x at
+      behind put =
+          put_of (ap length slots)
+          (inr (
+            taken,
+            inr (
+              (λ e. full (sym second_read ∙ e)),
+              subst (λ (k : ℕ). IsPutAt old new n x at (ranked k ∷ [])) rank put,
+            ),
+          ))
+
+      pub put_third : u ≡ 0 → ((q : ℕ) → get nat_cmp new.ranks q
+          ≡ cond (is_eq (nat_cmp r q)) (Some (n + 1)) (get nat_cmp old.ranks q))
+          → new.others ≡ old.others → IsPut old new n x at
+      put_third free ranks others =
+          behind (inl (sym third ∙ free, held_rank old new n r slots ranks others))
+
+      pub put_beside : u ≢ 0 → new.ranks ≡ old.ranks → IsOther x at old.others new.others
+          → IsPut old new n x at
+      put_beside held_there ranks other =
+          behind (inr ((λ e. held_there (third ∙ e)), (stays, other)))
+        where
+          stays : (q : Spot) → held new q ≡ held old q
+          stays (slot m) = ap (λ (s : List ℕ). get_or s m 0) slots
+          stays (ranked m) = ap (λ (m' : BTreeMap ℕ ℕ). unwrap_or (get nat_cmp m' m) 0) ranks
+
+-- ---- what a spot says
 
 viewed : (list : List (Vec ℕ × ℕ)) (k : ℕ)
     → slice_get (map_list entry_view list) k ≡ option_map entry_view (slice_get list k)
@@ -446,34 +515,31 @@ viewed [] k = refl
 viewed (e ∷ list) zero = refl
 viewed (e ∷ list) (suc k) = viewed list k
 
-said_entry : (list : List (Vec ℕ × ℕ)) (slots : List ℕ) (slot k : ℕ) (x : List ℕ)
-    → get_or slots slot 0 ≡ k + 1 → (rest : Option ℕ)
-    → told (map_list entry_view list) x (get_or slots slot 0) rest
+said_entry : (list : List (Vec ℕ × ℕ)) (v k : ℕ) (x : List ℕ) → v ≡ k + 1 → (rest : Option ℕ)
+    → told (map_list entry_view list) x v rest
     ≡ said_or x (option_map entry_view (slice_get list k)) rest
-said_entry list slots slot k x is rest =
+said_entry list v k x is rest =
     ap (λ (n : ℕ). told (map_list entry_view list) x n rest)
-    (let e : get_or slots slot 0 ≡ suc k = omega (arith, is) in e)
+    (let e : v ≡ suc k = omega (arith, is) in e)
     ∙ ap (λ (f : Option (List ℕ × ℕ)). said_or x f rest) (viewed list k)
 
 -- where the entry is the spelling's, its offset, and else nothing
-module _ (list : List (Vec ℕ × ℕ)) (slots : List ℕ) (slot k : ℕ) (x : List ℕ) (e : Vec ℕ × ℕ)
-    (is : get_or slots slot 0 ≡ k + 1)
+module _ (list : List (Vec ℕ × ℕ)) (v k : ℕ) (x : List ℕ) (e : Vec ℕ × ℕ) (is : v ≡ k + 1)
     (within : k < length list) (entry : e ≡ get_or list k e) where
-  by_entry_test : (rest : Option ℕ)
-      → told (map_list entry_view list) x (get_or slots slot 0) rest
+  by_entry_test : (rest : Option ℕ) → told (map_list entry_view list) x v rest
       ≡ cond (pointwise nat_eq x e.0.items) (Some e.1) rest
   by_entry_test rest =
-      said_entry list slots slot k x is rest
+      said_entry list v k x is rest
       ∙ ap (λ (f : Option (Vec ℕ × ℕ)). said_or x (option_map entry_view f) rest)
       (slice_get_read list (length list) k e refl within entry)
 
   pub said_here : true ≡ pointwise nat_eq e.0.items x → (rest : Option ℕ)
-      → told (map_list entry_view list) x (get_or slots slot 0) rest ≡ Some e.1
+      → told (map_list entry_view list) x v rest ≡ Some e.1
   said_here same rest =
       by_entry_test rest ∙ ap (λ (b : Bool). cond b (Some e.1) rest) (turned_true x e.0.items same)
 
   pub said_on : false ≡ pointwise nat_eq e.0.items x → (rest : Option ℕ)
-      → told (map_list entry_view list) x (get_or slots slot 0) rest ≡ rest
+      → told (map_list entry_view list) x v rest ≡ rest
   said_on differs rest =
       by_entry_test rest
       ∙ ap (λ (b : Bool). cond b (Some e.1) rest) (turned e.0.items x (sym differs))
@@ -484,15 +550,25 @@ long_zeros : (m : ℕ) → length (replicate {A = ℕ} m 0) ≡ m
 long_zeros zero = refl
 long_zeros (suc m) = ap suc (long_zeros m)
 
-pub table_empty : (m : ℕ) (others : BTreeMap (Vec ℕ) ℕ) → 1 < m
-    → ((y : Vec ℕ) → get bytes_cmp others y ≡ None) → IsTable [] (replicate m 0) others
-table_empty m others some none = record {
-  some = omega (arith, some, long_zeros m);
-  within = λ p k is. absurd (omega (arith, is, zeros m p));
+-- a table that holds nothing at any spot
+pub table_empty : (table : Table) (m : ℕ) → 1 < m → table.slots.items ≡ replicate m 0
+    → table.ranks.entries ≡ [] → table.others.entries ≡ [] → IsTable [] table
+table_empty table m some slots ranks others = record {
+  some = omega (arith, some, long_zeros m, ap length slots);
+  within = λ p k is. absurd (omega (arith, is, nothing p));
   of = λ y a is. let f : None ≡ Some a = sym (none y) ∙ is in absurd (cc);
-  finds = λ y. look_none [] (replicate m 0) (get bytes_cmp others y) y.items
-      (slots_of y.items (length (replicate m 0))) refl (none y);
+  finds = λ y. look_none [] table (get bytes_cmp table.others y) y.items
+      (spots_of y.items (length table.slots.items)) refl (none y);
 }
+  where
+    nothing : (p : Spot) → held table p ≡ 0
+    nothing (slot p) = ap (λ (s : List ℕ). get_or s p 0) slots ∙ zeros m p
+    nothing (ranked r) =
+        ap (λ (es : List (ℕ × ℕ)). unwrap_or (lookup (λ (k : ℕ). is_eq (nat_cmp r k)) es) 0) ranks
+
+    none : (y : Vec ℕ) → get bytes_cmp table.others y ≡ None
+    none y =
+        ap (λ (es : List (Vec ℕ × ℕ)). lookup (λ (k : Vec ℕ). is_eq (bytes_cmp y k)) es) others
 
 take_all : (entries : Entries) → take (length entries) entries ≡ entries
 take_all [] = refl
@@ -595,12 +671,11 @@ take_next (z ∷ entries) (suc n) y at =
     let rest = take_next entries n y at in
     (ap (λ (es : Entries). z ∷ es) rest.0, ap suc rest.1)
 
-pub table_next : (list : List (Vec ℕ × ℕ)) (n : ℕ) (e : Vec ℕ × ℕ) (slots slots' : List ℕ)
-    (others others' : BTreeMap (Vec ℕ) ℕ) → n < length list → e ≡ get_or list n e
-    → AreNew (map_list entry_view list) → IsTable (take n (map_list entry_view list)) slots others
-    → IsPut slots slots' others others' n e.0 e.1 (slots_of e.0.items (length slots))
-    → IsTable (take (n + 1) (map_list entry_view list)) slots' others'
-table_next list n e slots slots' others others' within is news table put =
+pub table_next : (list : List (Vec ℕ × ℕ)) (n : ℕ) (e : Vec ℕ × ℕ) (old new : Table)
+    → n < length list → e ≡ get_or list n e
+    → AreNew (map_list entry_view list) → IsTable (take n (map_list entry_view list)) old
+    → IsPut old new n e.0 e.1 → IsTable (take (n + 1) (map_list entry_view list)) new
+table_next list n e old new within is news table put =
     let entries : Entries = map_list entry_view list in
     let read : slice_get entries n ≡ Some (entry_view e) =
     viewed list n ∙ ap (option_map entry_view) (slice_get_read list
@@ -609,10 +684,9 @@ table_next list n e slots slots' others others' within is news table put =
     let count : n ≡ length (take n entries) = sym next.1 in
     let one : take (n + 1) entries ≡ take n entries ++ (e.0.items, e.1) ∷ [] =
     ap (λ (k : ℕ). take k entries) (let k : n + 1 ≡ suc n = omega arith in k) ∙ next.0 in
-    subst (λ (es : Entries). IsTable es slots' others') (sym one)
-    (table_longer (take n entries) slots others table e.0 e.1 (news n (entry_view e) read) slots'
-    others' (subst (λ (k : ℕ). IsPut slots slots' others others' k e.0 e.1
-    (slots_of e.0.items (length slots))) count put))
+    subst (λ (es : Entries). IsTable es new) (sym one)
+    (table_longer (take n entries) old table e.0 e.1 (news n (entry_view e) read) new
+    (subst (λ (k : ℕ). IsPut old new k e.0 e.1) count put))
 
 -- a list longer by one
 pub viewed_push : (list : List (Vec ℕ × ℕ)) (x : Vec ℕ) (at : ℕ)
@@ -621,19 +695,40 @@ viewed_push [] x at = refl
 viewed_push (e ∷ list) x at =
     ap (λ (es : Entries). entry_view e ∷ es) (viewed_push list x at)
 
--- the same with a map of the same entries
-pub table_same : (entries : Entries) (slots : List ℕ) (others others' : BTreeMap (Vec ℕ) ℕ)
-    → others'.entries ≡ others.entries → IsTable entries slots others
-    → IsTable entries slots others'
-table_same entries slots others others' same table = record {
-  some = table.some;
-  within = table.within;
+-- the same of a table that holds the same
+pub table_alike : (entries : Entries) (old new : Table) → IsAlike old new → IsTable entries old
+    → IsTable entries new
+table_alike entries old new alike table = record {
+  some = omega (arith, table.some, ap length alike.slots);
+  within = λ p k is. table.within p k (sym (holds p) ∙ is);
   of = λ x at is. table.of x at (sym (gives x) ∙ is);
-  finds = λ x.
-      ap (λ (r : Option ℕ). look entries slots r x.items (slots_of x.items (length slots)))
-      (gives x)
-      ∙ table.finds x;
+  finds = λ x. found x;
 }
   where
-    gives : (x : Vec ℕ) → get bytes_cmp others' x ≡ get bytes_cmp others x
-    gives x = ap (λ (es : List (Vec ℕ × ℕ)). lookup (λ (k : Vec ℕ). is_eq (bytes_cmp x k)) es) same
+    gives : (x : Vec ℕ) → get bytes_cmp new.others x ≡ get bytes_cmp old.others x
+    gives x =
+        ap (λ (es : List (Vec ℕ × ℕ)). lookup (λ (k : Vec ℕ). is_eq (bytes_cmp x k)) es)
+        alike.others
+
+    holds : (p : Spot) → held new p ≡ held old p
+    holds (slot p) = ap (λ (s : List ℕ). get_or s p 0) alike.slots
+    holds (ranked r) =
+        ap (λ (es : List (ℕ × ℕ)). unwrap_or (lookup (λ (k : ℕ). is_eq (nat_cmp r k)) es) 0)
+        alike.ranks
+
+    looks : (other : Option ℕ) (x : List ℕ) (ps : List Spot)
+        → look entries new other x ps ≡ look entries old other x ps
+    looks other x [] = refl
+    looks other x (p ∷ ps) =
+        ap (λ (v : ℕ). told entries x v (look entries new other x ps)) (holds p)
+        ∙ ap (told entries x (held old p)) (looks other x ps)
+
+    found : (x : Vec ℕ) → look entries new (get bytes_cmp new.others x) x.items
+        (spots_of x.items (length new.slots.items)) ≡ lookup (pointwise nat_eq x.items) entries
+    found x =
+        looks (get bytes_cmp new.others x) x.items (spots_of x.items (length new.slots.items))
+        ∙ ap (λ (r : Option ℕ). look entries old r x.items
+        (spots_of x.items (length new.slots.items))) (gives x)
+        ∙ ap (λ (n : ℕ). look entries old (get bytes_cmp old.others x) x.items
+        (spots_of x.items n)) (ap length alike.slots)
+        ∙ table.finds x

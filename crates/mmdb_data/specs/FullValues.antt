@@ -1,15 +1,18 @@
--- How the values that stand in full are found: at two slots of their spellings, or in an ordered
--- map.
-use Rattle.std.specs.Prelude.{◌≡◌, ◌≢◌, ◌⊎◌, ℕ, zero, suc, ◌+◌, ◌-◌, ◌%◌, ◌<◌, cond, nat_eq, List}
-use Rattle.std.specs.Prelude.{[]}
-use Rattle.std.specs.Prelude.{◌∷◌, length, get_or, slice_get, set, take, Option, Some, None}
+-- How the values that stand in full are found: at two slots of their spellings, by a second number
+-- of theirs, or in an ordered map.
+use Rattle.std.specs.Prelude.{◌≡◌, ◌≢◌, ◌⊎◌, ℕ, zero, suc, ◌+◌, ◌-◌, ◌*◌, ◌%◌, ◌^◌, ◌<◌, cond}
+use Rattle.std.specs.Prelude.{nat_eq, List, [], ◌∷◌, length, get_or, slice_get, take, Option, Some}
+use Rattle.std.specs.Prelude.{None}
 use Rattle.std.specs.BTreeMap.{BTreeMap, get}
 use Rattle.std.specs.Cmp.Lexicographic.{pointwise, slice_cmp}
 use Rattle.std.specs.Global.{Vec}
 use Rattle.std.specs.Hash.FoldHasher as folding
+use Rattle.std.specs.Int.{w64, to_le_bytes}
 use Rattle.std.specs.Map.{lookup}
+use Rattle.std.specs.Option.{unwrap_or}
 use Rattle.std.specs.Ordering.{nat_cmp}
 use Rattle.std.specs.declared.cmp.Ordering.{Ordering}
+use Rattle.mmdb_data.specs.declared.full_values.Table.{Table}
 
 -- spellings with their offsets
 abbrev pub Entries : Type 0
@@ -21,54 +24,94 @@ entry_view entry = (entry.0.items, entry.1)
 abbrev pub bytes_cmp : Vec ℕ → Vec ℕ → Ordering
 bytes_cmp a b = slice_cmp nat_cmp a.items b.items
 
--- the first of the two slots of a spelling, of so many slots; the second is the next one
-unfoldable pub first_slot : List ℕ → ℕ → ℕ
-first_slot spelled len = folding.finish (folding.write folding.initial spelled) % (len - 1)
+-- what a spelling is mixed to
+unfoldable pub mixed : List ℕ → ℕ
+mixed spelled = folding.finish (folding.write folding.initial spelled)
 
-abbrev pub slots_of : List ℕ → ℕ → List ℕ
-slots_of spelled len = first_slot spelled len ∷ (first_slot spelled len + 1) ∷ []
+-- what it is mixed to once more, behind what it was mixed to, and below that what it is mixed to
+-- behind this
+unfoldable pub mixed_again : List ℕ → ℕ
+mixed_again spelled =
+    let again =
+    folding.write (folding.write folding.initial (to_le_bytes w64 (mixed spelled))) spelled in
+    folding.finish again * 2 ^ 64 + folding.finish (folding.write again spelled)
+
+-- the first of the two slots that follow from a number, of so many; the second is the next one
+abbrev pub slot_by : ℕ → ℕ → ℕ
+slot_by first len = first % (len - 1)
+
+-- where the number of a spelling can be held
+pub data Spot : Type 0 where
+  slot : ℕ → Spot
+  ranked : ℕ → Spot
+
+-- what is held there: 0 that no spelling with this slot or rank has come, and k + 1 to look at
+-- entry k first
+abbrev pub held : Table → Spot → ℕ
+held table (slot p) = get_or table.slots.items p 0
+held table (ranked r) = unwrap_or (get nat_cmp table.ranks r) 0
+
+-- two slots, and behind them a rank
+abbrev pub spots_of : List ℕ → ℕ → List Spot
+spots_of spelled len =
+    slot (slot_by (mixed spelled) len) ∷ slot (slot_by (mixed spelled) len + 1)
+    ∷ ranked (mixed_again spelled) ∷ []
 
 -- what an entry says of a spelling, where it is not another's
 abbrev pub said_or : List ℕ → Option (List ℕ × ℕ) → Option ℕ → Option ℕ
 said_or spelled None rest = rest
 said_or spelled (Some entry) rest = cond (pointwise nat_eq spelled entry.0) (Some entry.1) rest
 
--- what a slot says: 0 that no spelling with this slot has come, and k + 1 to look at entry k first
+-- what it says of a spelling that this is held at a spot of it
 abbrev pub told : Entries → List ℕ → ℕ → Option ℕ → Option ℕ
 told entries spelled zero rest = None
 told entries spelled (suc k) rest = said_or spelled (slice_get entries k) rest
 
--- what the slots say one after the other, and then the others
-abbrev pub look : Entries → List ℕ → Option ℕ → List ℕ → List ℕ → Option ℕ
-look entries slots other spelled [] = other
-look entries slots other spelled (p ∷ ps) =
-    told entries spelled (get_or slots p 0) (look entries slots other spelled ps)
+-- what is held at the spots says one after the other, and then the others
+abbrev pub look : Entries → Table → Option ℕ → List ℕ → List Spot → Option ℕ
+look entries table other spelled [] = other
+look entries table other spelled (p ∷ ps) =
+    told entries spelled (held table p) (look entries table other spelled ps)
 
 -- each spelling came once
 abbrev pub AreNew : Entries → Type 0
 AreNew entries = (i : ℕ) (entry : List ℕ × ℕ) → slice_get entries i ≡ Some entry
     → lookup (pointwise nat_eq entry.0) (take i entries) ≡ None
 
--- the slots and the others find each entry
-pub record IsTable (entries : Entries) (slots : List ℕ) (others : BTreeMap (Vec ℕ) ℕ) : Type 0 where
-  pub some : 1 < length slots
-  pub within : (p k : ℕ) → get_or slots p 0 ≡ suc k → k < length entries
-  pub of : (x : Vec ℕ) (at : ℕ) → get bytes_cmp others x ≡ Some at
+-- the table finds each entry
+pub record IsTable (entries : Entries) (table : Table) : Type 0 where
+  pub some : 1 < length table.slots.items
+  pub within : (p : Spot) (k : ℕ) → held table p ≡ suc k → k < length entries
+  pub of : (x : Vec ℕ) (at : ℕ) → get bytes_cmp table.others x ≡ Some at
       → lookup (pointwise nat_eq x.items) entries ≡ Some at
-  pub finds : (x : Vec ℕ) → look entries slots (get bytes_cmp others x) x.items
-      (slots_of x.items (length slots)) ≡ lookup (pointwise nat_eq x.items) entries
+  pub finds : (x : Vec ℕ) → look entries table (get bytes_cmp table.others x) x.items
+      (spots_of x.items (length table.slots.items)) ≡ lookup (pointwise nat_eq x.items) entries
 
 -- a spelling with its offset went to the others
 abbrev pub IsOther : Vec ℕ → ℕ → BTreeMap (Vec ℕ) ℕ → BTreeMap (Vec ℕ) ℕ → Type 0
 IsOther x at old new = (y : Vec ℕ) → get bytes_cmp new y
     ≡ cond (pointwise nat_eq x.items y.items) (Some at) (get bytes_cmp old y)
 
--- the number went to the first free one of these slots, or the spelling to the others
-abbrev pub IsPut : List ℕ → List ℕ → BTreeMap (Vec ℕ) ℕ → BTreeMap (Vec ℕ) ℕ → ℕ → Vec ℕ → ℕ
-    → List ℕ
-    → Type 0
-IsPut slots slots' others others' n x at [] = (slots' ≡ slots) × IsOther x at others others'
-IsPut slots slots' others others' n x at (p ∷ ps) =
-    ((get_or slots p 0 ≡ 0) × (p < length slots) × (slots' ≡ set slots p (suc n))
-    × ((y : Vec ℕ) → get bytes_cmp others' y ≡ get bytes_cmp others y))
-    ⊎ ((get_or slots p 0 ≢ 0) × IsPut slots slots' others others' n x at ps)
+-- the number went to this spot, and nothing else changed
+pub record IsHeld (old new : Table) (n : ℕ) (p : Spot) : Type 0 where
+  pub here : held new p ≡ suc n
+  pub elsewhere : (q : Spot) → q ≢ p → held new q ≡ held old q
+  pub others : (y : Vec ℕ) → get bytes_cmp new.others y ≡ get bytes_cmp old.others y
+
+-- the number went to the first free one of these spots, or the spelling to the others
+abbrev pub IsPutAt : Table → Table → ℕ → Vec ℕ → ℕ → List Spot → Type 0
+IsPutAt old new n x at [] =
+    ((q : Spot) → held new q ≡ held old q) × IsOther x at old.others new.others
+IsPutAt old new n x at (p ∷ ps) =
+    ((held old p ≡ 0) × IsHeld old new n p) ⊎ ((held old p ≢ 0) × IsPutAt old new n x at ps)
+
+-- the same of the spelling's spots
+pub record IsPut (old new : Table) (n : ℕ) (x : Vec ℕ) (at : ℕ) : Type 0 where
+  pub len : length new.slots.items ≡ length old.slots.items
+  pub put : IsPutAt old new n x at (spots_of x.items (length old.slots.items))
+
+-- both hold the same
+pub record IsAlike (old new : Table) : Type 0 where
+  pub slots : new.slots.items ≡ old.slots.items
+  pub ranks : new.ranks.entries ≡ old.ranks.entries
+  pub others : new.others.entries ≡ old.others.entries

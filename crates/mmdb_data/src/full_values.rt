@@ -1,12 +1,11 @@
 //! Where the values of a section stand in full, by their spellings.
-ghost use Rattle.std.specs.Prelude.{◌≡◌, ◌+◌, ◌^◌, ◌<◌, ◌++◌, ◌∷◌, [], None, Option, ℕ, suc};
-ghost use Rattle.std.specs.Prelude.{length};
-ghost use Rattle.std.specs.Prelude.{take, nat_eq, get_or, map as map_list, IfOk, OnOk, OnErr};
+ghost use Rattle.std.specs.Prelude.{◌≡◌, ◌+◌, ◌^◌, ◌<◌, ◌++◌, ◌∷◌, [], None, Option, ℕ, length};
+ghost use Rattle.std.specs.Prelude.{take, nat_eq, map as map_list, IfOk, OnOk, OnErr};
 ghost use Rattle.std.specs.Option.{unwrap_or};
 ghost use Rattle.std.specs.Cmp.Lexicographic.{pointwise};
 ghost use Rattle.std.specs.Map.{lookup};
-ghost use Rattle.mmdb_data.specs.FullValues.{first_slot, slots_of, told, entry_view, AreNew};
-ghost use Rattle.mmdb_data.specs.FullValues.{IsTable, IsPut};
+ghost use Rattle.mmdb_data.specs.FullValues.{mixed, mixed_again, slot_by, held, ranked, told};
+ghost use Rattle.mmdb_data.specs.FullValues.{entry_view, AreNew, IsTable, IsPut, IsAlike};
 
 use geo_addr::Memory;
 use std::alloc::Global;
@@ -16,15 +15,23 @@ use std::marker::Model;
 
 /// Spellings with their offsets, in the order in which they came, each once.
 ///
-/// Two slots that follow from a spelling lead to it, mostly. A spelling whose slots others had
-/// first is in an ordered map, so that no choice of values makes a look-up long.
+/// Two slots that follow from a spelling lead to it, mostly. Of those whose slots others had first
+/// an ordered map has the ranks, second numbers of theirs, and of those whose rank another had
+/// first an ordered map has the spellings, so that no choice of values makes a look-up long.
 #[derive(Debug, Drop)]
 pub(crate) struct FullValues {
     alloc: Global,
     list: Vec<(Vec<u8>, u64)>,
-    // One more than the number of a spelling in the list, and 0 where none came. There are none
-    // before the first spelling, and after some were taken off.
+    table: Table,
+}
+
+/// What leads to the spellings of a list. Slots and ranks have one more than the number of a
+/// spelling in the list; a slot has 0 where none came. There are no slots before the first
+/// spelling, and after some were taken off.
+#[derive(Debug, Drop)]
+struct Table {
     slots: Vec<u32>,
+    ranks: BTreeMap<u128, u32>,
     others: BTreeMap<Vec<u8>, u64>,
 }
 
@@ -37,8 +44,8 @@ impl Model for FullValues {
     ghost view = { λ s. map_list entry_view s.list.items };
 
     ghost invariant = { λ s. AreNew (map_list entry_view s.list.items)
-        × (0 < length s.slots.items
-        → IsTable (map_list entry_view s.list.items) s.slots.items s.others) };
+        × (0 < length s.table.slots.items
+        → IsTable (map_list entry_view s.list.items) s.table) };
 }
 
 impl FullValues {
@@ -49,8 +56,7 @@ impl FullValues {
         FullValues {
             alloc,
             list: Vec::new(alloc),
-            slots: Vec::new(alloc),
-            others: BTreeMap::new(alloc),
+            table: Table::new(alloc),
         }
     }
 
@@ -65,18 +71,23 @@ impl FullValues {
     pub(crate) fn get(&self, spelled: &Vec<u8>) -> Option<u64>
         ensures { result ≡ lookup (pointwise nat_eq spelled.now.items) self.now }
     {
-        if self.slots.is_empty() {
-            return searched(self.list.as_slice(), spelled.as_slice());
+        let (list, table) = (self.list.as_slice(), &self.table);
+        if table.slots.is_empty() {
+            return searched(list, spelled.as_slice());
         }
-        let slot = slot_of(spelled.as_slice(), self.slots.len());
-        let (list, slots) = (self.list.as_slice(), self.slots.as_slice());
-        if let Some(answer) = said(list, slots, slot, spelled.as_slice()) {
+        let first = mixed(spelled.as_slice());
+        let slot = slot_by(first, table.slots.len());
+        if let Some(answer) = said(list, table.slots[slot], spelled.as_slice()) {
             return answer;
         }
-        if let Some(answer) = said(list, slots, slot + 1, spelled.as_slice()) {
+        if let Some(answer) = said(list, table.slots[slot + 1], spelled.as_slice()) {
             return answer;
         }
-        self.others.get(spelled).copied()
+        let rank = mixed_again(first, spelled.as_slice());
+        if let Some(answer) = said(list, table.at_rank(rank), spelled.as_slice()) {
+            return answer;
+        }
+        table.others.get(spelled).copied()
     }
 
     /// Puts a new spelling last.
@@ -89,21 +100,14 @@ impl FullValues {
         if number >= MOST_NUMBERS {
             return Err(Memory);
         }
-        // A spelling in the map takes no slot, so whoever crowds it has no table made anew.
-        let taken = number.saturating_sub(self.others.len());
-        if self.slots.len() < 2 * taken + 2 {
-            let (slots, others) = table_of(self.alloc, self.list.as_slice())?;
-            self.slots = slots;
-            self.others = others;
+        // A spelling in a map takes no slot, so whoever crowds one has no table made anew.
+        let beside = self.table.ranks.len() + self.table.others.len();
+        let taken = number.saturating_sub(beside);
+        if self.table.slots.len() < 2 * taken + 2 {
+            self.table = table_of(self.alloc, self.list.as_slice())?;
         }
         self.list.reserve(1)?;
-        note(
-            &mut self.slots,
-            &mut self.others,
-            number as u32,
-            &spelled,
-            at,
-        )?;
+        note(&mut self.table, number as u32, &spelled, at)?;
         self.list.push_reserved((spelled, at));
         Ok(())
     }
@@ -112,9 +116,32 @@ impl FullValues {
     pub(crate) fn truncate(&mut self, len: usize)
         ensures { self.new ≡ take len self.old }
     {
-        self.slots.clear();
-        self.others.clear();
+        self.table.slots.clear();
+        self.table.ranks.clear();
+        self.table.others.clear();
         self.list.truncate(len);
+    }
+}
+
+impl Table {
+    // No slots.
+    fn new(alloc: Global) -> Table
+        ensures slots { result.slots.items ≡ [] }
+        ensures ranks { result.ranks.entries ≡ [] }
+        ensures others { result.others.entries ≡ [] }
+    {
+        Table {
+            slots: Vec::new(alloc),
+            ranks: BTreeMap::new(alloc),
+            others: BTreeMap::new(alloc),
+        }
+    }
+
+    // What the rank has, and 0 where none of it came.
+    fn at_rank(&self, rank: u128) -> u32
+        ensures { result ≡ held self.now (ranked rank) }
+    {
+        self.ranks.get(&rank).copied().unwrap_or(0)
     }
 }
 
@@ -124,25 +151,44 @@ const FIRST_SLOTS: usize = 64;
 /// The most spellings that a slot can tell apart.
 const MOST_NUMBERS: usize = 0xffff_ffff;
 
-// The first of the two slots of a spelling.
-fn slot_of(spelled: &[u8], len: usize) -> usize
-    requires { 1 < len }
-    ensures slot { result ≡ first_slot spelled.now len }
-    ensures within { result + 1 < len }
+// What a spelling is mixed to.
+fn mixed(spelled: &[u8]) -> u64
+    ensures { result ≡ mixed spelled.now }
 {
     let mut hasher = FoldHasher::default();
     hasher.write(spelled);
-    (hasher.finish() % (len as u64 - 1)) as usize
+    hasher.finish()
 }
 
-// What the slot tells of the spelling, if anything.
-fn said(list: &[(Vec<u8>, u64)], slots: &[u32], slot: usize, spelled: &[u8]) -> Option<Option<u64>>
-    requires { slot < length slots.now }
-    ensures { (rest : Option ℕ)
-        → told (map_list entry_view list.now) spelled.now (get_or slots.now slot 0) rest
-        ≡ unwrap_or result rest }
+// What it is mixed to twice more, each time behind what it was mixed to before, so that spellings
+// which were made for the first number do not share this one.
+fn mixed_again(first: u64, spelled: &[u8]) -> u128
+    requires { first ≡ mixed spelled.now }
+    ensures { result ≡ mixed_again spelled.now }
 {
-    let Some(number) = slots[slot].checked_sub(1) else {
+    let mut hasher = FoldHasher::default();
+    hasher.write(&first.to_le_bytes());
+    hasher.write(spelled);
+    let second = hasher.finish();
+    hasher.write(spelled);
+    u128::from(second) * (1 << 64) + u128::from(hasher.finish())
+}
+
+// The first of the two slots that follow from a number.
+fn slot_by(first: u64, len: usize) -> usize
+    requires { 1 < len }
+    ensures slot { result ≡ slot_by first len }
+    ensures within { result + 1 < len }
+{
+    (first % (len as u64 - 1)) as usize
+}
+
+// What a slot or a rank that has this tells of the spelling, if anything.
+fn said(list: &[(Vec<u8>, u64)], held: u32, spelled: &[u8]) -> Option<Option<u64>>
+    ensures { (rest : Option ℕ)
+        → told (map_list entry_view list.now) spelled.now held rest ≡ unwrap_or result rest }
+{
+    let Some(number) = held.checked_sub(1) else {
         return Some(None);
     };
     let (own, at) = list.get(number as usize)?;
@@ -164,53 +210,48 @@ fn searched(list: &[(Vec<u8>, u64)], spelled: &[u8]) -> Option<u64>
     None
 }
 
-// Slots and others that find all spellings of the list, with room for three times as many more.
-fn table_of(
-    alloc: Global,
-    list: &[(Vec<u8>, u64)],
-) -> Result<(Vec<u32>, BTreeMap<Vec<u8>, u64>), Memory>
+// A table that finds all spellings of the list, with room for three times as many more.
+fn table_of(alloc: Global, list: &[(Vec<u8>, u64)]) -> Result<Table, Memory>
     requires few { length list.now < 2 ^ 32 }
     requires new { AreNew (map_list entry_view list.now) }
-    ensures { IfOk result
-        (λ made. IsTable (map_list entry_view list.now) made.0.items made.1) }
+    ensures { IfOk result (λ table. IsTable (map_list entry_view list.now) table) }
 {
-    let mut slots = Vec::new(alloc);
-    let mut others = BTreeMap::new(alloc);
-    slots.resize(8 * list.len() + FIRST_SLOTS, 0)?;
+    let mut table = Table::new(alloc);
+    table.slots.resize(8 * list.len() + FIRST_SLOTS, 0)?;
     for number in 0..list.len() {
         let (spelled, at) = &list[number];
-        note(&mut slots, &mut others, number as u32, spelled, *at)?;
+        note(&mut table, number as u32, spelled, *at)?;
     }
-    Ok((slots, others))
+    Ok(table)
 }
 
-// Notes the number of a new spelling at the first free one of its slots, or else the spelling among
-// the others.
-fn note(
-    slots: &mut Vec<u32>,
-    others: &mut BTreeMap<Vec<u8>, u64>,
-    number: u32,
-    spelled: &Vec<u8>,
-    at: u64,
-) -> Result<(), Memory>
-    requires some { 1 < length slots.old.items }
+// Notes the number of a new spelling at the first free one of its slots, or else at its rank, or
+// else the spelling among the others.
+fn note(table: &mut Table, number: u32, spelled: &Vec<u8>, at: u64) -> Result<(), Memory>
+    requires some { 1 < length table.old.slots.items }
     requires few { number + 1 < 2 ^ 32 }
-    ensures put { OnOk result (IsPut slots.old.items slots.new.items others.old others.new
-        number spelled.now at (slots_of spelled.now.items (length slots.old.items))) }
-    ensures slots { OnErr result (slots.new.items ≡ slots.old.items) }
-    ensures others { OnErr result (others.new.entries ≡ others.old.entries) }
+    ensures put { OnOk result (IsPut table.old table.new number spelled.now at) }
+    ensures err { OnErr result (IsAlike table.old table.new) }
 {
-    let slot = slot_of(spelled.as_slice(), slots.len());
-    if slots[slot] == 0 {
-        slots[slot] = number + 1;
+    let first = mixed(spelled.as_slice());
+    let slot = slot_by(first, table.slots.len());
+    if table.slots[slot] == 0 {
+        table.slots[slot] = number + 1;
         return Ok(());
     }
-    if slots[slot + 1] == 0 {
-        slots[slot + 1] = number + 1;
+    if table.slots[slot + 1] == 0 {
+        table.slots[slot + 1] = number + 1;
+        return Ok(());
+    }
+    let rank = mixed_again(first, spelled.as_slice());
+    if table.at_rank(rank) == 0 {
+        if table.ranks.insert(rank, number + 1).is_err() {
+            return Err(Memory);
+        }
         return Ok(());
     }
     let key = spelled.clone()?;
-    if others.insert(key, at).is_err() {
+    if table.others.insert(key, at).is_err() {
         return Err(Memory);
     }
     Ok(())

@@ -1,5 +1,5 @@
-use Rattle.std.proofs.Common.{◌≡◌, ◌+◌, ◌<◌, ℕ, List, drop, nat_eq, get_or, length, sym, ap, subst}
-use Rattle.std.proofs.Common.{◌∙◌, arith, rules}
+use Rattle.std.proofs.Common.{ℕ, List, nat_eq, sym, ap}
+use Rattle.std.proofs.Common.{◌∙◌}
 use Rattle.std.specs.Cmp.Lexicographic.{pointwise}
 use Rattle.mmdb_data.proofs.Table.{search_here, search_on}
 use Rattle.mmdb_data.proofs.full_values.searched.Goals as goal
