@@ -3,8 +3,8 @@ use Rattle.std.proofs.Common.{ℕ, ◌↔◌, List, map}
 use Rattle.std.specs.Prelude.{Contains}
 use Rattle.std.specs.List.Sorted.{IsStrictlyIncreasing}
 use Rattle.geo_addr.specs.Ranges.{Ends}
-use Rattle.geo_terms.specs.FirstIndex.{StandAtCuts}
-use Rattle.geo_terms.specs.declared.firsts.boundaries.Boundary.{Boundary}
+use Rattle.first_index.specs.FirstIndex.{StandAtCuts}
+use Rattle.first_index.specs.declared.boundaries.Boundary.{Boundary}
 use Rattle.source_changes.specs.CutPoints.{AreCutsOf}
 
 pub cuts_told : {X : Type 0} (range : X → Ends) (xs : List X) (bs : List Boundary) (points : List ℕ)

@@ -2,7 +2,7 @@
 use Rattle.std.specs.Prelude.{List, map, All}
 use Rattle.std.specs.declared.cmp.Ordering.{Ordering}
 use Rattle.geo_addr.specs.Ranges.{Ends, IsBlock, range_of_block}
-use Rattle.geo_terms.specs.FirstIndex.{TellsFirst}
+use Rattle.first_index.specs.FirstIndex.{TellsFirst}
 use Rattle.geo_terms.specs.Precedence.{entry_cmp}
 use Rattle.geo_terms.specs.SourceForm.{FeedParts}
 use Rattle.source_changes.specs.CutPoints.{AreCutsOf}

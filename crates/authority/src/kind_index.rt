@@ -2,8 +2,9 @@
 ghost use Rattle.std.specs.Prelude.{◌≡◌, map, All, IfOk, OnOk};
 ghost use Rattle.authority.specs.Kinds.{IsKindIndex};
 
+use first_index::FirstIndex;
 use geo_addr::Memory;
-use geo_terms::{FirstIndex, Statement};
+use geo_terms::Statement;
 use source_changes::push_borrows;
 use std::alloc::Global;
 

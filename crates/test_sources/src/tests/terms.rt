@@ -1,9 +1,10 @@
 //! Places from fields, numbers of places, shared texts, homes of addresses, and first statements.
 //! What is wanted was told from the fields, texts and ranges by hand.
+use first_index::FirstIndex;
 use geo_addr::{Addr, Range, parse_addr, parse_span};
 use geo_terms::{
-    FirstIndex, Override, Place, PlaceFault, Places, Said, Texts, country_place, home, is_alias,
-    lies_in_alias, place_of,
+    Override, Place, PlaceFault, Places, Said, Texts, country_place, home, is_alias, lies_in_alias,
+    place_of,
 };
 use std::alloc::Global;
 

@@ -1,0 +1,4 @@
+pub mod Boundaries
+pub mod Edges
+pub mod FirstIndex
+pub mod Nested
