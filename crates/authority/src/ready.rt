@@ -68,7 +68,7 @@ impl ReadyFeed {
     pub fn cuts(&self) -> &[u128]
         ensures { AreCutsOf (map (λ e. range_of_block e.block) self.now.entries) result.now }
     {
-        self.index.cuts.as_slice()
+        self.index.cuts()
     }
 
     /// The longest entry that holds an address and lies within a range: the longest one that holds

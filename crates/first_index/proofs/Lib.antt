@@ -1,4 +1,5 @@
 pub mod BoundaryLemmas
+pub mod ColumnLemmas
 pub mod IndexLemmas
 pub mod NearLemmas
 pub mod NestedLemmas

@@ -6,17 +6,12 @@ use Rattle.std.proofs.Common.{◌∙◌, subst, arith}
 use Rattle.std.specs.Prelude.{Contains}
 use Rattle.std.specs.Cmp.{IsTotalOrder}
 use Rattle.std.specs.List.{enumerate_from, filter}
-use Rattle.std.specs.List.Retain.{DiffersFromLast, IsFiltered}
 use Rattle.std.specs.List.Sorted.{IsNonDecreasingBy, IsPermutation, IsSorted, IsStrictlyIncreasing}
 use Rattle.std.specs.Option.{option_and_then, option_map}
 use Rattle.std.specs.Ordering.{is_lt, nat_cmp}
 use Rattle.std.proofs.lemmas.Bool.Decides.{nat_tests}
-use Rattle.std.proofs.lemmas.List.{get_or-map, length-map}
-use Rattle.std.proofs.lemmas.List.Filters.{dedup_is}
 use Rattle.std.proofs.lemmas.List.Folds.{Any-from_list_any, list_any-from_Any}
-use Rattle.std.proofs.lemmas.List.Kept.{Contains-dedup_nat, Contains-from_dedup}
 use Rattle.std.proofs.lemmas.List.Sorted.{IsPermutation-map, list_any-IsPermutation}
-use Rattle.std.proofs.lemmas.Map.Keys.{IsStrictlyIncreasing-dedup}
 use Rattle.geo_addr.specs.Ranges.{AreCuts, Ends, IsEdge, ground_first, holds}
 use Rattle.geo_terms.specs.First.{better}
 use Rattle.first_index.specs.FirstIndex.{StandAtCuts, TellsFirst, index_cmp}
@@ -25,7 +20,6 @@ use Rattle.first_index.specs.declared.boundaries.Boundary.{Boundary}
 use Rattle.first_index.proofs.IndexLemmas.{best_first}
 use Rattle.geo_terms.proofs.SeenLemmas.{map_map}
 use Rattle.geo_terms.proofs.Members.{Among, among_from_contains, contains_from_among}
-use Rattle.first_index.proofs.RankLemmas.{nat_cases}
 
 -- boundaries stand where points do
 abbrev place : Boundary → ℕ
@@ -98,38 +92,6 @@ stand_cuts rs bs stand c = (
       let at : stands_at bs c ≡ true = stand c ∙ rw (some, inside) refl in
       contains_from_among c (map place bs) (stands_among bs c at),
 )
-
--- the points of boundaries in order, each once
-sorted_at : (bs : List Boundary) → IsNonDecreasingBy (λ (b : Boundary). b.at) bs
-    → IsSorted nat_cmp (map place bs)
-sorted_at bs up k d low below =
-    let e : Boundary = record { at = 0; first = None } in
-    let n : length (map place bs) ≡ length bs = length-map bs place in
-    let x : get_or (map place bs) k d ≡ (get_or bs k e).at =
-    get_or-map place bs k e d (omega arith) in
-    let y : get_or (map place bs) (k + 1) d ≡ (get_or bs (k + 1) e).at =
-    get_or-map place bs (k + 1) e d (omega arith) in
-    let le : (get_or bs k e).at ≤ (get_or bs (k + 1) e).at =
-    up k (k + 1) e (omega arith) (omega arith) in
-    rw (x, y) (nat_cases (get_or bs (k + 1) e).at (get_or bs k e).at (λ o. is_lt o ≡ false)
-    (λ lt. absurd (omega arith)) (λ same. refl) (λ gt. refl))
-
-pub points_rise : (bs : List Boundary) (kept : List ℕ)
-    → IsNonDecreasingBy (λ (b : Boundary). b.at) bs
-    → IsFiltered (DiffersFromLast eqb) [] (map place bs) kept → IsStrictlyIncreasing kept
-points_rise bs kept up filtered =
-    let is = dedup_is eqb (map place bs) kept filtered in
-    subst IsStrictlyIncreasing (sym is)
-    (IsStrictlyIncreasing-dedup (map place bs) (sorted_at bs up))
-
-pub points_stay : (points kept : List ℕ) → IsFiltered (DiffersFromLast eqb) [] points kept
-    → (c : ℕ) → Contains kept c ↔ Contains points c
-points_stay points kept filtered c =
-    let is = dedup_is eqb points kept filtered in
-    let P : List ℕ → Type 0 = λ xs. Contains xs c in (
-      λ has. Contains-from_dedup eqb points c (subst P is has),
-      λ there. subst P (sym is) (Contains-dedup_nat points c there),
-    )
 
 module _ {X Y : Type 0} (see : Y → X) (order : X → X → Ordering) (range_of : X → Ends) where
   abbrev seen : ℕ × Y → ℕ × X

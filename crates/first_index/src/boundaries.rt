@@ -1,8 +1,7 @@
 //! The first of several ranges that holds an address, by halving.
-ghost use Rattle.std.specs.Prelude.{◌≡◌, ◌++◌, IfOk, OnOk, All, None, slice_get, []};
-ghost use Rattle.std.specs.List.Sorted.{IsNonDecreasingBy};
+ghost use Rattle.std.specs.Prelude.{◌≡◌, ◌++◌, IfOk, OnOk, All, slice_get, []};
 ghost use Rattle.geo_addr.specs.Ranges.{IsRange};
-ghost use Rattle.first_index.specs.Boundaries.{told, AreBoundaries};
+ghost use Rattle.first_index.specs.Boundaries.{AreBoundaries};
 ghost use Rattle.first_index.specs.Edges.{edges_of, edges_from, after_edge, sweep};
 ghost use Rattle.first_index.specs.Nested.{StandAtEdges};
 
@@ -35,16 +34,6 @@ pub fn boundaries_of(alloc: Global, ranges: &[Range]) -> Result<Vec<Boundary>, M
     edges.sort_unstable_by_key(|edge| edge.at);
     let boundaries = sweep(alloc, edges.as_slice())?;
     Ok(boundaries)
-}
-
-// What the boundaries tell of an address.
-pub fn told(boundaries: &[Boundary], at: u128) -> Option<usize>
-    requires { IsNonDecreasingBy (λ b. b.at) boundaries.now }
-    ensures { result ≡ told None boundaries.now at }
-{
-    let passed = boundaries.partition_point(|boundary| boundary.at <= at);
-    let last = passed.checked_sub(1)?;
-    boundaries[last].first
 }
 
 fn edges_of(alloc: Global, ranges: &[Range]) -> Result<Vec<Edge>, Memory>

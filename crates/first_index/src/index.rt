@@ -1,14 +1,16 @@
 //! The first of several statements that holds an address, by halving.
-ghost use Rattle.std.specs.Prelude.{◌≡◌, ◌↔◌, ◌-◌, ◌^◌, [], ℕ, All, Contains, IfOk, IfSome, OnOk};
+ghost use Rattle.std.specs.Prelude.{◌≡◌, ◌-◌, ◌^◌, [], All, IfOk, IfSome, OnOk};
 ghost use Rattle.std.specs.Prelude.{None, map, option_and_then, slice_get};
 ghost use Rattle.geo_addr.specs.Ranges.{ground_first};
 ghost use Rattle.std.specs.List.{enumerate_from};
-ghost use Rattle.std.specs.List.Sorted.{IsPermutation, IsStrictlyIncreasing};
+ghost use Rattle.std.specs.List.Sorted.{IsNonDecreasingBy, IsPermutation, IsStrictlyIncreasing};
 ghost use Rattle.first_index.specs.Boundaries.{told};
+ghost use Rattle.first_index.specs.Columns.{last_ones};
 ghost use Rattle.first_index.specs.FirstIndex.{StandAtCuts, TellsFirst, with_index};
 ghost use Rattle.first_index.specs.Nested.{AreBoundariesOf};
 
-use crate::boundaries::{Boundary, boundaries_of, told};
+use crate::boundaries::{Boundary, boundaries_of};
+use crate::columns::{coded, stands_at, told};
 use crate::near::told_near;
 use crate::nested::{nested_of, order};
 use geo_addr::{Addr, Memory, Range};
@@ -23,19 +25,20 @@ use std::marker::Model;
 /// statement: whoever has the list reads it there.
 #[derive(Debug, Drop)]
 pub struct FirstIndex {
-    boundaries: Vec<Boundary>,
+    points: Vec<u128>,
+    codes: Vec<u32>,
 }
 
 impl Model for FirstIndex {
     ghost use Rattle.std.specs.Prelude.{List};
-    ghost use Rattle.std.specs.List.Sorted.{IsNonDecreasingBy};
+    ghost use Rattle.first_index.specs.Columns.{AreColumns, of_columns};
     ghost use Rattle.first_index.specs.declared.boundaries.Boundary.{Boundary};
 
     ghost Value = { List Boundary };
 
-    ghost view = { λ i. i.boundaries.items };
+    ghost view = { λ i. of_columns i.points.items i.codes.items };
 
-    ghost invariant = { λ i. IsNonDecreasingBy (λ b. b.at) i.boundaries.items };
+    ghost invariant = { λ i. AreColumns i.points.items i.codes.items };
 }
 
 impl FirstIndex {
@@ -44,7 +47,8 @@ impl FirstIndex {
         ensures { result ≡ [] }
     {
         FirstIndex {
-            boundaries: Vec::new(alloc),
+            points: Vec::new(alloc),
+            codes: Vec::new(alloc),
         }
     }
 
@@ -52,7 +56,8 @@ impl FirstIndex {
     ///
     /// Where of any two grounds that share an address one lies in the other, that is one pass over
     /// them, behind a sort by where grounds begin if they do not ascend. Else it is a sort by their
-    /// order, and one pass over the ends of their grounds.
+    /// order, and one pass over the ends of their grounds. For more than 2 ^ 32 - 1 statements
+    /// there is no memory.
     pub fn of<S: Statement>(alloc: Global, statements: &[&S]) -> Result<FirstIndex, Memory>
         ensures told { IfOk result
             (λ index. TellsFirst S.order S.range (map (λ s. s.now) statements.entry.now) index) }
@@ -62,32 +67,31 @@ impl FirstIndex {
     {
         let mut ranked = indexed(alloc, statements)?;
         if let Some(boundaries) = nested_in_some_order(alloc, &mut ranked)? {
-            return Ok(FirstIndex { boundaries });
+            let index = in_columns(alloc, boundaries.as_slice())?;
+            return Ok(index);
         }
         ranked.sort_unstable_by(|x, y| order(x, y));
         let ranges = ranges_of(alloc, ranked.as_slice())?;
         let mut boundaries = boundaries_of(alloc, ranges.as_slice())?;
         let indexes = indexes_of(alloc, ranked.as_slice())?;
         put_indexes(&mut boundaries, indexes.as_slice());
-        Ok(FirstIndex { boundaries })
+        let index = in_columns(alloc, boundaries.as_slice())?;
+        Ok(index)
     }
 
     /// The addresses at which the boundaries stand, ascending, each once.
-    pub fn cut_points(&self, alloc: Global) -> Result<Vec<u128>, Memory>
-        ensures same { IfOk result (λ points. (c : ℕ)
-            → Contains points.items c ↔ Contains (map (λ b. b.at) self.now) c) }
-        ensures ascending { IfOk result (λ points. IsStrictlyIncreasing points.items) }
+    pub fn cut_points(&self) -> &[u128]
+        ensures same { result.now ≡ map (λ b. b.at) self.now }
+        ensures ascending { IsStrictlyIncreasing result.now }
     {
-        let mut points = points_of(alloc, self.boundaries.as_slice())?;
-        points.dedup();
-        Ok(points)
+        self.points.as_slice()
     }
 
     /// The index of the first statement that holds an address.
     pub fn index_at(&self, at: Addr) -> Option<usize>
         ensures { result ≡ told None self.now at.0 }
     {
-        told(self.boundaries.as_slice(), at.0)
+        told(self.points.as_slice(), self.codes.as_slice(), at.0)
     }
 
     /// The index of the first statement that holds an address, as `index_at` gives it.
@@ -97,18 +101,24 @@ impl FirstIndex {
     pub fn index_near(&self, at: Addr, near: &mut usize) -> Option<usize>
         ensures { result ≡ told None self.now at.0 }
     {
-        told_near(self.boundaries.as_slice(), at.0, near)
+        told_near(self.points.as_slice(), self.codes.as_slice(), at.0, near)
     }
 }
 
-fn points_of(alloc: Global, boundaries: &[Boundary]) -> Result<Vec<u128>, Memory>
-    ensures { IfOk result (λ points. points.items ≡ map (λ b. b.at) boundaries.now) }
+// The index that has boundaries in order, of those at one address the last.
+fn in_columns(alloc: Global, boundaries: &[Boundary]) -> Result<FirstIndex, Memory>
+    requires { IsNonDecreasingBy (λ b. b.at) boundaries.now }
+    ensures { IfOk result (λ index. index ≡ last_ones boundaries.now) }
 {
-    let points = boundaries
-        .iter()
-        .map(|boundary| boundary.at)
-        .collect(alloc)?;
-    Ok(points)
+    let mut points = Vec::with_capacity(alloc, boundaries.len())?;
+    let mut codes = Vec::with_capacity(alloc, boundaries.len())?;
+    for (index, boundary) in boundaries.iter().enumerate() {
+        if !stands_at(boundaries, index + 1, boundary.at) {
+            points.push(boundary.at)?;
+            codes.push(coded(boundary.first)?)?;
+        }
+    }
+    Ok(FirstIndex { points, codes })
 }
 
 // The statements with their indexes.

@@ -2,6 +2,7 @@
 #![tactic(auto)]
 
 mod boundaries;
+mod columns;
 mod index;
 mod near;
 mod nested;
