@@ -10,7 +10,7 @@ use Rattle.geo_addr.specs.Ranges.{Ends, Prefix, IsBlock, ground_first, holds, ra
 use Rattle.geo_terms.specs.First.{better, first_at, first_of, holders}
 use Rattle.geo_terms.specs.Precedence.{entries_within, entry_before, entry_cmp, lies_within}
 use Rattle.geo_terms.specs.declared.statement.Entry.{Entry}
-use Rattle.geo_terms.specs.Boundaries.{told}
+use Rattle.first_index.specs.Boundaries.{told}
 use Rattle.geo_terms.specs.SourceForm.{FeedParts}
 use Rattle.std.proofs.lemmas.List.Elements.{recursion_from_All}
 use Rattle.std.specs.Option.{option_and_then}

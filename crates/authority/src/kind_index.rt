@@ -1,17 +1,19 @@
 //! What is kept of the statements of one kind.
 ghost use Rattle.std.specs.Prelude.{◌≡◌, map, All, IfOk, OnOk};
+ghost use Rattle.std.specs.List.Sorted.{IsStrictlyIncreasing};
 ghost use Rattle.authority.specs.Kinds.{IsKindIndex};
 
+use first_index::FirstIndex;
 use geo_addr::Memory;
-use geo_terms::{FirstIndex, Statement};
+use geo_terms::Statement;
 use source_changes::push_borrows;
 use std::alloc::Global;
 
-/// The first statement of a kind at each address, and the cut points of the kind's statements.
+/// The first statement of a kind at each address, and with it the cut points of the kind's
+/// statements.
 #[derive(Debug, Drop)]
 pub struct KindIndex {
     pub firsts: FirstIndex,
-    pub cuts: Vec<u128>,
 }
 
 impl KindIndex {
@@ -33,7 +35,14 @@ impl KindIndex {
         ensures kept { OnOk result (All S.kept (map (λ s. s.now) statements.entry.now)) }
     {
         let firsts = FirstIndex::of(alloc, statements)?;
-        let cuts = firsts.cut_points(alloc)?;
-        Ok(KindIndex { firsts, cuts })
+        Ok(KindIndex { firsts })
+    }
+
+    /// The cut points of the statements.
+    pub fn cuts(&self) -> &[u128]
+        ensures same { result.now ≡ map (λ b. b.at) self.now.firsts }
+        ensures ascending { IsStrictlyIncreasing result.now }
+    {
+        self.firsts.cut_points()
     }
 }

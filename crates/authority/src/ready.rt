@@ -2,12 +2,13 @@
 ghost use Rattle.std.specs.Prelude.{◌≡◌, ◌<◌, ◌^◌, if◌then◌else◌, option_and_then, slice_get, Some};
 ghost use Rattle.std.specs.Prelude.{None};
 ghost use Rattle.std.specs.Option.{option_copied};
-ghost use Rattle.geo_terms.specs.Boundaries.{told};
+ghost use Rattle.first_index.specs.Boundaries.{told};
 ghost use Rattle.geo_terms.specs.Precedence.{lies_within};
 
 use crate::kind_index::KindIndex;
+use first_index::FirstIndex;
 use geo_addr::{Addr, Memory, Range, range_of};
-use geo_terms::{Entry, Feed, FirstIndex};
+use geo_terms::{Entry, Feed};
 use source_changes::shelf::Named;
 use std::alloc::{AllocError, Global};
 use std::marker::Model;
@@ -67,7 +68,7 @@ impl ReadyFeed {
     pub fn cuts(&self) -> &[u128]
         ensures { AreCutsOf (map (λ e. range_of_block e.block) self.now.entries) result.now }
     {
-        self.index.cuts.as_slice()
+        self.index.cuts()
     }
 
     /// The longest entry that holds an address and lies within a range: the longest one that holds

@@ -15,7 +15,7 @@ use Rattle.std.proofs.lemmas.List.Kept.{Contains-dedup_nat, Contains-from_dedup}
 use Rattle.std.proofs.lemmas.List.Sorted.{Contains-permutation, IsPermutation-sym}
 use Rattle.geo_addr.specs.Ranges.{Ends, AreCuts, IsCut, IsEdge, IsRange, IsWithin, ground_first}
 use Rattle.geo_terms.proofs.Members.{Among, among_from_contains, contains_from_among}
-use Rattle.geo_terms.proofs.RankLemmas.{Up}
+use Rattle.geo_terms.proofs.Ascending.{Up}
 use Rattle.source_changes.specs.CutPoints.{AreCutsOf, whole}
 use Rattle.cut_segments.specs.CutPoints.{AreCutsInside}
 

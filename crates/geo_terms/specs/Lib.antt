@@ -1,13 +1,9 @@
 pub mod Alias
 pub mod AllSources
-pub mod Boundaries
 pub mod Covering
 pub mod Cuts
 pub mod DelegationForm
-pub mod Edges
 pub mod First
-pub mod FirstIndex
-pub mod Nested
 pub mod NoteText
 pub mod Numbers
 pub mod Orders

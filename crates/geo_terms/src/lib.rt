@@ -3,9 +3,9 @@
 #![tactic(auto)]
 
 mod alias;
-mod firsts;
 pub mod laws;
 mod note;
+mod order;
 mod place;
 mod places;
 pub mod plain;
@@ -13,9 +13,8 @@ mod source;
 mod statement;
 
 pub use alias::{MAPPED_HEAD, SIX_TO_FOUR_HEAD, home, is_alias, lies_in_alias};
-pub use firsts::first_index::FirstIndex;
-pub use firsts::order::Statement;
 pub use note::{LineNote, Note, Origin, Rule, note_text};
+pub use order::Statement;
 pub use place::{Place, PlaceFault, Said};
 pub use places::fields::{country_place, place_in, place_of};
 pub use places::texts::{Texts, mixed};

@@ -10,7 +10,7 @@ ghost use Rattle.geo_terms.specs.Precedence.{spoken_at, entries_within, entry_be
 ghost use Rattle.geo_terms.specs.Precedence.{first_delegation, first_override, lies_within};
 ghost use Rattle.geo_terms.specs.Precedence.{said_place, speaker, speaking_entry};
 
-use crate::firsts::order::Statement;
+use crate::order::Statement;
 use crate::place::{Place, Said};
 use crate::source::{Dump, Feed, Overrides, Stats};
 use crate::statement::{Delegation, Entry, Override, Reference};

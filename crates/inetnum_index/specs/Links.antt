@@ -4,9 +4,9 @@ use Rattle.std.specs.Prelude.{◌≡◌, ℕ, ◌+◌, ◌<◌, ◌≤◌, ◌&&
 use Rattle.std.specs.Prelude.{length, slice_get, All, MatchOption, Option}
 use Rattle.std.specs.Ordering.{is_lt}
 use Rattle.geo_addr.specs.Ranges.{IsRange}
-use Rattle.geo_terms.specs.FirstIndex.{TellsFirst}
+use Rattle.first_index.specs.FirstIndex.{TellsFirst}
 use Rattle.geo_terms.specs.Precedence.{reference_cmp, reference_before}
-use Rattle.geo_terms.specs.declared.firsts.boundaries.Boundary.{Boundary}
+use Rattle.first_index.specs.declared.boundaries.Boundary.{Boundary}
 use Rattle.geo_terms.specs.declared.statement.Reference.{Reference}
 use Rattle.inetnum_index.specs.Shelf.{Key, key_of, key_cmp, is_of, same_group, shelf_cmp}
 use Rattle.inetnum_index.specs.declared.links.Link.{Link}

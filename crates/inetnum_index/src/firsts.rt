@@ -1,11 +1,12 @@
 //! The index of the first reference at each address.
 ghost use Rattle.std.specs.Prelude.{◌≡◌, All, IfOk, OnOk, map};
 ghost use Rattle.geo_addr.specs.Ranges.{IsRange};
-ghost use Rattle.geo_terms.specs.FirstIndex.{TellsFirst};
+ghost use Rattle.first_index.specs.FirstIndex.{TellsFirst};
 ghost use Rattle.geo_terms.specs.Precedence.{reference_cmp};
 
+use first_index::FirstIndex;
 use geo_addr::Memory;
-use geo_terms::{FirstIndex, Reference};
+use geo_terms::Reference;
 use std::alloc::Global;
 
 /// The index of these references.

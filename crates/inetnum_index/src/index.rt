@@ -3,8 +3,9 @@ use crate::cover::{end_of, first_reaching, some_reach};
 use crate::firsts::firsts_of;
 use crate::links::{Link, links_of};
 use crate::shelf::{family, shelf_order};
+use first_index::FirstIndex;
 use geo_addr::{Addr, Block, Memory, range_of};
-use geo_terms::{FirstIndex, Reference};
+use geo_terms::Reference;
 use std::alloc::Global;
 use std::marker::Model;
 

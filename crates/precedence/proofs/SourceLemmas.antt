@@ -9,7 +9,7 @@ use Rattle.std.proofs.lemmas.List.Sums.{length-filter}
 use Rattle.geo_addr.specs.Ranges.{Ends, AreCuts, IsWithin}
 use Rattle.geo_terms.proofs.Constancy.{constant_between_cuts}
 use Rattle.geo_terms.proofs.Members.{Among, among_filter, among_from_contains, contains_from_among}
-use Rattle.geo_terms.proofs.RankLemmas.{up_from, same_members}
+use Rattle.geo_terms.proofs.Ascending.{up_from, same_members}
 use Rattle.geo_terms.specs.Cuts.{statement_ranges}
 use Rattle.geo_terms.specs.Precedence.{entry_of, speaker, speaking_entry, spoken_at}
 use Rattle.geo_terms.specs.SourceForm.{OverridesParts, StatsParts}

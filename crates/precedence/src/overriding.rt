@@ -153,7 +153,7 @@ impl Overriding {
         ensures { AreCutsOf (map (λ o. o.range) (rows_in self.now)) result.now }
     {
         match &self.held {
-            Some(held) => held.index.cuts.as_slice(),
+            Some(held) => held.index.cuts(),
             None => &[],
         }
     }

@@ -502,7 +502,7 @@ impl Sources {
         let mut points = Vec::with_capacity(self.alloc, self.room_in(bounds))?;
         push_inside(&mut points, speakers.cuts.as_slice(), bounds)?;
         push_feeds_inside(&mut points, self.authority.feeds(), bounds)?;
-        push_inside(&mut points, delegations.index.cuts.as_slice(), bounds)?;
+        push_inside(&mut points, delegations.index.cuts(), bounds)?;
         push_inside(&mut points, self.overriding.cuts(), bounds)?;
         // A merge: each list that was appended ascends.
         points.sort()?;

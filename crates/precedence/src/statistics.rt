@@ -128,7 +128,7 @@ impl Statistics {
     /// How many cut points are kept, or how many delegations there are.
     pub fn count(&self) -> usize {
         if let Some(made) = &self.delegations {
-            return made.index.cuts.len();
+            return made.index.cuts().len();
         }
         let mut count: usize = 0;
         for file in self.files.as_slice() {

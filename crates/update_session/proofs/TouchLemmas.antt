@@ -12,7 +12,7 @@ use Rattle.geo_terms.specs.Sources.{InForce}
 use Rattle.mmdb_file.proofs.WritingLemmas.{length-each_once}
 use Rattle.least_nodes.proofs.Elements.{In, In-each_once-new}
 use Rattle.geo_terms.proofs.Members.{Among, contains_from_among, among_filter}
-use Rattle.geo_terms.proofs.RankLemmas.{Up, up_from, up_above}
+use Rattle.geo_terms.proofs.Ascending.{Up, up_from, up_above}
 use Rattle.precedence.specs.CutPoints.{AreSourceSegments}
 use Rattle.source_changes.specs.Laws.{OrderDoesNotMatter}
 use Rattle.source_changes.specs.Touched.{is_touched}

@@ -1,9 +1,10 @@
 //! Places from fields, numbers of places, shared texts, homes of addresses, and first statements.
 //! What is wanted was told from the fields, texts and ranges by hand.
+use first_index::FirstIndex;
 use geo_addr::{Addr, Range, parse_addr, parse_span};
 use geo_terms::{
-    FirstIndex, Override, Place, PlaceFault, Places, Said, Texts, country_place, home, is_alias,
-    lies_in_alias, place_of,
+    Override, Place, PlaceFault, Places, Said, Texts, country_place, home, is_alias, lies_in_alias,
+    place_of,
 };
 use std::alloc::Global;
 
@@ -346,17 +347,14 @@ fn finds(index: &FirstIndex, firsts: &[(u128, Option<usize>)]) -> bool {
     true
 }
 
-fn has_cuts(alloc: Global, index: &FirstIndex, points: &[u128]) -> bool {
-    match index.cut_points(alloc) {
-        Ok(found) => found.as_slice() == points,
-        Err(_) => false,
-    }
+fn has_cuts(index: &FirstIndex, points: &[u128]) -> bool {
+    index.cut_points() == points
 }
 
 fn tells(alloc: Global, statements: &mut Vec<Override>, row: &Firsts) -> Option<bool> {
     push_statements(statements, row.0)?;
     let index = index_of(alloc, statements.as_slice())?;
-    Some(finds(&index, row.1) && has_cuts(alloc, &index, row.2))
+    Some(finds(&index, row.1) && has_cuts(&index, row.2))
 }
 
 fn is_told(alloc: Global, row: &Firsts) -> Option<bool> {

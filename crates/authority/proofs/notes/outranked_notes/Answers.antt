@@ -2,7 +2,7 @@ use Rattle.std.proofs.Common.{◌≡◌, ◌∙◌, ◌++◌, Bor, List, ap, sub
 use Rattle.std.specs.List.Sorted.{IsPermutation, IsSortedBy}
 use Rattle.std.specs.Ordering.{is_lt}
 use Rattle.std.proofs.lemmas.List.Sorted.{IsPermutation-map, answers_always, ranks_by}
-use Rattle.geo_terms.proofs.IndexLemmas.{sorted_seen}
+use Rattle.geo_terms.proofs.SeenLemmas.{sorted_seen}
 use Rattle.geo_terms.specs.declared.note.Rule.TheVariants.{P08}
 use Rattle.geo_terms.specs.declared.statement.Reference.{Reference}
 use Rattle.authority.specs.Members.{weight}

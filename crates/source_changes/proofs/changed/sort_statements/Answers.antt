@@ -2,7 +2,7 @@ use Rattle.std.proofs.Common.{◌≡◌, List, map, ap, rules, Bor}
 use Rattle.std.specs.List.Sorted.{IsSortedBy}
 use Rattle.std.specs.Ordering.{is_lt}
 use Rattle.std.proofs.lemmas.List.Sorted.{IsPermutation-map, answers_always, ranks_by}
-use Rattle.geo_terms.proofs.IndexLemmas.{sorted_seen}
+use Rattle.geo_terms.proofs.SeenLemmas.{sorted_seen}
 use Rattle.source_changes.specs.Sorting.{whole_cmp}
 use Rattle.source_changes.proofs.Found.{whole_total}
 use Rattle.source_changes.proofs.changed.sort_statements.Goals as goal

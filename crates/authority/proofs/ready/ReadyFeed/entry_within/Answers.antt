@@ -1,7 +1,7 @@
 use Rattle.std.proofs.Common.{◌≡◌, ◌∙◌, Option, Some, None, ap, slice_get}
 use Rattle.std.specs.Arc.{arc_value}
 use Rattle.std.specs.Option.{option_and_then, option_copied}
-use Rattle.geo_terms.specs.Boundaries.{told}
+use Rattle.first_index.specs.Boundaries.{told}
 use Rattle.geo_terms.specs.First.{first_of}
 use Rattle.geo_terms.specs.Precedence.{entries_within, entry_before}
 use Rattle.geo_terms.specs.SourceForm.{FeedParts}

@@ -4,7 +4,7 @@ use Rattle.std.specs.List.Sorted.{IsSortedBy}
 use Rattle.std.specs.Ordering.{is_lt}
 use Rattle.std.proofs.lemmas.List.Sorted.{answers_always, ranks_by}
 use Rattle.geo_addr.specs.Ranges.{IsRange}
-use Rattle.geo_terms.specs.FirstIndex.{TellsFirst}
+use Rattle.first_index.specs.FirstIndex.{TellsFirst}
 use Rattle.geo_terms.specs.Precedence.{reference_cmp}
 use Rattle.geo_terms.specs.declared.statement.Reference.{Reference}
 use Rattle.inetnum_index.specs.Links.{AreLinks, AreShelved}

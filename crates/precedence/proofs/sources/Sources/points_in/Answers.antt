@@ -1,5 +1,6 @@
 use Rattle.std.proofs.Common.{◌∙◌, ◌++◌, List, [], ℕ, ap, map, append_assoc, subst, sym}
 use Rattle.std.specs.List.{flat_map}
+use Rattle.std.specs.Arc.{arc_value}
 use Rattle.split_core.proofs.Edges.{points_ascend}
 use Rattle.geo_addr.specs.Ranges.{Ends}
 use Rattle.geo_terms.specs.Cuts.{statement_ranges}
@@ -9,6 +10,8 @@ use Rattle.geo_terms.specs.Sources.{InForce, references, rows_in}
 use Rattle.geo_terms.specs.declared.statement.Override.{Override}
 use Rattle.geo_terms.specs.declared.statement.Reference.{Reference}
 use Rattle.source_changes.specs.CutPoints.{AreCutsOf}
+use Rattle.first_index.specs.declared.boundaries.Boundary.{Boundary}
+use Rattle.authority.proofs.CutLemmas.{cuts_told}
 use Rattle.authority.specs.declared.speakers.Speakers.{Speakers}
 use Rattle.cut_segments.proofs.CutLemmas.{gathered, gathered_sorted, none_gathered}
 use Rattle.cut_segments.specs.CutPoints.{AreCutsInside}
@@ -30,10 +33,7 @@ push_inside-requires-clause-ascending c =
 
 pub push_inside-requires-2-clause-ascending : goal.push_inside-requires-2-clause-ascending
 push_inside-requires-2-clause-ascending c =
-    (subst (AreCutsOf (rows_of c.self.inside.statistics))
-    (sym (c.as_slice-2.ensures.value
-    ∙ ap (λ (k : Delegations). k.index.cuts.items) c.deref-2.ensures))
-    c.in_ok-delegations.ensures.index.cuts).ascending
+    c.cuts.ensures.ascending
 
 pub returns-clause-exact : goal.returns-clause-exact
 returns-clause-exact c =
@@ -56,16 +56,17 @@ returns-clause-exact c =
     (c.in_ok-push_feeds_inside.ensures refs first) in
     let third : AreCutsInside
     ((refs ++ ents) ++ dels) c.args.bounds.now c.push_inside-2.new.found.items =
-    gathered (refs ++ ents) dels c.args.bounds.now c.as_slice-2.result.now
+    gathered (refs ++ ents) dels c.args.bounds.now c.cuts.result.now
     c.push_feeds_inside.new.cuts.items c.push_inside-2.new.found.items second
-    (subst (AreCutsOf dels)
-    (sym (c.as_slice-2.ensures.value
-    ∙ ap (λ (k : Delegations). k.index.cuts.items) c.deref-2.ensures))
-    c.in_ok-delegations.ensures.index.cuts) c.in_ok-push_inside-2.ensures in
+    (cuts_told (λ (d : DelegationParts). d.range) (flat_map (λ (t : StatsParts). t.rows)
+    c.self.inside.statistics) (arc_value c.in_ok-delegations.delegations).index.firsts
+    c.cuts.result.now c.in_ok-delegations.ensures.index.cuts (c.cuts.ensures.same
+    ∙ ap (λ (k : Delegations). map (λ (b : Boundary). b.at) k.index.firsts) c.deref-2.ensures)
+    c.cuts.ensures.ascending) c.in_ok-push_inside-2.ensures in
     let all : AreCutsInside
     (((refs ++ ents) ++ dels) ++ rows) c.args.bounds.now c.push_inside-3.new.found.items =
-    gathered ((refs ++ ents) ++ dels) rows c.args.bounds.now c.cuts.result.now
-    c.push_inside-2.new.found.items c.push_inside-3.new.found.items third c.cuts.ensures
+    gathered ((refs ++ ents) ++ dels) rows c.args.bounds.now c.cuts-2.result.now
+    c.push_inside-2.new.found.items c.push_inside-3.new.found.items third c.cuts-2.ensures
     c.in_ok-push_inside-3.ensures in
     subst (λ (s : InForce). AreCutsInside (statement_ranges s) c.args.bounds.now
     c.dedup.new.self.items) c.self.view_is

@@ -1,0 +1,17 @@
+use Rattle.std.proofs.Common.{ℕ, ◌<◌, Bor, length, arith, subst}
+use Rattle.std.proofs.lemmas.Grind.{common_steps}
+use Rattle.std.proofs.lemmas.List.Elements.{All-more}
+use Rattle.first_index.proofs.index.ranges_of.Goals as goal
+
+pub loop-statement-preserved : goal.loop-statement-preserved
+loop-statement-preserved g c =
+    let within : c.loop-statement.statement-index < length c.args.ranked.now = omega arith in
+    record {
+      ranges = grind (arith, common_steps);
+      kept =
+          All-more (λ x. g.S.Statement.kept x.1.now) c.args.ranked.now
+          c.loop-statement.statement-index c.loop-statement-item.result within
+          c.loop-statement.invariant.kept
+          (subst (λ (x : ℕ × Bor g.row.S.Denot). g.S.Statement.kept x.1.now)
+          c.loop-statement-item.is c.range.ensures.kept);
+    }

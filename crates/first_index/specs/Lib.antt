@@ -1,0 +1,5 @@
+pub mod Boundaries
+pub mod Columns
+pub mod Edges
+pub mod FirstIndex
+pub mod Nested

@@ -1,0 +1,56 @@
+//! Boundaries in columns: 20 bytes each in place of 32, and the column of addresses is of use by
+//! itself.
+ghost use Rattle.std.specs.Prelude.{◌≡◌, drop, IfOk, None};
+ghost use Rattle.first_index.specs.Boundaries.{told};
+ghost use Rattle.first_index.specs.Columns.{AreColumns, begin_at, coded_index, of_columns};
+
+use crate::boundaries::Boundary;
+use geo_addr::Memory;
+
+// Stands for no index.
+const NONE: u32 = u32::MAX;
+
+// An index as one number; there is no memory for one that is greater.
+pub fn coded(first: Option<usize>) -> Result<u32, Memory>
+    ensures { IfOk result (λ code. coded_index code ≡ first) }
+{
+    let Some(index) = first else {
+        return Ok(NONE);
+    };
+    let Ok(code) = u32::try_from(index) else {
+        return Err(Memory);
+    };
+    if code == NONE {
+        return Err(Memory);
+    }
+    Ok(code)
+}
+
+pub fn decoded(code: u32) -> Option<usize>
+    ensures { result ≡ coded_index code }
+{
+    if code == NONE {
+        return None;
+    }
+    Some(code as usize)
+}
+
+// Whether the boundary at an index and the one before it stand at one address.
+pub fn stands_at(boundaries: &[Boundary], index: usize, at: u128) -> bool
+    ensures { result ≡ begin_at (drop index boundaries.now) at }
+{
+    match boundaries.get(index) {
+        Some(boundary) => boundary.at == at,
+        None => false,
+    }
+}
+
+// What boundaries in two columns tell of an address.
+pub fn told(points: &[u128], codes: &[u32], at: u128) -> Option<usize>
+    requires { AreColumns points.now codes.now }
+    ensures { result ≡ told None (of_columns points.now codes.now) at }
+{
+    let passed = points.partition_point(|point| *point <= at);
+    let last = passed.checked_sub(1)?;
+    decoded(codes[last])
+}

@@ -1,0 +1,241 @@
+//! The first of several statements that holds an address, by halving.
+ghost use Rattle.std.specs.Prelude.{◌≡◌, ◌-◌, ◌^◌, [], All, IfOk, IfSome, OnOk};
+ghost use Rattle.std.specs.Prelude.{None, map, option_and_then, slice_get};
+ghost use Rattle.geo_addr.specs.Ranges.{ground_first};
+ghost use Rattle.std.specs.List.{enumerate_from};
+ghost use Rattle.std.specs.List.Sorted.{IsNonDecreasingBy, IsPermutation, IsStrictlyIncreasing};
+ghost use Rattle.first_index.specs.Boundaries.{told};
+ghost use Rattle.first_index.specs.Columns.{last_ones};
+ghost use Rattle.first_index.specs.FirstIndex.{StandAtCuts, TellsFirst, with_index};
+ghost use Rattle.first_index.specs.Nested.{AreBoundariesOf};
+
+use crate::boundaries::{Boundary, boundaries_of};
+use crate::columns::{coded, stands_at, told};
+use crate::near::told_near;
+use crate::nested::{nested_of, order};
+use geo_addr::{Addr, Memory, Range};
+use geo_terms::Statement;
+use std::alloc::Global;
+use std::marker::Model;
+
+/// Tells for each address which of several statements is the first in their order that holds it.
+///
+/// It has the boundaries at which that changes, each with where the statement stands in the list
+/// that the index was made of, so a look-up is one halving and takes no memory. It holds no
+/// statement: whoever has the list reads it there.
+#[derive(Debug, Drop)]
+pub struct FirstIndex {
+    points: Vec<u128>,
+    codes: Vec<u32>,
+}
+
+impl Model for FirstIndex {
+    ghost use Rattle.std.specs.Prelude.{List};
+    ghost use Rattle.first_index.specs.Columns.{AreColumns, of_columns};
+    ghost use Rattle.first_index.specs.declared.boundaries.Boundary.{Boundary};
+
+    ghost Value = { List Boundary };
+
+    ghost view = { λ i. of_columns i.points.items i.codes.items };
+
+    ghost invariant = { λ i. AreColumns i.points.items i.codes.items };
+}
+
+impl FirstIndex {
+    /// The index of no statements.
+    pub fn new(alloc: Global) -> FirstIndex
+        ensures { result ≡ [] }
+    {
+        FirstIndex {
+            points: Vec::new(alloc),
+            codes: Vec::new(alloc),
+        }
+    }
+
+    /// The index of these statements.
+    ///
+    /// Where of any two grounds that share an address one lies in the other, that is one pass over
+    /// them, behind a sort by where grounds begin if they do not ascend. Else it is a sort by their
+    /// order, and one pass over the ends of their grounds. For more than 2 ^ 32 - 1 statements
+    /// there is no memory.
+    pub fn of<S: Statement>(alloc: Global, statements: &[&S]) -> Result<FirstIndex, Memory>
+        ensures told { IfOk result
+            (λ index. TellsFirst S.order S.range (map (λ s. s.now) statements.entry.now) index) }
+        ensures cuts { IfOk result
+            (λ index. StandAtCuts S.range (map (λ s. s.now) statements.entry.now) index) }
+        ensures kept { OnOk result (All S.kept (map (λ s. s.now) statements.entry.now)) }
+    {
+        let mut ranked = indexed(alloc, statements)?;
+        if let Some(boundaries) = nested_in_some_order(alloc, &mut ranked)? {
+            let index = in_columns(alloc, boundaries.as_slice())?;
+            return Ok(index);
+        }
+        ranked.sort_unstable_by(|x, y| order(x, y));
+        let ranges = ranges_of(alloc, ranked.as_slice())?;
+        let mut boundaries = boundaries_of(alloc, ranges.as_slice())?;
+        let indexes = indexes_of(alloc, ranked.as_slice())?;
+        put_indexes(&mut boundaries, indexes.as_slice());
+        let index = in_columns(alloc, boundaries.as_slice())?;
+        Ok(index)
+    }
+
+    /// The addresses at which the boundaries stand, ascending, each once.
+    pub fn cut_points(&self) -> &[u128]
+        ensures same { result.now ≡ map (λ b. b.at) self.now }
+        ensures ascending { IsStrictlyIncreasing result.now }
+    {
+        self.points.as_slice()
+    }
+
+    /// The index of the first statement that holds an address.
+    pub fn index_at(&self, at: Addr) -> Option<usize>
+        ensures { result ≡ told None self.now at.0 }
+    {
+        told(self.points.as_slice(), self.codes.as_slice(), at.0)
+    }
+
+    /// The index of the first statement that holds an address, as `index_at` gives it.
+    ///
+    /// It is looked for first where `near` says, which is then where it was found: that spares
+    /// halvings where addresses ascend. Any number serves, as 0 at first.
+    pub fn index_near(&self, at: Addr, near: &mut usize) -> Option<usize>
+        ensures { result ≡ told None self.now at.0 }
+    {
+        told_near(self.points.as_slice(), self.codes.as_slice(), at.0, near)
+    }
+}
+
+// The index that has boundaries in order, of those at one address the last.
+fn in_columns(alloc: Global, boundaries: &[Boundary]) -> Result<FirstIndex, Memory>
+    requires { IsNonDecreasingBy (λ b. b.at) boundaries.now }
+    ensures { IfOk result (λ index. index ≡ last_ones boundaries.now) }
+{
+    let mut points = Vec::with_capacity(alloc, boundaries.len())?;
+    let mut codes = Vec::with_capacity(alloc, boundaries.len())?;
+    for (index, boundary) in boundaries.iter().enumerate() {
+        if !stands_at(boundaries, index + 1, boundary.at) {
+            points.push(boundary.at)?;
+            codes.push(coded(boundary.first)?)?;
+        }
+    }
+    Ok(FirstIndex { points, codes })
+}
+
+// The statements with their indexes.
+fn indexed<'a, S: Statement>(
+    alloc: Global,
+    statements: &[&'a S],
+) -> Result<Vec<(usize, &'a S)>, Memory>
+    ensures { IfOk result (λ ranked. map (λ x. (x.0, x.1.now)) ranked.items
+        ≡ enumerate_from 0 (map (λ s. s.now) statements.entry.now)) }
+{
+    let mut ranked = Vec::with_capacity(alloc, statements.len())?;
+    for (index, statement) in statements.iter().enumerate() {
+        ranked.push((index, *statement))?;
+    }
+    Ok(ranked)
+}
+
+// The boundaries of grounds that nest, in the order that the statements are put in; `None` where
+// two
+// cross.
+fn nested_in_some_order<S: Statement>(
+    alloc: Global,
+    indexed: &mut Vec<(usize, &S)>,
+) -> Result<Option<Vec<Boundary>>, Memory>
+    ensures moved { IsPermutation indexed.old.items indexed.new.items }
+    ensures found { IfOk result (λ found. IfSome found (λ boundaries. AreBoundariesOf
+        (λ x y. S.order x.now y.now) (λ x. S.range x.now) indexed.new.items boundaries.items)) }
+    ensures kept { IfOk result (λ found. IfSome found
+        (λ _. All (λ x. S.kept x.1.now) indexed.new.items)) }
+{
+    let found = nested_of(alloc, indexed.as_slice())?;
+    if found.is_some() {
+        return Ok(found);
+    }
+    put_outer_first(alloc, indexed)?;
+    nested_of(alloc, indexed.as_slice())
+}
+
+// Puts statements in the order in which their grounds begin, the largest first of those that begin
+// at one address.
+fn put_outer_first<S: Statement>(
+    alloc: Global,
+    indexed: &mut Vec<(usize, &S)>,
+) -> Result<(), Memory>
+    ensures { IsPermutation indexed.old.items indexed.new.items }
+{
+    let mut keyed = keyed(alloc, indexed.as_slice())?;
+    // Statements of a file come in a few runs that ascend, and this sort only joins runs.
+    keyed.sort_by_key(|(key, _)| *key)?;
+    *indexed = unkeyed(alloc, keyed.as_slice())?;
+    Ok(())
+}
+
+// Statements, each beside the key by which it is put in order, so that the sort reads none of them.
+fn keyed<'a, S: Statement>(
+    alloc: Global,
+    indexed: &[(usize, &'a S)],
+) -> Result<Vec<((u128, u128), (usize, &'a S))>, Memory>
+    ensures { IfOk result (λ keyed. map (λ x. x.1) keyed.items ≡ indexed.entry.now) }
+{
+    let mut keyed = Vec::with_capacity(alloc, indexed.len())?;
+    for statement in indexed {
+        keyed.push((outer_first(statement.1.range()), *statement))?;
+    }
+    Ok(keyed)
+}
+
+fn unkeyed<'a, S>(
+    alloc: Global,
+    keyed: &[((u128, u128), (usize, &'a S))],
+) -> Result<Vec<(usize, &'a S)>, Memory>
+    ensures { IfOk result (λ indexed. indexed.items ≡ map (λ x. x.1) keyed.entry.now) }
+{
+    let indexed = keyed
+        .iter()
+        .map(|(_, statement)| *statement)
+        .collect(alloc)?;
+    Ok(indexed)
+}
+
+// Grounds ascend by it, and of those that begin at one address the largest comes first.
+fn outer_first(range: Range) -> (u128, u128)
+    ensures { result ≡ (ground_first range, 2 ^ 128 - 1 - range.last) }
+{
+    (range.ground_first(), u128::MAX - range.last)
+}
+
+fn ranges_of<S: Statement>(alloc: Global, ranked: &[(usize, &S)]) -> Result<Vec<Range>, Memory>
+    ensures ranges { IfOk result
+        (λ ranges. ranges.items ≡ map (λ x. S.range x.1.now) ranked.entry.now) }
+    ensures kept { OnOk result (All (λ x. S.kept x.1.now) ranked.entry.now) }
+{
+    let mut ranges = Vec::with_capacity(alloc, ranked.len())?;
+    for (_, statement) in ranked {
+        ranges.push(statement.range())?;
+    }
+    Ok(ranges)
+}
+
+fn indexes_of<S: Statement>(alloc: Global, ranked: &[(usize, &S)]) -> Result<Vec<usize>, Memory>
+    ensures { IfOk result (λ indexes. indexes.items ≡ map (λ x. x.0) ranked.entry.now) }
+{
+    let indexes = ranked.iter().map(|(index, _)| *index).collect(alloc)?;
+    Ok(indexes)
+}
+
+// Indexes instead of ranks.
+fn put_indexes(boundaries: &mut Vec<Boundary>, indexes: &[usize])
+    ensures { boundaries.new.items ≡ map (with_index indexes.now) boundaries.old.items }
+{
+    for boundary in boundaries.iter_mut() {
+        boundary.first = index_of(boundary.first, indexes);
+    }
+}
+
+fn index_of(rank: Option<usize>, indexes: &[usize]) -> Option<usize>
+    ensures { result ≡ option_and_then (slice_get indexes.now) rank }
+{
+    indexes.get(rank?).copied()
+}

@@ -1,8 +1,0 @@
-use Rattle.std.proofs.Common.{◌≡◌, ◌++◌, [], drop}
-use Rattle.geo_terms.specs.Edges.{sweep}
-use Rattle.geo_terms.proofs.firsts.boundaries.sweep.Given as goal
-
--- what is left to sweep follows what was found
-abbrev pub invariant-loop-edge : goal.invariant-loop-edge
-invariant-loop-edge l =
-    sweep [] l.edges ≡ l.boundaries.items ++ sweep l.ranks.keys (drop l.edge-index l.edges)
