@@ -5,11 +5,11 @@ ghost use Rattle.feed_csv.specs.File.{AreClean, accepted, feed, longest, most};
 ghost use Rattle.feed_csv.specs.Parts.{accepted_of, found_entries, found_faults, refused_of};
 ghost use Rattle.feed_csv.specs.declared.parts.TheConstants.{FEED_PART};
 
-use crate::read::{Gathered, LONGEST_FEED, MOST, faults_with_room, feed_of, read_lines};
+use crate::read::{Gathered, LONGEST_FEED, MOST, feed_of, gathered_with_room, read_lines};
 use fan_work::{Forks, Work, map_pieces};
 use geo_addr::Memory;
 use geo_outside::Gate;
-use geo_terms::{Entry, Feed, SourceFault};
+use geo_terms::{Feed, SourceFault};
 use line_parts::{LEAST_PART, LinePart, parts_of};
 use std::alloc::Global;
 use std::marker::Sync;
@@ -19,14 +19,16 @@ use std::thread::Threads;
 pub const FEED_PART: usize = LEAST_PART;
 
 /// The least bytes of a part where each piece has several. The C library gives back the room for
-/// the faults of so long a part when they have been put to the others.
+/// the entries and the faults of so long a part when they have been put to the others.
 const LONG_PART: usize = 4_194_304;
 
-/// Work that reads the lines of a part of a feed, which has `size` bytes.
+/// For each so many bytes of a part room for one entry is taken ahead; hardly a line is shorter.
+const LEAST_LINE: usize = 8;
+
+/// Work that reads the lines of a part of a feed.
 #[derive(Drop)]
 struct PartReading {
     alloc: Global,
-    size: usize,
 }
 
 impl<'a> Work<LinePart<'a>, Gathered> for PartReading {
@@ -35,15 +37,10 @@ impl<'a> Work<LinePart<'a>, Gathered> for PartReading {
     ghost related = { λ work part found. IsPartRead part found };
 
     fn done(&self, item: &LinePart<'a>) -> Result<Gathered, Memory> {
-        // The entries of the other parts come to stand behind those of the first.
-        let room = if item.before == 0 {
-            self.size
-        } else {
-            item.text.len()
-        };
         // Room that is not used costs nothing, and a list that grows leaves what it had.
+        let entries = most_entries(item.text.len());
         let faults = most_faults(item.text.len());
-        match read_lines(self.alloc, *item, room, faults, usize::MAX) {
+        match read_lines(self.alloc, *item, entries, faults, usize::MAX) {
             Ok(found) => Ok(found),
             Err(_) => Err(Memory),
         }
@@ -98,12 +95,9 @@ fn read_parts<R: Threads + Sync, G: Gate>(
     ensures entries { IfOk result (λ all. all.entries.items ≡ accepted_of parts.now) }
     ensures faults { IfOk result (λ all. all.faults.items ≡ refused_of parts.now) }
 {
-    let faults = faults_with_room(forks.alloc, most_faults(size))?;
-    let mut all = Gathered {
-        entries: Vec::new(forks.alloc),
-        faults,
-    };
-    read_left(forks, parts, size, &mut all)?;
+    let mut all = gathered_with_room(forks.alloc, most_entries(size), most_faults(size))?;
+    read_left(forks, parts, &mut all)?;
+    all.entries.shrink_to_fit();
     all.faults.shrink_to_fit();
     Ok(all)
 }
@@ -112,7 +106,6 @@ fn read_parts<R: Threads + Sync, G: Gate>(
 fn read_left<R: Threads + Sync, G: Gate>(
     forks: &Forks<R, G>,
     left: &[LinePart],
-    size: usize,
     all: &mut Gathered,
 ) -> Result<(), Memory>
     ensures entries { OnOk result
@@ -124,9 +117,14 @@ fn read_left<R: Threads + Sync, G: Gate>(
         return Ok(());
     }
     let (some, rest) = first_parts(left, forks.pieces as usize);
-    read_some(forks, some, size, all)?;
-    read_left(forks, rest, size, all)?;
+    read_some(forks, some, all)?;
+    read_left(forks, rest, all)?;
     Ok(())
+}
+
+// For how many entries of so many bytes there is room ahead.
+fn most_entries(size: usize) -> usize {
+    (size / LEAST_LINE).min(MOST)
 }
 
 // The most faults of so many bytes: each has a line of at least two, but for the last.
@@ -151,7 +149,6 @@ fn first_parts<'a, 'b>(
 fn read_some<R: Threads + Sync, G: Gate>(
     forks: &Forks<R, G>,
     parts: &[LinePart],
-    size: usize,
     all: &mut Gathered,
 ) -> Result<(), Memory>
     ensures entries { OnOk result
@@ -159,10 +156,7 @@ fn read_some<R: Threads + Sync, G: Gate>(
     ensures faults { OnOk result
         (all.new.faults.items ≡ all.old.faults.items ++ refused_of parts.now) }
 {
-    let work = PartReading {
-        alloc: forks.alloc,
-        size,
-    };
+    let work = PartReading { alloc: forks.alloc };
     let found = map_pieces(
         forks.rt,
         forks.alloc,
@@ -194,20 +188,8 @@ fn put(part: Gathered, all: &mut Gathered) -> Result<(), Memory>
     ensures faults { OnOk result
         (all.new.faults.items ≡ all.old.faults.items ++ part.faults.items) }
 {
-    let mut faults = part.faults;
-    all.faults.append(&mut faults)?;
-    put_entries(part.entries, &mut all.entries)
-}
-
-// Puts entries to those before, in the room of the first that are any.
-fn put_entries(entries: Vec<Entry>, all: &mut Vec<Entry>) -> Result<(), Memory>
-    ensures { OnOk result (all.new.items ≡ all.old.items ++ entries.items) }
-{
-    if all.is_empty() {
-        *all = entries;
-        return Ok(());
-    }
-    let mut entries = entries;
-    all.append(&mut entries)?;
+    let mut part = part;
+    all.entries.append(&mut part.entries)?;
+    all.faults.append(&mut part.faults)?;
     Ok(())
 }

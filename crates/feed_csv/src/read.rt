@@ -38,7 +38,8 @@ pub fn read_feed(alloc: Global, url: &str, bytes: &[u8]) -> Result<Feed, SourceF
     if bytes.len() > LONGEST_FEED {
         return Err(SourceFault::TooLong);
     }
-    let found = read_lines(alloc, LinePart::whole(bytes), bytes.len(), 0, MOST)?;
+    let room = (bytes.len() / SHORT_LINE).min(MOST);
+    let found = read_lines(alloc, LinePart::whole(bytes), room, 0, MOST)?;
     let feed = feed_of(alloc, url, found)?;
     Ok(feed)
 }
@@ -81,11 +82,11 @@ struct Reading<'a> {
 }
 
 /// The entries and the faults of the lines of a part by themselves, where at most `limit` lines
-/// pass the line rules: with room for the entries of `size` bytes, and for so many faults.
+/// pass the line rules, with room for so many of both.
 pub(crate) fn read_lines(
     alloc: Global,
     part: LinePart,
-    size: usize,
+    entries: usize,
     faults: usize,
     limit: usize,
 ) -> Result<Gathered, SourceFault>
@@ -97,12 +98,11 @@ pub(crate) fn read_lines(
 {
     let handed = all_handed(alloc, part.text)?;
     let mut reader = reader_of(alloc, handed.as_slice());
-    let entries = with_room(alloc, size)?;
-    let faults = faults_with_room(alloc, faults)?;
+    let gathered = gathered_with_room(alloc, entries, faults)?;
     let tails = Tails::with_room(alloc, part.text.len())?;
     let mut found = Reading {
-        entries,
-        faults,
+        entries: gathered.entries,
+        faults: gathered.faults,
         texts: Texts::new(alloc),
         tails,
         row: ByteRecord::new(alloc),
@@ -116,21 +116,18 @@ pub(crate) fn read_lines(
     })
 }
 
-// No entries, with room for those of so many bytes, so that they are not moved as they come.
-fn with_room(alloc: Global, size: usize) -> Result<Vec<Entry>, Memory>
-    ensures { IfOk result (λ entries. entries.items ≡ []) }
+/// Nothing yet, with room for so many entries and faults, so that they are not moved as they come.
+pub(crate) fn gathered_with_room(
+    alloc: Global,
+    entries: usize,
+    faults: usize,
+) -> Result<Gathered, Memory>
+    ensures entries { IfOk result (λ found. found.entries.items ≡ []) }
+    ensures faults { IfOk result (λ found. found.faults.items ≡ []) }
 {
-    let room = (size / SHORT_LINE).min(MOST);
-    let entries = Vec::with_capacity(alloc, room)?;
-    Ok(entries)
-}
-
-/// No faults, with room for so many.
-pub(crate) fn faults_with_room(alloc: Global, room: usize) -> Result<Vec<LineNote>, Memory>
-    ensures { IfOk result (λ faults. faults.items ≡ []) }
-{
-    let faults = Vec::with_capacity(alloc, room)?;
-    Ok(faults)
+    let entries = Vec::with_capacity(alloc, entries)?;
+    let faults = Vec::with_capacity(alloc, faults)?;
+    Ok(Gathered { entries, faults })
 }
 
 // Adds what one more line says.

@@ -12,9 +12,9 @@ loop-line-init c =
     record {
       can_next = tt;
       is_finite = tt;
-      entries = rw c.in_ok-entries.ensures (ap (filter_map entry_of) start);
-      faults = rw c.in_ok-faults.ensures (ap (filter_map fault_of) start);
-      few = rw c.in_ok-entries.ensures (omega arith);
+      entries = rw c.in_ok-gathered.ensures.entries (ap (filter_map entry_of) start);
+      faults = rw c.in_ok-gathered.ensures.faults (ap (filter_map fault_of) start);
+      few = rw c.in_ok-gathered.ensures.entries (omega arith);
       stands =
           c.reader_of-reader.ensures _ (c.as_slice.ensures.value ∙ c.in_ok-handed.ensures
           ∙ ap (λ t. 10 ∷ t) (sym (of_text handed c.args.part))
