@@ -2,6 +2,7 @@ pub mod BoundaryLemmas
 pub mod Constancy
 pub mod FirstLemmas
 pub mod IndexLemmas
+pub mod JoinedLemmas
 pub mod LeadLemmas
 pub mod LineOrder
 pub mod Members

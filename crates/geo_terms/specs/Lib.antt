@@ -7,6 +7,7 @@ pub mod DelegationForm
 pub mod Edges
 pub mod First
 pub mod FirstIndex
+pub mod JoinedTexts
 pub mod Nested
 pub mod NoteText
 pub mod Numbers
