@@ -70,22 +70,22 @@ fn add_place(
 }
 
 // Adds addresses to the count of a country.
-fn add(counts: &mut Vec<Count>, country: &Text, v4: u128, v6: u128) -> Result<(), Memory>
+fn add(counts: &mut Vec<Count>, country: &str, v4: u128, v6: u128) -> Result<(), Memory>
     requires order { AreInOrder (λ n. n.country) counts.old.items }
     requires room_v4 { (c : List ℕ) → v4_in (count_of c counts.old.items) + v4 < 2 ^ 128 }
     requires room_v6 { (c : List ℕ) → v6_in (count_of c counts.old.items) + v6 < 2 ^ 128 }
     ensures { OnOk result (counts.new.items ≡ added country.now v4 v6 counts.old.items) }
 {
-    match search_counts(counts.as_slice(), country.as_str()) {
+    match search_counts(counts.as_slice(), country) {
         Ok(index) => {
             let old = &counts[index];
             let (v4, v6) = (old.v4 + v4, old.v6 + v6);
-            let country = country.copied()?;
+            let country = old.country.copied()?;
             counts[index] = Count { country, v4, v6 };
             Ok(())
         }
         Err(index) => {
-            let country = country.copied()?;
+            let country = Text::of(*counts.allocator(), country)?;
             counts.insert(index, Count { country, v4, v6 })?;
             Ok(())
         }

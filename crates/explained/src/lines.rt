@@ -96,7 +96,7 @@ pub(crate) fn delegation_line(alloc: Global, row: Option<&Delegation>) -> Result
     let line = row.line;
     let range = range_text(alloc, row.range)?;
     let range = range.as_str();
-    let country = row.place.country().as_str();
+    let country = row.place.country();
     let text = format!(in alloc; "delegation {slot} {line} {range} {country}\n")?;
     Ok(text)
 }

@@ -1,6 +1,7 @@
 pub mod Ascending
 pub mod Constancy
 pub mod FirstLemmas
+pub mod JoinedLemmas
 pub mod LeadLemmas
 pub mod LineOrder
 pub mod Members

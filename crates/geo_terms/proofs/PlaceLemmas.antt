@@ -4,8 +4,10 @@ use Rattle.std.proofs.Common.{[], ◌∷◌, length, get_or, IsTrue, refl, sym, 
 use Rattle.std.specs.Char.{is_ascii_alphabetic, is_ascii_alphanumeric, is_ascii_lowercase}
 use Rattle.std.specs.Char.{to_ascii_uppercase}
 use Rattle.std.specs.List.{list_all, list_any}
-use Rattle.std.specs.Prelude.{nat_eq}
+use Rattle.std.specs.Prelude.{nat_eq, nat_le, take, zero, suc, ◌+◌, ◌^◌}
 use Rattle.std.proofs.lemmas.Bool.Decides.{nat_tests}
+use Rattle.std.proofs.lemmas.Str.{IsCharBoundary-after_ascii, IsUtf8-from_ascii}
+use Rattle.std.specs.Str.{IsAscii, IsCharBoundary, IsUtf8}
 use Rattle.std.proofs.lemmas.List.{length-map}
 use Rattle.std.proofs.lemmas.Str.Ascii.{uppercase-uppercase}
 use Rattle.geo_terms.specs.SaidOf.{said_by, said_of}
@@ -102,66 +104,6 @@ letters_of_region (a ∷ b ∷ c ∷ bs) h n =
     let second = and_right (is_ascii_alphabetic a) (is_ascii_alphabetic b) both in
     (alphabetic_small a first, alphabetic_small b second)
 
--- the field that begins with the letters of the country, as the code takes it
-abbrev letters : List ℕ → List ℕ → List ℕ
-letters country region = cond (is_empty country) region country
-
--- its first two bytes are ASCII too
-pub first_letters : (country region : List ℕ) → IsTrue (country_fits country)
-    → IsTrue (region_fits region) → 2 ≤ length (letters country region)
-    → (get_or (letters country region) 0 0 < 128) × (get_or (letters country region) 1 0 < 128)
-unfolding country_fits
-first_letters [] region c r n = letters_of_region region r n
-first_letters (a ∷ []) region c r n = absurd (let e : false ≡ true = c in cc)
-first_letters (a ∷ b ∷ []) region c r n =
-    let first = and_left (is_ascii_alphabetic a) (is_ascii_alphabetic b) c in
-    let second = and_right (is_ascii_alphabetic a) (is_ascii_alphabetic b) c in
-    (alphabetic_small a first, alphabetic_small b second)
-first_letters (a ∷ b ∷ d ∷ bs) region c r n = absurd (let e : false ≡ true = c in cc)
-
--- these two letters in upper case are the country
-pub country_of_letters : (country region : List ℕ) → IsTrue (country_fits country)
-    → 2 ≤ length (letters country region)
-    → (parts_of country region [] []).country
-    ≡ upper (get_or (letters country region) 0 0 ∷ get_or (letters country region) 1 0 ∷ [])
-unfolding country_fits
-country_of_letters [] [] c n = absurd (omega arith)
-country_of_letters [] (a ∷ []) c n = absurd (omega arith)
-country_of_letters [] (a ∷ b ∷ bs) c n = refl
-country_of_letters (a ∷ []) region c n = absurd (let e : false ≡ true = c in cc)
-country_of_letters (a ∷ b ∷ []) region c n = refl
-country_of_letters (a ∷ b ∷ d ∷ bs) region c n = absurd (let e : false ≡ true = c in cc)
-
--- with fewer letters there is no country
-pub country_of_few : (country region : List ℕ) → IsTrue (country_fits country)
-    → length (letters country region) < 2
-    → (parts_of country region [] []).country ≡ []
-unfolding country_fits
-country_of_few [] [] c n = refl
-country_of_few [] (a ∷ []) c n = refl
-country_of_few [] (a ∷ b ∷ bs) c n = absurd (omega arith)
-country_of_few (a ∷ []) region c n = absurd (let e : false ≡ true = c in cc)
-country_of_few (a ∷ b ∷ bs) region c n = absurd (omega arith)
-
-upper-not_lowercase : (b : ℕ) → is_ascii_lowercase b ≡ false → to_ascii_uppercase b ≡ b
-upper-not_lowercase b h = grind (arith, nat_tests)
-
-or_left : (x y : Bool) → (x || y) ≡ false → x ≡ false
-or_left false y h = refl
-or_left true y h = h
-
-or_right : (x y : Bool) → (x || y) ≡ false → y ≡ false
-or_right false y h = h
-or_right true y h = absurd (let e : true ≡ false = h in cc)
-
--- a text with no lower-case letter is in upper case
-pub upper_without_lowercase : (bs : List ℕ) → list_any is_ascii_lowercase bs ≡ false → upper bs ≡ bs
-upper_without_lowercase [] h = refl
-upper_without_lowercase (b ∷ bs) h =
-    let first = or_left _ (list_any is_ascii_lowercase bs) h in
-    let others = or_right (is_ascii_lowercase b) _ h in
-    rw (upper-not_lowercase b first, upper_without_lowercase bs others) refl
-
 chosen_country : (country region : List ℕ)
     → IsTrue (country_fits country) → IsTrue (region_fits region)
     → IsTrue (country_fits (cond (is_empty country) (country_of_region region) country))
@@ -193,42 +135,96 @@ place_in_form country region city postal c r l says = record {
   says = rw says refl;
 }
 
--- so do texts that are those of the fields
-pub fields_in_form :
-    (country region city postal own_country own_region own_city own_postal : List ℕ)
-    → own_country ≡ (parts_of country region city postal).country → own_region ≡ upper region
-    → own_city ≡ city → own_postal ≡ postal
+-- so do the texts that are made of them
+pub made_in_form : (country region city postal : List ℕ) (made : PlaceParts)
+    → made ≡ parts_of country region city postal
     → IsTrue (country_fits country) → IsTrue (region_fits region) → IsTrue (lengths_fit city postal)
-    → says_nothing (record {
-      country = own_country;
-      region = own_region;
-      city = city;
-      postal = postal;
-    }) ≡ false
-    → IsPlace (record {
-      country = own_country;
-      region = own_region;
-      city = own_city;
-      postal = own_postal;
-    })
-fields_in_form country region city postal own_country own_region own_city own_postal
-    c-is r-is ci-is po-is c r l says =
-    let whole = parts_of country region city postal in
-    let same : record {
-      country = own_country;
-      region = own_region;
-      city = own_city;
-      postal = own_postal;
-    } ≡ whole =
-    λ i. record { country = c-is i; region = r-is i; city = ci-is i; postal = po-is i } in
-    let asked : record {
-      country = own_country;
-      region = own_region;
-      city = city;
-      postal = postal;
-    } ≡ whole = λ i. record { country = c-is i; region = r-is i; city = city; postal = postal } in
-    subst IsPlace (sym same)
-    (place_in_form country region city postal c r l (ap says_nothing (sym asked) ∙ says))
+    → says_nothing made ≡ false → IsPlace made
+made_in_form country region city postal made is c r l says =
+    subst IsPlace (sym is)
+    (place_in_form country region city postal c r l (ap says_nothing (sym is) ∙ says))
+
+-- they are short
+most_letters : (letters : List ℕ) → IsTrue (country_fits letters) → length letters ≤ 2
+unfolding country_fits
+most_letters [] h = omega arith
+most_letters (a ∷ []) h = omega arith
+most_letters (a ∷ b ∷ []) h = omega arith
+most_letters (a ∷ b ∷ c ∷ bs) h = absurd (let e : false ≡ true = h in cc)
+
+at_most_told : (n m : ℕ) → nat_le n m ≡ true → n ≤ m
+at_most_told n m h = grind (arith, nat_tests)
+
+most_subdivision : (bs : List ℕ) → is_subdivision bs ≡ true → length bs ≤ 3
+most_subdivision bs h =
+    let front = and_left (not (is_empty bs) && nat_le (length bs) 3)
+    (list_all is_ascii_alphanumeric bs) h in
+    at_most_told (length bs) 3 (and_right (not (is_empty bs)) (nat_le (length bs) 3) front)
+
+most_region : (region : List ℕ) → IsTrue (region_fits region) → length region ≤ 6
+unfolding region_fits
+most_region [] h = omega arith
+most_region (a ∷ []) h = omega arith
+most_region (a ∷ b ∷ []) h = omega arith
+most_region (a ∷ b ∷ c ∷ bs) h =
+    let rest : length bs ≤ 3 = most_subdivision bs (and_right
+    (is_ascii_alphabetic a && is_ascii_alphabetic b && nat_eq c 45) (is_subdivision bs) h) in
+    omega (arith, rest)
+
+most_lengths : (city postal : List ℕ) → IsTrue (lengths_fit city postal)
+    → (length city ≤ 1024) × (length postal ≤ 1024)
+unfolding lengths_fit
+most_lengths city postal h = (
+  at_most_told (length city) 1024
+      (and_left (nat_le (length city) 1024) (nat_le (length postal) 1024) h),
+  at_most_told (length postal) 1024
+      (and_right (nat_le (length city) 1024) (nat_le (length postal) 1024) h),
+)
+
+pub made_short : (country region city postal letters : List ℕ)
+    → letters ≡ cond (is_empty country) (country_of_region region) country
+    → IsTrue (country_fits country) → IsTrue (region_fits region) → IsTrue (lengths_fit city postal)
+    → length letters + length region + length city + length postal < 2 ^ 16
+made_short country region city postal letters own c r l =
+    let first : length letters ≤ 2 = most_letters letters
+    (subst (λ (t : List ℕ). IsTrue (country_fits t)) (sym own)
+    (chosen_country country region c r)) in
+    let second = most_region region r in
+    let others = most_lengths city postal l in
+    omega (arith, first, second, others.0, others.1)
+
+-- the letters of a region's country
+pub region_cut : (region : List ℕ) → IsUtf8 region → IsTrue (region_fits region)
+    → 2 ≤ length region → IsCharBoundary region 2
+region_cut region utf8 r n =
+    IsCharBoundary-after_ascii region 1 utf8 (omega (arith, n)) (letters_of_region region r n).1
+
+pub letters_of_few : (region : List ℕ) → length region < 2 → [] ≡ country_of_region region
+letters_of_few [] n = refl
+letters_of_few (a ∷ []) n = refl
+letters_of_few (a ∷ b ∷ bs) n = absurd (omega arith)
+
+pub letters_of_more : (region : List ℕ) → 2 ≤ length region
+    → take 2 region ≡ country_of_region region
+letters_of_more [] n = absurd (omega arith)
+letters_of_more (a ∷ []) n = absurd (omega arith)
+letters_of_more (a ∷ b ∷ bs) n = refl
+
+pub two_letters : (bs : List ℕ) → length bs ≡ 2 → bs ≡ get_or bs 0 0 ∷ get_or bs 1 0 ∷ []
+two_letters [] n = absurd (omega arith)
+two_letters (a ∷ []) n = absurd (omega arith)
+two_letters (a ∷ b ∷ []) n = refl
+two_letters (a ∷ b ∷ c ∷ bs) n = absurd (omega arith)
+
+-- two letters are a text
+pub letters_are_text : (a b : ℕ) → is_ascii_alphabetic a ≡ true → is_ascii_alphabetic b ≡ true
+    → IsUtf8 (a ∷ b ∷ [])
+letters_are_text a b first second = IsUtf8-from_ascii (a ∷ b ∷ []) small
+  where
+    small : IsAscii (a ∷ b ∷ [])
+    small zero = alphabetic_small a first
+    small (suc zero) = alphabetic_small b second
+    small (suc (suc i)) = omega arith
 
 -- two letters that are not `ZZ` make a place alone
 letters_in_form : (a b : ℕ) → is_ascii_alphabetic a ≡ true → is_ascii_alphabetic b ≡ true
@@ -237,22 +233,14 @@ unfolding country_fits region_fits lengths_fit
 letters_in_form a b first second somewhere =
     place_in_form (a ∷ b ∷ []) [] [] [] (rw (first, second) refl) refl refl (rw somewhere refl)
 
-pub country_in_form : (a b : ℕ) (country region city postal : List ℕ)
-    → country ≡ upper (a ∷ b ∷ []) → region ≡ [] → city ≡ [] → postal ≡ []
+pub letters_made : (a b : ℕ) (letters : List ℕ) (made : PlaceParts) → letters ≡ a ∷ b ∷ []
+    → made ≡ record { country = upper letters; region = []; city = []; postal = [] }
     → is_ascii_alphabetic a ≡ true → is_ascii_alphabetic b ≡ true
-    → same_text country nowhere ≡ false
-    → IsPlace (record { country = country; region = region; city = city; postal = postal })
-country_in_form a b country region city postal c r ci po first second somewhere =
-    let made =
-    letters_in_form a b first second (ap (λ t. same_text t nowhere) (sym c) ∙ somewhere) in
-    let same : record {
-      country = country;
-      region = region;
-      city = city;
-      postal = postal;
-    } ≡ country_place (a ∷ b ∷ []) =
-    λ i. record { country = c i; region = r i; city = ci i; postal = po i } in
-    subst IsPlace (sym same) made
+    → same_text (upper (a ∷ b ∷ [])) nowhere ≡ false → IsPlace made
+letters_made a b letters made are is first second somewhere =
+    let same : made ≡ country_place (a ∷ b ∷ []) =
+    is ∙ ap (λ (t : List ℕ). country_place t) are in
+    subst IsPlace (sym same) (letters_in_form a b first second somewhere)
 
 not_told : (b : Bool) → not b ≡ true → b ≡ false
 not_told false h = refl

@@ -4,6 +4,7 @@ pub mod Covering
 pub mod Cuts
 pub mod DelegationForm
 pub mod First
+pub mod JoinedTexts
 pub mod NoteText
 pub mod Numbers
 pub mod Orders

@@ -13,7 +13,10 @@ ghost use Rattle.geo_terms.specs.PlaceOrder as order;
 ghost use Rattle.std.specs.Prelude.{Some, refl};
 ghost use Rattle.std.specs.Cmp.{partial_order_from_agreeing_total};
 
-use geo_addr::{Memory, Text};
+pub(crate) mod joined;
+
+use crate::place::joined::JoinedTexts;
+use geo_addr::Memory;
 use std::alloc::Global;
 use std::cmp::Ordering;
 use std::hash::{FoldHasher, Hash, Hasher};
@@ -25,7 +28,7 @@ use thiserror::Error;
 ///
 /// The country is a code of ISO 3166-1 and the region one of ISO 3166-2, both in upper case; no
 /// text is longer than `LONGEST` of `places/fields.rt`. Whether the codes exist is not asked.
-/// Its copies share the four texts.
+/// Its copies share the four texts, which stand in one string.
 #[derive(Debug, Drop)]
 pub struct Place {
     parts: Arc<Parts>,
@@ -38,10 +41,7 @@ struct Parts {
     mark: u32,
     rank: u32,
     lead: u64,
-    country: Text,
-    region: Text,
-    city: Text,
-    postal: Text,
+    texts: JoinedTexts,
 }
 
 impl Model for Place {
@@ -53,54 +53,23 @@ impl Model for Place {
 
     ghost Value = { PlaceParts };
 
-    ghost view = { λ p. record {
-      country = (arc_value p.parts).country;
-      region = (arc_value p.parts).region;
-      city = (arc_value p.parts).city;
-      postal = (arc_value p.parts).postal;
-    } };
+    ghost view = { λ p. (arc_value p.parts).texts };
 
-    ghost invariant = { λ p. IsPlace (record {
-      country = (arc_value p.parts).country;
-      region = (arc_value p.parts).region;
-      city = (arc_value p.parts).city;
-      postal = (arc_value p.parts).postal;
-    }) × Tells (arc_value p.parts).lead (arc_value p.parts).country (arc_value p.parts).region
-        × ((arc_value p.parts).mark ≡ place_mark (record {
-          country = (arc_value p.parts).country;
-          region = (arc_value p.parts).region;
-          city = (arc_value p.parts).city;
-          postal = (arc_value p.parts).postal;
-        }))
-        × ((arc_value p.parts).rank ≡ place_rank (record {
-          country = (arc_value p.parts).country;
-          region = (arc_value p.parts).region;
-          city = (arc_value p.parts).city;
-          postal = (arc_value p.parts).postal;
-        })) };
+    ghost invariant = { λ p. IsPlace (arc_value p.parts).texts
+        × Tells (arc_value p.parts).lead (arc_value p.parts).texts.country
+        (arc_value p.parts).texts.region
+        × ((arc_value p.parts).mark ≡ place_mark (arc_value p.parts).texts)
+        × ((arc_value p.parts).rank ≡ place_rank (arc_value p.parts).texts) };
 }
 
 impl Place {
     /// The place of these texts.
-    pub(crate) fn of(
-        alloc: Global,
-        country: Text,
-        region: Text,
-        city: Text,
-        postal: Text,
-    ) -> Result<Place, Memory>
-        requires { IsPlace (record {
-          country = country;
-          region = region;
-          city = city;
-          postal =
-              postal;
-        }) }
-        ensures { IfOk result (λ place. place
-            ≡ record { country = country; region = region; city = city; postal = postal }) }
+    pub(crate) fn of(alloc: Global, texts: JoinedTexts) -> Result<Place, Memory>
+        requires { IsPlace texts }
+        ensures { IfOk result (λ place. place ≡ texts) }
     {
-        let (first, second) = (country.as_str().as_bytes(), region.as_str().as_bytes());
-        let (third, fourth) = (city.as_str().as_bytes(), postal.as_str().as_bytes());
+        let (first, second) = (texts.country().as_bytes(), texts.region().as_bytes());
+        let (third, fourth) = (texts.city().as_bytes(), texts.postal().as_bytes());
         let mixed = mixed_texts(first, second, third, fourth);
         let mark = low(mixed);
         let rank = low(mixed_again(mixed, first, second, third, fourth));
@@ -109,42 +78,39 @@ impl Place {
             mark,
             rank,
             lead,
-            country,
-            region,
-            city,
-            postal,
+            texts,
         };
         let parts = Arc::new(alloc, parts)?;
         Ok(Place { parts })
     }
 
     /// The country, or an empty text.
-    pub fn country(&self) -> &Text
+    pub fn country(&self) -> &str
         ensures text { result.now ≡ self.now.country }
         ensures form { IsPlace self.now }
     {
-        &self.parts.country
+        self.parts.texts.country()
     }
 
     /// The region, or an empty text.
-    pub fn region(&self) -> &Text
+    pub fn region(&self) -> &str
         ensures { result.now ≡ self.now.region }
     {
-        &self.parts.region
+        self.parts.texts.region()
     }
 
     /// The city, or an empty text.
-    pub fn city(&self) -> &Text
+    pub fn city(&self) -> &str
         ensures { result.now ≡ self.now.city }
     {
-        &self.parts.city
+        self.parts.texts.city()
     }
 
     /// The postal code, or an empty text.
-    pub fn postal(&self) -> &Text
+    pub fn postal(&self) -> &str
         ensures { result.now ≡ self.now.postal }
     {
-        &self.parts.postal
+        self.parts.texts.postal()
     }
 
     /// The number of a place that its slots in a table follow from; others may have it too.
@@ -179,10 +145,10 @@ impl Place {
           postal = postal.now;
         }) }
     {
-        self.country().as_str().as_bytes() == country
-            && self.region().as_str().as_bytes() == region
-            && self.city().as_str().as_bytes() == city
-            && self.postal().as_str().as_bytes() == postal
+        self.country().as_bytes() == country
+            && self.region().as_bytes() == region
+            && self.city().as_bytes() == city
+            && self.postal().as_bytes() == postal
     }
 
     // Whether both have the same country and region; mostly one comparison of numbers tells.

@@ -19,14 +19,8 @@ pub fn place_value(alloc: Global, place: &Place) -> Result<Value, Memory>
     ensures value { IfOk result (λ value. value_tree value ≡ value_of_place place.now) }
     ensures readable { IfOk result (λ value. CanBeReadBack (value_tree value)) }
 {
-    let (country, region) = (place.country().as_str(), place.region().as_str());
-    let value = value_of_parts(
-        alloc,
-        country,
-        region,
-        place.city().as_str(),
-        place.postal().as_str(),
-    )?;
+    let (country, region) = (place.country(), place.region());
+    let value = value_of_parts(alloc, country, region, place.city(), place.postal())?;
     Ok(value)
 }
 

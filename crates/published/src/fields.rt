@@ -19,10 +19,10 @@ pub(crate) fn push_place(place: Option<&Place>, text: &mut Vec<u8>) -> Result<()
         text.extend_from_slice(b",,,,")?;
         return Ok(());
     };
-    push_field(place.country().as_str().as_bytes(), text)?;
-    push_field(place.region().as_str().as_bytes(), text)?;
-    push_field(place.city().as_str().as_bytes(), text)?;
-    push_field(place.postal().as_str().as_bytes(), text)
+    push_field(place.country().as_bytes(), text)?;
+    push_field(place.region().as_bytes(), text)?;
+    push_field(place.city().as_bytes(), text)?;
+    push_field(place.postal().as_bytes(), text)
 }
 
 // A comma and a field: quoted where its value has a comma or a quote in it.

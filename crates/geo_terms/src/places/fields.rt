@@ -1,8 +1,8 @@
 //! What four fields of a line say.
 ghost use Rattle.std.specs.Prelude.{◌≡◌, ◌<◌, ◌≤◌, ◌↔◌, length, IfOk, IfErr, IfSome, Ok, OnOk};
 ghost use Rattle.std.specs.Prelude.{IsOkUnless, IsTrue, [], ◌∷◌, if◌then◌else◌};
-ghost use Rattle.std.specs.List.{list_all, list_any};
-ghost use Rattle.std.specs.Char.{is_ascii_alphanumeric, is_ascii_lowercase};
+ghost use Rattle.std.specs.List.{list_all};
+ghost use Rattle.std.specs.Char.{is_ascii_alphanumeric};
 ghost use Rattle.geo_terms.specs.PlaceForm.{country_fits, country_of_region, is_country, is_empty};
 ghost use Rattle.geo_terms.specs.PlaceForm.{is_region, is_subdivision, lengths_fit};
 ghost use Rattle.geo_terms.specs.PlaceForm.{nowhere, parts_of, place_of_country, region_fits};
@@ -10,9 +10,10 @@ ghost use Rattle.geo_terms.specs.PlaceForm.{same_text, says_nothing, upper};
 ghost use Rattle.geo_terms.specs.SaidOf.{said_of, said_by};
 ghost use Rattle.geo_terms.specs.declared.place.Said.TheVariants.{At};
 
+use crate::place::joined::JoinedTexts;
 use crate::place::{Place, PlaceFault, Said};
-use crate::places::texts::{Marks, Texts, mark_of};
-use geo_addr::{Memory, Text};
+use crate::places::texts::{Texts, mark_of_four};
+use geo_addr::Memory;
 use std::alloc::Global;
 
 /// The longest city or postal code, in bytes.
@@ -59,8 +60,8 @@ pub fn place_in(
 {
     let (first, second) = (country.as_bytes(), region.as_bytes());
     let (third, fourth) = (city.as_bytes(), postal.as_bytes());
-    let marks = Marks::of(first, second, third, fourth);
-    if let Some(place) = said_before(texts, &marks, first, second, third, fourth) {
+    let mark = mark_of_four(first, second, third, fourth);
+    if let Some(place) = said_before(texts, mark, first, second, third, fourth) {
         return Ok(Said::At(place.copied()?));
     }
     if !country_fits(country) {
@@ -72,13 +73,13 @@ pub fn place_in(
     if !lengths_fit(city, postal) {
         return Err(PlaceFault::TooLong);
     }
-    Ok(said_in_form(texts, &marks, country, region, city, postal)?)
+    Ok(said_in_form(texts, mark, country, region, city, postal)?)
 }
 
-// The place that fields with these marks say, where it came before.
+// The place that fields with this mark say, where it came before.
 fn said_before<'a>(
     texts: &'a Texts,
-    marks: &Marks,
+    mark: u64,
     country: &[u8],
     region: &[u8],
     city: &[u8],
@@ -87,14 +88,14 @@ fn said_before<'a>(
     ensures { IfSome result
         (λ place. said_of country.now region.now city.now postal.now ≡ Ok (At place.now)) }
 {
-    let place = texts.known_place(marks.together(), country, region, city, postal)?;
+    let place = texts.known_place(mark, country, region, city, postal)?;
     Some(place)
 }
 
 /// The place that a country code alone names, or `None` where it is not two letters, or is `ZZ`.
 ///
 /// The code is read in either case and kept in upper case.
-#[tactic(auto, using(crate::proofs::PlaceLemmas::country_in_form), unfolding(crate::specs::PlaceForm::place_of_country),)]
+#[tactic(auto, unfolding(crate::specs::PlaceForm::place_of_country))]
 pub fn country_place(texts: &mut Texts, country: &[u8]) -> Result<Option<Place>, Memory>
     ensures { IfOk result (λ place. place ≡ place_of_country country.now) }
 {
@@ -105,100 +106,17 @@ pub fn country_place(texts: &mut Texts, country: &[u8]) -> Result<Option<Place>,
         return Ok(None);
     }
     let pair = upper_pair(*first, *second);
-    let mark = Marks::of(&pair, b"", b"", b"").together();
+    if is_nowhere(&pair) {
+        return Ok(None);
+    }
+    let mark = mark_of_four(&pair, b"", b"", b"");
     if let Some(place) = texts.known_place(mark, &pair, b"", b"", b"") {
         return Ok(Some(place.copied()?));
     }
-    let country = pair_text(texts, *first, *second)?;
-    if is_nowhere(&country) {
-        return Ok(None);
-    }
-    let region = texts.blank()?;
-    let city = texts.blank()?;
-    let postal = texts.blank()?;
-    let place = texts.place(country, region, city, postal)?;
-    Ok(Some(place))
-}
-
-// What fields that are in form and have these marks say, where it did not come before.
-#[tactic(auto, using(crate::proofs::PlaceLemmas::place_in_form))]
-fn said_in_form(
-    texts: &mut Texts,
-    marks: &Marks,
-    country: &str,
-    region: &str,
-    city: &str,
-    postal: &str,
-) -> Result<Said, Memory>
-    requires country { IsTrue (country_fits country.now) }
-    requires region { IsTrue (region_fits region.now) }
-    requires lengths { IsTrue (lengths_fit city.now postal.now) }
-    ensures { IfOk result
-        (λ said. said ≡ said_by (parts_of country.now region.now city.now postal.now)) }
-{
-    let own_country = country_text(texts, country, region)?;
-    let own_region = upper_text(texts, marks.region, region)?;
-    if says_nothing(&own_country, &own_region, city, postal) {
-        return Ok(Said::Nothing);
-    }
-    let as_written = own_country.as_str() == country && own_region.as_str() == region;
-    let city = texts.shared_by(marks.city, city)?;
-    let postal = texts.shared_by(marks.postal, postal)?;
-    let place = if as_written {
-        texts.new_place(marks.together(), own_country, own_region, city, postal)?
-    } else {
-        texts.place(own_country, own_region, city, postal)?
-    };
-    Ok(Said::At(place))
-}
-
-// Whether these texts, in upper case, say nothing.
-fn says_nothing(country: &Text, region: &Text, city: &str, postal: &str) -> bool
-    ensures { result ≡ says_nothing (record {
-      country = country.now;
-      region = region.now;
-      city = city.now;
-      postal = postal.now;
-    }) }
-{
-    if is_nowhere(country) {
-        return true;
-    }
-    country.as_str().is_empty()
-        && region.as_str().is_empty()
-        && city.is_empty()
-        && postal.is_empty()
-}
-
-// Whether a country in upper case is the code that stands for none.
-fn is_nowhere(country: &Text) -> bool
-    ensures { result ≡ same_text country.now nowhere }
-{
-    country.as_str() == "ZZ"
-}
-
-// The country in upper case: the field's own, or that of the region.
-#[tactic(auto, using(crate::proofs::PlaceLemmas::first_letters, crate::proofs::PlaceLemmas::country_of_letters))]
-fn country_text(texts: &mut Texts, country: &str, region: &str) -> Result<Text, Memory>
-    requires country { IsTrue (country_fits country.now) }
-    requires region { IsTrue (region_fits region.now) }
-    ensures { IfOk result (λ text. text ≡ (parts_of country.now region.now [] []).country) }
-{
-    match lettered(country, region) {
-        [first, second, ..] => pair_text(texts, *first, *second),
-        _ => texts.blank(),
-    }
-}
-
-// The field that begins with the country's letters: its own, or where it is empty the region.
-fn lettered<'a>(country: &'a str, region: &'a str) -> &'a [u8]
-    ensures { result.now ≡ (if is_empty country.now then region.now else country.now) }
-{
-    if country.is_empty() {
-        region.as_bytes()
-    } else {
-        country.as_bytes()
-    }
+    // Two ASCII letters are a text.
+    let country = unsafe { str::from_utf8_unchecked(country) };
+    let made = JoinedTexts::of(texts.alloc, country, "", "", "")?;
+    Ok(Some(texts.new_place(mark, made)?))
 }
 
 // Two bytes in upper case.
@@ -210,41 +128,85 @@ fn upper_pair(first: u8, second: u8) -> [u8; 2]
     [first, second]
 }
 
-// Two ASCII letters as a text in upper case.
-fn pair_text(texts: &mut Texts, first: u8, second: u8) -> Result<Text, Memory>
-    requires first { first < 128 }
-    requires second { second < 128 }
-    ensures { IfOk result (λ text. text ≡ upper (first ∷ second ∷ [])) }
+// What fields that are in form and have this mark say, where it did not come before.
+#[tactic(auto, using(crate::proofs::PlaceLemmas::place_in_form))]
+fn said_in_form(
+    texts: &mut Texts,
+    mark: u64,
+    country: &str,
+    region: &str,
+    city: &str,
+    postal: &str,
+) -> Result<Said, Memory>
+    requires country { IsTrue (country_fits country.now) }
+    requires region { IsTrue (region_fits region.now) }
+    requires lengths { IsTrue (lengths_fit city.now postal.now) }
+    ensures { IfOk result
+        (λ said. said ≡ said_by (parts_of country.now region.now city.now postal.now)) }
 {
-    let [first, second] = upper_pair(first, second);
-    let mark = mark_of(&[first, second]);
-    if let Some(found) = texts.known(mark, &[first, second])? {
-        return Ok(found);
+    let made = named(texts.alloc, country, region, city, postal)?;
+    if says_nothing(&made) {
+        return Ok(Said::Nothing);
     }
-    let mut pair = String::new(texts.alloc());
-    pair.push(first as char)?;
-    pair.push(second as char)?;
-    let text = Text::from_string(pair)?;
-    texts.kept(mark, text)
+    let place = if made.country() == country && made.region() == region {
+        texts.new_place(mark, made)?
+    } else {
+        texts.place(made)?
+    };
+    Ok(Said::At(place))
 }
 
-// The text of this mark in upper case; only a text with lower-case letters is written anew.
-#[tactic(auto, using(crate::proofs::PlaceLemmas::upper_without_lowercase))]
-fn upper_text(texts: &mut Texts, mark: u64, text: &str) -> Result<Text, Memory>
-    ensures { IfOk result (λ copy. copy ≡ upper text.now) }
+// The texts that four fields in form name.
+fn named(
+    alloc: Global,
+    country: &str,
+    region: &str,
+    city: &str,
+    postal: &str,
+) -> Result<JoinedTexts, Memory>
+    requires country { IsTrue (country_fits country.now) }
+    requires region { IsTrue (region_fits region.now) }
+    requires lengths { IsTrue (lengths_fit city.now postal.now) }
+    ensures { IfOk result
+        (λ texts. texts ≡ parts_of country.now region.now city.now postal.now) }
 {
-    if !has_lowercase(text.as_bytes()) {
-        return texts.shared_by(mark, text);
-    }
-    let mut copy = String::from_str(texts.alloc(), text)?;
-    copy.make_ascii_uppercase();
-    texts.shared(copy.as_str())
+    let letters = own_country(country, region);
+    JoinedTexts::of(alloc, letters, region, city, postal)
 }
 
-fn has_lowercase(text: &[u8]) -> bool
-    ensures { result ≡ list_any is_ascii_lowercase text.now }
+// Whether these texts, in upper case, say nothing.
+fn says_nothing(texts: &JoinedTexts) -> bool
+    ensures { result ≡ says_nothing texts.now }
 {
-    text.iter().any(|byte| byte.is_ascii_lowercase())
+    if is_nowhere(texts.country().as_bytes()) {
+        return true;
+    }
+    texts.country().is_empty()
+        && texts.region().is_empty()
+        && texts.city().is_empty()
+        && texts.postal().is_empty()
+}
+
+// Whether a country in upper case is the code that stands for none.
+fn is_nowhere(country: &[u8]) -> bool
+    ensures { result ≡ same_text country.now nowhere }
+{
+    country == b"ZZ".as_slice()
+}
+
+// The country of two fields: the first one, or where that is empty the first letters of the region.
+fn own_country<'a>(country: &'a str, region: &'a str) -> &'a str
+    requires { IsTrue (region_fits region.now) }
+    ensures { result.now
+        ≡ (if is_empty country.now then country_of_region region.now else country.now) }
+{
+    if !country.is_empty() {
+        return country;
+    }
+    match region.as_bytes() {
+        [_, _, ..] => &region[..2],
+        _ => "",
+    }
 }
 
 #[tactic(auto, unfolding(crate::specs::PlaceForm::country_fits))]

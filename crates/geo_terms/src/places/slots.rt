@@ -3,13 +3,16 @@ use geo_addr::Memory;
 use std::alloc::Global;
 use std::mem;
 
-/// Values by marks: one has the slot of its mark or the one beside it, and an older one may go for
-/// a newer one. So a look-up is two looks, whatever marks strangers make.
+/// Values by marks: one has a slot of the group that its mark leads to, and an older one may go for
+/// a newer one. So a look-up is four looks, whatever marks strangers make.
 #[derive(Drop)]
 pub(crate) struct Slots<T: Drop> {
     slots: Vec<Option<(u64, T)>>,
     put: u64,
 }
+
+/// How many slots are a group.
+pub(crate) const TOGETHER: usize = 4;
 
 /// How many slots a table has at first, and at most.
 const FIRST: u64 = 1 << 6;
@@ -25,7 +28,7 @@ impl<T: Drop> Slots<T> {
         }
     }
 
-    /// What came by this mark: the value in its slot, or for `beside` 1 the one in the slot beside.
+    /// What came by this mark and has the slot of its group that is so far beside the mark's own.
     pub(crate) fn held(&self, mark: u64, beside: usize) -> Option<&T> {
         match self.slots.get(self.slot_of(mark) ^ beside) {
             Some(Some((own, value))) if *own == mark => Some(value),
@@ -57,18 +60,19 @@ impl<T: Drop> Slots<T> {
         Ok(())
     }
 
-    // Puts a value into the slot of its mark, and what was there into the one beside it.
+    // Puts a value into the slot of its mark, and what was there into the one beside it, and so on
+    // up to a free one; what has none left is let go.
     fn put_in(&mut self, mark: u64, value: T) {
-        let slot = self.slot_of(mark);
-        let Some(first) = self.slots.get_mut(slot) else {
-            return;
-        };
-        let before = mem::replace(first, Some((mark, value)));
-        if before.is_none() {
-            return;
-        }
-        if let Some(second) = self.slots.get_mut(slot ^ 1) {
-            *second = before;
+        let own = self.slot_of(mark);
+        let mut moved = Some((mark, value));
+        for beside in 0..TOGETHER {
+            let Some(slot) = self.slots.get_mut(own ^ beside) else {
+                return;
+            };
+            moved = mem::replace(slot, moved);
+            if moved.is_none() {
+                return;
+            }
         }
     }
 

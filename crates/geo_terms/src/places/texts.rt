@@ -1,9 +1,10 @@
 //! Texts and places that stand in a source many times.
-ghost use Rattle.std.specs.Prelude.{◌≡◌, [], IfOk, IfSome};
+ghost use Rattle.std.specs.Prelude.{◌≡◌, IfOk, IfSome};
 ghost use Rattle.geo_terms.specs.PlaceForm.{IsPlace};
 
 use crate::place::Place;
-use crate::places::slots::Slots;
+use crate::place::joined::JoinedTexts;
+use crate::places::slots::{Slots, TOGETHER};
 use geo_addr::{Memory, Text};
 use std::alloc::Global;
 
@@ -11,41 +12,13 @@ use std::alloc::Global;
 /// bytes.
 ///
 /// Which texts it holds changes what memory is taken, and never what a text says. A look-up is at
-/// most two, whatever strangers write: of texts whose marks lead to one slot the last two are
+/// most four, whatever strangers write: of those whose marks lead to one group of slots four are
 /// shared.
 #[derive(Drop)]
 pub struct Texts {
-    alloc: Global,
-    empty: Option<Text>,
-    seen: Slots<Text>,
+    pub(crate) alloc: Global,
+    texts: Slots<Text>,
     places: Slots<Place>,
-}
-
-/// The marks of four texts: numbers by which they are found again, which others may have too.
-#[derive(Clone, Copy)]
-pub(crate) struct Marks {
-    pub(crate) country: u64,
-    pub(crate) region: u64,
-    pub(crate) city: u64,
-    pub(crate) postal: u64,
-}
-
-impl Marks {
-    /// The marks of these texts.
-    pub(crate) fn of(country: &[u8], region: &[u8], city: &[u8], postal: &[u8]) -> Marks {
-        Marks {
-            country: mark_of(country),
-            region: mark_of(region),
-            city: mark_of(city),
-            postal: mark_of(postal),
-        }
-    }
-
-    /// The mark of the four together.
-    pub(crate) fn together(&self) -> u64 {
-        let front = mixed(self.country ^ self.region).rotate_left(1);
-        mixed(front ^ self.city).rotate_left(1) ^ self.postal
-    }
 }
 
 impl Texts {
@@ -53,8 +26,7 @@ impl Texts {
     pub fn new(alloc: Global) -> Texts {
         Texts {
             alloc,
-            empty: None,
-            seen: Slots::new(alloc),
+            texts: Slots::new(alloc),
             places: Slots::new(alloc),
         }
     }
@@ -63,57 +35,17 @@ impl Texts {
     pub fn shared(&mut self, text: &str) -> Result<Text, Memory>
         ensures { IfOk result (λ given. given ≡ text.now) }
     {
-        self.shared_by(mark_of(text.as_bytes()), text)
-    }
-
-    /// A text that says what `text` does, whose mark this is.
-    pub(crate) fn shared_by(&mut self, mark: u64, text: &str) -> Result<Text, Memory>
-        ensures { IfOk result (λ given. given ≡ text.now) }
-    {
-        if text.is_empty() {
-            return self.blank();
-        }
-        if let Some(found) = self.known(mark, text.as_bytes())? {
-            return Ok(found);
-        }
-        let text = Text::of(self.alloc, text)?;
-        self.kept(mark, text)
-    }
-
-    /// The empty text, which needs no look-up.
-    pub(crate) fn blank(&mut self) -> Result<Text, Memory>
-        ensures { IfOk result (λ given. given ≡ []) }
-    {
-        if let Some(found) = &self.empty {
-            if found.as_str().is_empty() {
-                return Ok(found.copied()?);
-            }
-        }
-        let text = Text::of(self.alloc, "")?;
-        self.empty = Some(text.copied()?);
-        Ok(text)
-    }
-
-    /// The text of these bytes, where it came before by this mark and is not empty.
-    pub(crate) fn known(&self, mark: u64, text: &[u8]) -> Result<Option<Text>, Memory>
-        ensures { IfOk result (λ found. IfSome found (λ given. given ≡ text.now)) }
-    {
-        for beside in 0..2 {
-            if let Some(found) = self.seen.held(mark, beside) {
-                if found.as_str().as_bytes() == text {
-                    return Ok(Some(found.copied()?));
+        let mark = mark_of(text.as_bytes());
+        for beside in 0..TOGETHER {
+            if let Some(found) = self.texts.held(mark, beside) {
+                if found.as_str() == text {
+                    return found.copied();
                 }
             }
         }
-        Ok(None)
-    }
-
-    /// The text itself, from now on one that came before by this mark.
-    pub(crate) fn kept(&mut self, mark: u64, text: Text) -> Result<Text, Memory>
-        ensures { IfOk result (λ given. given ≡ text) }
-    {
+        let text = Text::of(self.alloc, text)?;
         let copy = text.copied()?;
-        self.seen.keep(self.alloc, mark, copy)?;
+        self.texts.keep(self.alloc, mark, copy)?;
         Ok(text)
     }
 
@@ -134,7 +66,7 @@ impl Texts {
           postal = postal.now;
         }) }
     {
-        for beside in 0..2 {
+        for beside in 0..TOGETHER {
             if let Some(place) = self.places.held(mark, beside) {
                 if place.has(country, region, city, postal) {
                     return Some(place);
@@ -145,65 +77,39 @@ impl Texts {
     }
 
     /// The place of four texts: the one that came before, or a new one, which from now on did.
-    pub(crate) fn place(
-        &mut self,
-        country: Text,
-        region: Text,
-        city: Text,
-        postal: Text,
-    ) -> Result<Place, Memory>
-        requires { IsPlace (record {
-          country = country;
-          region = region;
-          city = city;
-          postal =
-              postal;
-        }) }
-        ensures { IfOk result (λ place. place
-            ≡ record { country = country; region = region; city = city; postal = postal }) }
+    pub(crate) fn place(&mut self, texts: JoinedTexts) -> Result<Place, Memory>
+        requires { IsPlace texts }
+        ensures { IfOk result (λ place. place ≡ texts) }
     {
-        let (first, second) = (country.as_str().as_bytes(), region.as_str().as_bytes());
-        let (third, fourth) = (city.as_str().as_bytes(), postal.as_str().as_bytes());
-        let mark = Marks::of(first, second, third, fourth).together();
+        let (first, second) = (texts.country().as_bytes(), texts.region().as_bytes());
+        let (third, fourth) = (texts.city().as_bytes(), texts.postal().as_bytes());
+        let mark = mark_of_four(first, second, third, fourth);
         if let Some(found) = self.known_place(mark, first, second, third, fourth) {
             return found.copied();
         }
-        self.new_place(mark, country, region, city, postal)
+        self.new_place(mark, texts)
     }
 
     /// A new place of four texts, which from now on came before by this mark.
-    pub(crate) fn new_place(
-        &mut self,
-        mark: u64,
-        country: Text,
-        region: Text,
-        city: Text,
-        postal: Text,
-    ) -> Result<Place, Memory>
-        requires { IsPlace (record {
-          country = country;
-          region = region;
-          city = city;
-          postal =
-              postal;
-        }) }
-        ensures { IfOk result (λ place. place
-            ≡ record { country = country; region = region; city = city; postal = postal }) }
+    pub(crate) fn new_place(&mut self, mark: u64, texts: JoinedTexts) -> Result<Place, Memory>
+        requires { IsPlace texts }
+        ensures { IfOk result (λ place. place ≡ texts) }
     {
-        let place = Place::of(self.alloc, country, region, city, postal)?;
+        let place = Place::of(self.alloc, texts)?;
         let copy = place.copied()?;
         self.places.keep(self.alloc, mark, copy)?;
         Ok(place)
     }
-
-    /// Where new texts take their memory.
-    pub(crate) fn alloc(&self) -> Global {
-        self.alloc
-    }
 }
 
-/// A number by which a text is found again; other texts may have it too.
-pub(crate) fn mark_of(text: &[u8]) -> u64 {
+/// A number by which a place of these texts is found again; others may have it too.
+pub(crate) fn mark_of_four(country: &[u8], region: &[u8], city: &[u8], postal: &[u8]) -> u64 {
+    let front = mixed(mark_of(country) ^ mark_of(region)).rotate_left(1);
+    mixed(front ^ mark_of(city)).rotate_left(1) ^ mark_of(postal)
+}
+
+// A number by which a text is found again; other texts may have it too.
+fn mark_of(text: &[u8]) -> u64 {
     let mut mark = text.len() as u64;
     let mut left = text;
     while left.len() >= 8 {

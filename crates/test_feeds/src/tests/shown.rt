@@ -25,10 +25,10 @@ fn push_number(text: &mut Vec<u8>, number: u64) -> Result<(), Fail> {
 }
 
 fn push_place(text: &mut Vec<u8>, place: &Place) -> Result<(), Fail> {
-    let country = place.country().as_str().as_bytes();
-    let region = place.region().as_str().as_bytes();
-    let city = place.city().as_str().as_bytes();
-    let postal = place.postal().as_str().as_bytes();
+    let country = place.country().as_bytes();
+    let region = place.region().as_bytes();
+    let city = place.city().as_bytes();
+    let postal = place.postal().as_bytes();
     push_all(
         text,
         &[country, b",", region, b",", city, b",", postal, b"\n"],

@@ -192,7 +192,7 @@ fn decide(stats: &[Stats], address: u128, wanted: &[u8]) -> bool {
         overrides: None,
     };
     match spoken_at(&sources, Addr(address)) {
-        Some(place) => place.country().as_str().as_bytes() == wanted,
+        Some(place) => place.country().as_bytes() == wanted,
         None => wanted.is_empty(),
     }
 }

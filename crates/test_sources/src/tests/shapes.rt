@@ -97,15 +97,15 @@ fn spoken() -> &'static [(u128, &'static str)] {
 fn is_country_alone(place: &Place) -> bool
     ensures { result ≡ true → IsCountryAlone place.now }
 {
-    !place.country().as_str().is_empty()
-        && place.region().as_str().is_empty()
-        && place.city().as_str().is_empty()
-        && place.postal().as_str().is_empty()
+    !place.country().is_empty()
+        && place.region().is_empty()
+        && place.city().is_empty()
+        && place.postal().is_empty()
 }
 
 fn country_of(place: Option<&Place>) -> &str {
     match place {
-        Some(place) => place.country().as_str(),
+        Some(place) => place.country(),
         None => "",
     }
 }

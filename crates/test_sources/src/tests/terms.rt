@@ -10,7 +10,7 @@ use std::alloc::Global;
 
 // The country and the region of a place.
 fn fields_of(place: &Place) -> (&str, &str) {
-    (place.country().as_str(), place.region().as_str())
+    (place.country(), place.region())
 }
 
 fn shown(said: &Result<Said, PlaceFault>) -> (&str, &str) {

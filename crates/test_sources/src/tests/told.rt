@@ -9,10 +9,10 @@ fn place_text(alloc: Global, place: Option<&Place>) -> Option<String> {
     let Some(place) = place else {
         return String::from_str(alloc, "-").ok();
     };
-    let country = place.country().as_str();
-    let region = place.region().as_str();
-    let city = place.city().as_str();
-    let postal = place.postal().as_str();
+    let country = place.country();
+    let region = place.region();
+    let city = place.city();
+    let postal = place.postal();
     format!(in alloc; "{country},{region},{city},{postal}").ok()
 }
 

@@ -6,34 +6,17 @@ use Rattle.mmdb_file.proofs.place.place_value.Goals as goal
 
 pub returns-clause-readable : goal.returns-clause-readable
 returns-clause-readable c =
-    let form = c.country.ensures.form in
+    let form = c.country-country.ensures.form in
     subst CanBeReadBack (sym c.in_ok-value.ensures)
     (readable _ (record {
       country = (
-        c.as_str-country.utf8,
-        omega (
-          arith,
-          ap length c.as_str-country.ensures,
-          ap length c.country.ensures.text,
-          short_country _ form,
-        ),
+        c.country-country.utf8,
+        omega (arith, ap length c.country-country.ensures.text, short_country _ form),
       );
       region = (
-        c.as_str-region.utf8,
-        omega (
-          arith,
-          ap length c.as_str-region.ensures,
-          ap length c.region.ensures,
-          short_region _ form,
-        ),
+        c.region-region.utf8,
+        omega (arith, ap length c.region-region.ensures, short_region _ form),
       );
-      city = (
-        c.as_str.utf8,
-        omega (arith, ap length c.as_str.ensures, ap length c.city.ensures, short_city _ form),
-      );
-      postal = (
-        c.as_str-2.utf8,
-        omega
-            (arith, ap length c.as_str-2.ensures, ap length c.postal.ensures, short_postal _ form),
-      );
+      city = (c.city.utf8, omega (arith, ap length c.city.ensures, short_city _ form));
+      postal = (c.postal.utf8, omega (arith, ap length c.postal.ensures, short_postal _ form));
     }))

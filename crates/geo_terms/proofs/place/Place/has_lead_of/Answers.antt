@@ -15,10 +15,11 @@ returns c = λ is.
     sym read ∙ c.if-lead-deref.false
     ∙ ap (λ (p : Parts). p.lead) c.deref-else-lead-eq0.ensures in
     let some : 0 < one.lead = omega (arith, read, c.if-lead-eq0.false) in
-    let alike = told_alike one.lead two.lead one.country one.region two.country two.region some
-    same c.self.invariant.1 c.other.invariant.1 in
+    let alike = told_alike one.lead two.lead one.texts.country one.texts.region
+    two.texts.country two.texts.region some same c.self.invariant.1 c.other.invariant.1 in
     let seen = subst
-    (λ (q : PlaceParts). true ≡ (same_text one.country q.country && same_text one.region q.region))
+    (λ (q : PlaceParts).
+    true ≡ (same_text one.texts.country q.country && same_text one.texts.region q.region))
     c.other.view_is alike in
     let other = c.args.other.now in
     sym (subst
