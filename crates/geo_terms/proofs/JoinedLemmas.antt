@@ -64,8 +64,7 @@ cut_before_upper text front (b ∷ bs) rest is region-utf8 rest-utf8 =
     ∙ get_or_at front (to_ascii_uppercase b) (upper bs ++ rest) 0 (length front) refl in
     let start = IsCharBoundary-start (b ∷ bs) region-utf8 in
     let long : length front ≤ length text =
-    omega (arith, ap length is, length-append front (upper (b ∷ bs) ++ rest)) in
-    (
+    omega (arith, ap length is, length-append front (upper (b ∷ bs) ++ rest)) in (
       long,
       λ within wide. lead_kept b (get_or text (length front) 0) read wide
           (start.1 (omega arith)),
