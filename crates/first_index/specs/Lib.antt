@@ -1,3 +1,4 @@
+pub mod AllSources
 pub mod Boundaries
 pub mod Columns
 pub mod Edges

@@ -1,5 +1,4 @@
 pub mod Alias
-pub mod AllSources
 pub mod Covering
 pub mod Cuts
 pub mod DelegationForm

@@ -8,7 +8,6 @@ mod note;
 mod order;
 mod place;
 mod places;
-pub mod plain;
 mod source;
 mod statement;
 

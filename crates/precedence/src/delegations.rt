@@ -9,8 +9,9 @@ ghost use Rattle.geo_terms.specs.Precedence.{delegation_before};
 ghost use Rattle.precedence.specs.Delegations.{IsIndex, starts_from};
 
 use authority::KindIndex;
+use first_index::plain;
 use geo_addr::{Addr, Memory};
-use geo_terms::{Delegation, Stats, plain};
+use geo_terms::{Delegation, Stats};
 use source_changes::push_borrows;
 use std::alloc::Global;
 use std::sync::Arc;

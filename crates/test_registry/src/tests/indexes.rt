@@ -1,8 +1,8 @@
 //! The index of references beside the plain look-up. The lines that are wanted of the worked
 //! references were told from their ranges and dates by hand.
+use first_index::plain::first_at;
 use geo_addr::{Addr, Range, Text, parse_block};
 use geo_terms::Reference;
-use geo_terms::plain::first_at;
 use inetnum_index::Index;
 use std::alloc::Global;
 use std::test::Fail;

@@ -1,9 +1,9 @@
 //! Statistics files: delegations, notes, and which delegation decides. What is wanted was told from
 //! the lines by hand: the ends of a range are the digits of its address, and its count further.
 use fan_work::Forks;
+use first_index::plain::{AllSources, spoken_at};
 use geo_addr::Addr;
 use geo_outside::OpenGate;
-use geo_terms::plain::{AllSources, spoken_at};
 use geo_terms::{Delegation, LineNote, Stats};
 use nro_stats::{read_stats, read_stats_by_parts};
 use std::alloc::Global;

@@ -3,8 +3,8 @@
 use crate::tests::speakers::{Row, dump, feed, reference_line, set_feed};
 use crate::tests::told::entry_line;
 use authority::Authority;
+use first_index::plain::{AllSources, entry_at, speaker_at};
 use geo_addr::Addr;
-use geo_terms::plain::{AllSources, entry_at, speaker_at};
 use geo_terms::{Dump, Feed};
 use std::alloc::Global;
 

@@ -3,8 +3,8 @@
 ghost use Rattle.std.specs.Prelude.{◌≡◌, true, IfSome};
 ghost use Rattle.geo_terms.specs.DelegationForm.{IsCountryAlone};
 
+use first_index::plain::{AllSources, spoken_at};
 use geo_addr::{Addr, List, Range, Text};
-use geo_terms::plain::{AllSources, spoken_at};
 use geo_terms::{Delegation, Place, Stats, Texts, country_place};
 use precedence::Sources;
 use std::alloc::Global;

@@ -3,7 +3,7 @@ use Rattle.std.proofs.Common.{◌≡◌, drop, fold, flat_map}
 use Rattle.std.specs.Option.{option_copied}
 use Rattle.geo_terms.specs.First.{better, first_of, holders}
 use Rattle.geo_terms.specs.Precedence.{reference_before}
-use Rattle.geo_terms.proofs.plain.speaker_at.Given as goal
+use Rattle.first_index.proofs.plain.speaker_at.Given as goal
 
 abbrev pub invariant-loop-dump : goal.invariant-loop-dump
 invariant-loop-dump l =

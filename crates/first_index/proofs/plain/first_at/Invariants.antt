@@ -3,7 +3,7 @@ use Rattle.std.proofs.Common.{◌≡◌, drop, fold}
 use Rattle.std.specs.Option.{option_copied}
 use Rattle.std.specs.Ordering.{is_lt}
 use Rattle.geo_terms.specs.First.{better, holders}
-use Rattle.geo_terms.proofs.plain.first_at.Given as goal
+use Rattle.first_index.proofs.plain.first_at.Given as goal
 
 abbrev pub invariant-loop-statement : goal.invariant-loop-statement
 invariant-loop-statement g l =

@@ -3,7 +3,7 @@ use Rattle.std.proofs.Common.{◌≡◌, drop, fold, flat_map}
 use Rattle.std.specs.Option.{option_copied}
 use Rattle.geo_terms.specs.First.{better, first_of, holders}
 use Rattle.geo_terms.specs.Precedence.{delegation_before}
-use Rattle.geo_terms.proofs.plain.delegation_at.Given as goal
+use Rattle.first_index.proofs.plain.delegation_at.Given as goal
 
 abbrev pub invariant-loop-file : goal.invariant-loop-file
 invariant-loop-file l =

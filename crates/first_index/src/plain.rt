@@ -3,18 +3,17 @@
 ghost use Rattle.std.specs.Prelude.{◌≡◌, Some, find, fold};
 ghost use Rattle.std.specs.Option.{option_copied};
 ghost use Rattle.std.specs.Ordering.{is_lt};
-ghost use Rattle.geo_terms.specs.AllSources.{in_force};
+ghost use Rattle.first_index.specs.AllSources.{in_force};
 ghost use Rattle.geo_terms.specs.First.{better, first_of, holders};
 ghost use Rattle.geo_terms.specs.PlaceForm.{same_text};
 ghost use Rattle.geo_terms.specs.Precedence.{spoken_at, entries_within, entry_before};
 ghost use Rattle.geo_terms.specs.Precedence.{first_delegation, first_override, lies_within};
 ghost use Rattle.geo_terms.specs.Precedence.{said_place, speaker, speaking_entry};
 
-use crate::order::Statement;
-use crate::place::{Place, Said};
-use crate::source::{Dump, Feed, Overrides, Stats};
-use crate::statement::{Delegation, Entry, Override, Reference};
 use geo_addr::{Addr, Block, Range, range_of};
+use geo_terms::{
+    Delegation, Dump, Entry, Feed, Override, Overrides, Place, Reference, Said, Statement, Stats,
+};
 
 /// The sources in force, borrowed.
 #[derive(Clone, Copy, Debug)]
@@ -26,7 +25,7 @@ pub struct AllSources<'a> {
 }
 
 /// The speaker at an address: the first reference that holds it.
-#[tactic(auto, unfolding(crate::specs::Precedence::speaker))]
+#[tactic(auto, unfolding(geo_terms::specs::Precedence::speaker))]
 pub fn speaker_at<'a>(sources: &AllSources<'a>, at: Addr) -> Option<&'a Reference>
     ensures { option_copied result ≡ speaker (in_force sources.entry.now) at.0 }
 {
@@ -40,7 +39,7 @@ pub fn speaker_at<'a>(sources: &AllSources<'a>, at: Addr) -> Option<&'a Referenc
 
 /// The entry that speaks at an address: the longest one of the speaker's feed that holds the
 /// address and lies within the speaker's range.
-#[tactic(auto, unfolding(crate::specs::Precedence::speaking_entry))]
+#[tactic(auto, unfolding(geo_terms::specs::Precedence::speaking_entry))]
 pub fn entry_at<'a>(sources: &AllSources<'a>, at: Addr) -> Option<&'a Entry>
     ensures { option_copied result ≡ speaking_entry (in_force sources.entry.now) at.0 }
 {
@@ -72,7 +71,7 @@ fn longest_within<'a>(entries: &'a [Entry], range: Range, at: Addr) -> Option<&'
 }
 
 // The new entry where it is longer than the longest one so far, else that one.
-#[tactic(auto, unfolding(crate::specs::Precedence::entry_cmp))]
+#[tactic(auto, unfolding(geo_terms::specs::Precedence::entry_cmp))]
 fn longer<'a>(longest: Option<&'a Entry>, next: &'a Entry) -> &'a Entry
     ensures { Some result.now ≡ better entry_before (option_copied longest.entry) next.entry.now }
 {
@@ -95,7 +94,7 @@ fn lies_within(block: Block, range: Range) -> bool
 }
 
 /// The first delegation that holds an address.
-#[tactic(auto, unfolding(crate::specs::Precedence::first_delegation))]
+#[tactic(auto, unfolding(geo_terms::specs::Precedence::first_delegation))]
 pub fn delegation_at<'a>(sources: &AllSources<'a>, at: Addr) -> Option<&'a Delegation>
     ensures { option_copied result ≡ first_delegation (in_force sources.entry.now) at.0 }
 {
@@ -108,7 +107,7 @@ pub fn delegation_at<'a>(sources: &AllSources<'a>, at: Addr) -> Option<&'a Deleg
 }
 
 /// The first override that holds an address.
-#[tactic(auto, unfolding(crate::specs::Precedence::first_override))]
+#[tactic(auto, unfolding(geo_terms::specs::Precedence::first_override))]
 pub fn override_at<'a>(sources: &AllSources<'a>, at: Addr) -> Option<&'a Override>
     ensures { option_copied result ≡ first_override (in_force sources.entry.now) at.0 }
 {
@@ -118,7 +117,7 @@ pub fn override_at<'a>(sources: &AllSources<'a>, at: Addr) -> Option<&'a Overrid
 
 /// What the sources say of an address: an override decides, without one the entry, and without an
 /// entry the delegation.
-#[tactic(auto, unfolding(crate::specs::Precedence::spoken_at))]
+#[tactic(auto, unfolding(geo_terms::specs::Precedence::spoken_at))]
 pub fn spoken_at<'a>(sources: &AllSources<'a>, at: Addr) -> Option<&'a Place>
     ensures { option_copied result ≡ spoken_at (in_force sources.entry.now) at.0 }
 {

@@ -3,7 +3,7 @@ use Rattle.std.proofs.Common.{◌≡◌, drop, fold}
 use Rattle.std.specs.Option.{option_copied}
 use Rattle.geo_terms.specs.First.{better, first_of}
 use Rattle.geo_terms.specs.Precedence.{entry_before, entries_within}
-use Rattle.geo_terms.proofs.plain.longest_within.Given as goal
+use Rattle.first_index.proofs.plain.longest_within.Given as goal
 
 abbrev pub invariant-loop-entry : goal.invariant-loop-entry
 invariant-loop-entry l =
