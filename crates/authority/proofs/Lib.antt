@@ -1,3 +1,4 @@
+pub mod CoverLemmas
 pub mod CutLemmas
 pub mod EntryLemmas
 pub mod HeldLemmas

@@ -51,7 +51,7 @@ impl Model for Authority {
 
 impl Authority {
     ghost use Rattle.std.specs.Prelude.{◌≡◌, map, IfOk, IfErr, OnOk, OnErr, Some, None};
-    ghost use Rattle.std.specs.Prelude.{option_map};
+    ghost use Rattle.std.specs.Prelude.{is_some, option_map};
     ghost use Rattle.std.specs.Arc.{arc_value};
     ghost use Rattle.std.specs.Option.{option_copied};
     ghost use Rattle.geo_terms.specs.Covering.{covering};
@@ -249,9 +249,10 @@ impl Authority {
         self.entry_near(at, &mut near)
     }
 
-    // The speaker at an address, looked for first where the last one was found.
+    /// The speaker at an address, as `speaker_at` gives it. It is looked for first where the last
+    /// one was found, which spares a halving where addresses ascend.
     #[tactic(auto, unfolding(geo_terms::specs::Precedence::speaker))]
-    fn speaker_near(&self, at: Addr, near: &mut usize) -> Option<&Reference>
+    pub fn speaker_near(&self, at: Addr, near: &mut usize) -> Option<&Reference>
         ensures { option_copied result ≡ speaker self.now at.0 }
     {
         match &self.speakers {
@@ -278,6 +279,17 @@ impl Authority {
         match &self.speakers {
             Some(made) => made.index.covering(block, url),
             None => covering_of_all(self.dumps.as_slice(), block, url),
+        }
+    }
+
+    /// Whether a reference of this URL is of the block's family and contains the block:
+    /// by one halving.
+    pub fn covers(&self, block: Block, url: &str) -> bool
+        ensures { result ≡ is_some (covering (references self.now) url.now block) }
+    {
+        match &self.speakers {
+            Some(made) => made.index.covers(block, url),
+            None => covering_of_all(self.dumps.as_slice(), block, url).is_some(),
         }
     }
 

@@ -2,15 +2,16 @@
 ghost use Rattle.std.specs.Prelude.{◌≡◌, ◌++◌, Some, IfOk, OnOk, length, map};
 ghost use Rattle.std.specs.List.Sorted.{IsStrictlyIncreasing};
 ghost use Rattle.std.specs.Option.{option_copied};
-ghost use Rattle.geo_terms.specs.Sources.{feed_of};
+ghost use Rattle.geo_terms.specs.Covering.{covering};
+ghost use Rattle.geo_terms.specs.Sources.{feed_of, references};
 ghost use Rattle.check_census.specs.Verdicts.{before, entry_verdict, first_heard, merged};
 ghost use Rattle.check_census.specs.Verdicts.{note_verdict, ruling, speaker_there, verdicts};
 
 use crate::sweep::first_addresses;
 use crate::verdict::{Ruling, Verdict};
-use geo_addr::{Addr, Memory};
+use geo_addr::{Addr, Block, Memory};
 use geo_terms::{Entry, Feed, LineNote, Reference};
-use precedence::Sources;
+use precedence::{Near, Sources};
 use std::alloc::Global;
 
 /// What becomes of each line of a feed in force that is an entry or is noted,
@@ -27,7 +28,7 @@ pub fn check(alloc: Global, sources: &Sources, feed: &Feed) -> Result<Vec<Verdic
 {
     // Whoever asks once may not have made the sources ready.
     let mut ready = sources.snapshot()?;
-    ready.make_ready()?;
+    ready.make_speakers_ready()?;
     check_ready(alloc, &ready, feed)
 }
 
@@ -76,11 +77,13 @@ fn merged(
         (λ list. list.items ≡ merged sources.now url.now entries.now notes.now) }
 {
     let mut verdicts = Vec::with_capacity(alloc, entries.len())?;
+    let mut near = Near::default();
     let mut left = notes;
     for (index, entry) in entries.iter().enumerate() {
         let (earlier, later) = left.split_at(count_before(left, entry.line));
         push_notes(&mut verdicts, earlier)?;
-        verdicts.push(entry_verdict(sources, url, entry, firsts[index])?)?;
+        let verdict = entry_verdict(sources, url, entry, firsts[index], &mut near)?;
+        verdicts.push(verdict)?;
         left = later;
     }
     push_notes(&mut verdicts, left)?;
@@ -113,45 +116,60 @@ fn push_notes(verdicts: &mut Vec<Verdict>, notes: &[LineNote]) -> Result<(), Mem
     Ok(())
 }
 
-// The verdict on an entry of the feed of a URL, by the lowest address at which it speaks.
+// The verdict on an entry of the feed of a URL, by the lowest address at which it speaks. The
+// speaker there is looked for first where that of the last entry was found.
 fn entry_verdict(
     sources: &Sources,
     url: &str,
     entry: &Entry,
     first: Option<u128>,
+    near: &mut Near,
 ) -> Result<Verdict, Memory>
     requires { first ≡ first_heard sources.now url.now entry.now.line }
     ensures { IfOk result (λ v. v ≡ entry_verdict sources.now url.now entry.now) }
 {
-    let cover = sources.covering(entry.block, url);
-    let speaker = speaker_there(sources, first);
+    let speaker = speaker_there(sources, first, near);
     Ok(Verdict {
         line: entry.line,
-        ruling: ruling(cover, speaker)?,
+        ruling: ruling(sources, url, entry.block, speaker)?,
     })
 }
 
-fn speaker_there(sources: &Sources, at: Option<u128>) -> Option<&Reference>
-    ensures { option_copied result ≡ speaker_there sources.now at }
+fn speaker_there<'a>(
+    sources: &'a Sources,
+    at: Option<u128>,
+    near: &mut Near,
+) -> Option<&'a Reference>
+    ensures { option_copied result ≡ speaker_there sources.entry.now at }
 {
-    sources.why_at(Addr(at?)).speaker
+    sources.why_speaker(Addr(at?), near)
 }
 
-fn ruling(cover: Option<&Reference>, speaker: Option<&Reference>) -> Result<Ruling, Memory>
-    ensures { IfOk result
-        (λ r. r ≡ ruling (option_copied cover.entry) (option_copied speaker.entry)) }
+// The ruling on an entry with this block. The first reference that covers it is asked for only
+// where it is named: many may cover it.
+fn ruling(
+    sources: &Sources,
+    url: &str,
+    block: Block,
+    speaker: Option<&Reference>,
+) -> Result<Ruling, Memory>
+    ensures { IfOk result (λ r. r
+        ≡ ruling (covering (references sources.now) url.now block) (option_copied speaker.entry)) }
 {
-    let Some(cover) = cover else {
+    if !sources.covers(block, url) {
         return Ok(Ruling::Uncovered);
-    };
-    match speaker {
-        Some(speaker) => Ok(Ruling::Speaks {
+    }
+    if let Some(speaker) = speaker {
+        return Ok(Ruling::Speaks {
             slot: speaker.slot.copied()?,
             object: speaker.line,
-        }),
-        None => Ok(Ruling::Shadowed {
+        });
+    }
+    match sources.covering(block, url) {
+        Some(cover) => Ok(Ruling::Shadowed {
             slot: cover.slot.copied()?,
             object: cover.line,
         }),
+        None => Ok(Ruling::Uncovered),
     }
 }

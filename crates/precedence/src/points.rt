@@ -1,13 +1,18 @@
-//! The cut points of several feeds.
-ghost use Rattle.std.specs.Prelude.{◌<◌, ◌++◌, List, All, length, map, flat_map};
+//! The cut points of feeds.
+ghost use Rattle.std.specs.Prelude.{◌<◌, ◌++◌, List, All, find, length, map, flat_map};
 ghost use Rattle.std.specs.Prelude.{OnOk};
 ghost use Rattle.std.specs.List.{AllAdjacentBelow};
 ghost use Rattle.geo_addr.specs.Ranges.{Ends, IsRange, range_of_block};
+ghost use Rattle.authority.specs.Held.{url_of};
+ghost use Rattle.geo_terms.specs.PlaceForm.{same_text};
+ghost use Rattle.geo_terms.specs.SlotOrder.{AreInOrder};
+ghost use Rattle.geo_terms.specs.Sources.{entries_in};
 ghost use Rattle.cut_segments.specs.CutPoints.{AreCutsInside};
 
 use authority::ReadyFeed;
 use cut_segments::push_inside;
 use geo_addr::{Memory, Range};
+use source_changes::shelf;
 
 /// Appends the cut points of the entries of these feeds that lie inside one of ascending ranges.
 pub fn push_feeds_inside(
@@ -22,6 +27,28 @@ pub fn push_feeds_inside(
         (flat_map (λ f. f.entries) feeds.now)) bounds.now cuts.new.items) }
 {
     for feed in feeds {
+        push_inside(cuts, feed.cuts(), bounds)?;
+    }
+    Ok(())
+}
+
+/// Appends the cut points of the entries of the feed of a URL that lie inside one of ascending
+/// ranges.
+pub fn push_feed_inside(
+    cuts: &mut Vec<u128>,
+    feeds: &[ReadyFeed],
+    url: &str,
+    bounds: &[Range],
+) -> Result<(), Memory>
+    requires order { AreInOrder url_of feeds.now }
+    requires ranges { All IsRange bounds.now }
+    requires apart { AllAdjacentBelow (λ r t. r.last < t.first) bounds.now (length bounds.now) }
+    ensures { OnOk result ((before : List Ends) → AreCutsInside before bounds.now cuts.old.items
+        → AreCutsInside (before ++ map (λ e. range_of_block e.block)
+        (entries_in (find (λ f. same_text f.url url.now) feeds.now)))
+        bounds.now cuts.new.items) }
+{
+    if let Some(feed) = shelf::get(feeds, url) {
         push_inside(cuts, feed.cuts(), bounds)?;
     }
     Ok(())

@@ -7,11 +7,11 @@ use crate::aliases::{push_dump_aliases, push_feed_aliases, push_file_aliases};
 use crate::near::Near;
 use crate::notes::{push_dump_notes, push_feed_notes, push_file_notes};
 use crate::overriding::Overriding;
-use crate::points::push_feeds_inside;
+use crate::points::{push_feed_inside, push_feeds_inside};
 use crate::statistics::Statistics;
 use crate::why::Why;
 use authority::{Authority, DropFault, ReadyFeed};
-use cut_segments::{push_inside, segments_between, whole};
+use cut_segments::{cut_points, push_inside, segments_between, whole};
 use geo_addr::{Addr, Block, Memory, Range};
 use geo_terms::{
     Delegation, Dump, Entry, Feed, Note, Override, Overrides, Place, Reference, Said, Stats, home,
@@ -49,20 +49,20 @@ impl Model for Sources {
 
 impl Sources {
     ghost use Rattle.std.specs.Prelude.{◌≡◌, ◌↔◌, ◌∷◌, ◌++◌, ◌<◌, ℕ, List, Some, None, length, map};
-    ghost use Rattle.std.specs.Prelude.{find, option_map, All, Any, IfOk, IfErr, IsTrue, OnOk};
-    ghost use Rattle.std.specs.Prelude.{OnErr};
+    ghost use Rattle.std.specs.Prelude.{find, is_some, option_map, All, Any, IfOk, IfErr, IsTrue};
+    ghost use Rattle.std.specs.Prelude.{OnOk, OnErr};
     ghost use Rattle.std.specs.Arc.{arc_value};
     ghost use Rattle.std.specs.List.{AllAdjacentBelow};
     ghost use Rattle.std.specs.List.Sorted.{IsStrictlyIncreasing};
     ghost use Rattle.std.specs.Option.{option_copied};
-    ghost use Rattle.geo_addr.specs.Ranges.{AreCuts, IsRange, IsWithin};
+    ghost use Rattle.geo_addr.specs.Ranges.{AreCuts, IsRange, IsWithin, range_of_block};
     ghost use Rattle.authority.specs.Held.{slot_of, url_of};
     ghost use Rattle.geo_terms.specs.Covering.{covering};
     ghost use Rattle.geo_terms.specs.Cuts.{statement_ranges};
     ghost use Rattle.geo_terms.specs.Precedence.{first_delegation, first_override, reasons_at};
     ghost use Rattle.geo_terms.specs.Precedence.{record_at, speaker, speaking_entry, spoken_at};
     ghost use Rattle.geo_terms.specs.Report.{alias_notes, reader_notes, report};
-    ghost use Rattle.geo_terms.specs.Sources.{feed_of, no_sources, references};
+    ghost use Rattle.geo_terms.specs.Sources.{entries_in, feed_of, no_sources, references};
     ghost use Rattle.geo_terms.specs.SlotOrder.{AreInOrder};
     ghost use Rattle.source_changes.specs.Changes.{DropDump, DropFeed, DropOverrides, DropStats};
     ghost use Rattle.source_changes.specs.Changes.{SetDump, SetFeed, SetOverrides, SetStats};
@@ -206,6 +206,13 @@ impl Sources {
         self.statistics.make_ready()
     }
 
+    /// Makes that alone ready in which speakers and their entries are looked up.
+    pub fn make_speakers_ready(&mut self) -> Result<(), Memory>
+        ensures { self.new ≡ self.old }
+    {
+        self.authority.make_ready()
+    }
+
     /// The dumps in force, ascending by the bytes of their slots.
     pub fn dumps(&self) -> &[Arc<Dump>]
         ensures dumps { map arc_value result.now ≡ self.now.dumps }
@@ -242,6 +249,14 @@ impl Sources {
         ensures { option_copied result ≡ covering (references self.now) url.now block }
     {
         self.authority.covering(block, url)
+    }
+
+    /// Whether a reference of this URL is of the block's family and contains the block:
+    /// by one halving.
+    pub fn covers(&self, block: Block, url: &str) -> bool
+        ensures { result ≡ is_some (covering (references self.now) url.now block) }
+    {
+        self.authority.covers(block, url)
     }
 
     /// The statistics files in force, ascending by the bytes of their slots.
@@ -363,6 +378,24 @@ impl Sources {
         }
     }
 
+    /// The speaker that `why_at` gives, alone. It is looked for first where the last one was found,
+    /// which spares a halving where addresses ascend.
+    #[tactic(auto, unfolding(geo_terms::specs::Precedence::speaker))]
+    pub fn why_speaker(&self, at: Addr, near: &mut Near) -> Option<&Reference>
+        ensures { option_copied result ≡ (reasons_at self.now at.0).speaker }
+    {
+        self.authority
+            .speaker_near(home(at), &mut near.entry.speaker)
+    }
+
+    /// The entry that `why_at` gives, alone. The speaker, its feed and the entry are looked for
+    /// first where the last ones were found, which spares three halvings where addresses ascend.
+    pub fn why_entry(&self, at: Addr, near: &mut Near) -> Option<&Entry>
+        ensures { option_copied result ≡ (reasons_at self.now at.0).entry }
+    {
+        self.entry_near(home(at), near)
+    }
+
     /// The record of a segment: that of its first address, which all of it has where no cut point
     /// lies above that address.
     pub fn choice(&self, segment: Range) -> Option<&Place>
@@ -403,6 +436,29 @@ impl Sources {
     {
         let Range { first, last } = within;
         let points = self.points_in(&[Range { first, last }])?;
+        Ok(points)
+    }
+
+    /// The points at which the speaker or an entry of the feed of this URL cuts the address space,
+    /// or one of some more ranges: ascending, each once.
+    ///
+    /// Sources keep their cut points in order, so these are only joined.
+    pub fn hearing_cuts(&self, url: &str, more: &[Range]) -> Result<Vec<u128>, Memory>
+        ensures exact { IfOk result (λ points. AreCuts (map (λ r. r.range) (references self.now)
+            ++ (map (λ e. range_of_block e.block) (entries_in (feed_of self.now url.now))
+            ++ more.now)) whole points.items) }
+        ensures ascending { IfOk result (λ points. IsStrictlyIncreasing points.items) }
+    {
+        let speakers = self.authority.speakers()?;
+        let more = cut_points(self.alloc, more)?;
+        let bounds = [whole()];
+        let mut points = Vec::with_capacity(self.alloc, speakers.cuts.len())?;
+        push_inside(&mut points, speakers.cuts.as_slice(), &bounds)?;
+        push_feed_inside(&mut points, self.authority.feeds(), url, &bounds)?;
+        push_inside(&mut points, more.as_slice(), &bounds)?;
+        // A merge: each list that was appended ascends.
+        points.sort()?;
+        points.dedup();
         Ok(points)
     }
 

@@ -11,7 +11,8 @@ use Rattle.geo_addr.specs.Bits.{bits_of}
 use Rattle.geo_addr.specs.Ranges.{Ends}
 use Rattle.geo_terms.specs.Numbers.{place_at, same_place}
 use Rattle.geo_terms.specs.PlaceForm.{PlaceParts}
-use Rattle.geo_terms.specs.Precedence.{record_at}
+use Rattle.geo_terms.specs.Precedence.{record_at, text_cmp}
+use Rattle.geo_terms.specs.SlotOrder.{AreInOrder}
 use Rattle.geo_terms.specs.Sources.{InForce}
 use Rattle.trie_core.specs.declared.node.Pair.{Pair}
 use Rattle.trie_core.specs.declared.node.Root.{Root}
@@ -101,6 +102,26 @@ with_roots-step now ms rs i d r is low low' =
     subst (λ (xs : List Mark). slice_set xs i (record (get_or xs i d) { root = get_or rs i r })
     ≡ with_roots ms (take (i + 1) rs)) (sym is)
     (with_roots-more ms rs i d r low low' ∙ ap (λ n. with_roots ms (take n rs)) (sym (add-one i)))
+
+-- the same marks by their names, so in the same order
+with_roots-length : (ms : List Mark) (rs : List Root) → length (with_roots ms rs) ≡ length ms
+with_roots-length [] rs = refl
+with_roots-length (m ∷ ms) [] = refl
+with_roots-length (m ∷ ms) (r ∷ rs) = ap suc (with_roots-length ms rs)
+
+with_roots-name : (ms : List Mark) (rs : List Root) (i : ℕ) (d : Mark)
+    → (get_or (with_roots ms rs) i d).name ≡ (get_or ms i d).name
+with_roots-name [] rs i d = refl
+with_roots-name (m ∷ ms) [] i d = refl
+with_roots-name (m ∷ ms) (r ∷ rs) zero d = refl
+with_roots-name (m ∷ ms) (r ∷ rs) (suc i) d = with_roots-name ms rs i d
+
+with_roots-order : (ms : List Mark) (rs : List Root) → AreInOrder (λ (m : Mark). m.name) ms
+    → AreInOrder (λ (m : Mark). m.name) (with_roots ms rs)
+with_roots-order ms rs up i j d lt below =
+    let long = with_roots-length ms rs in
+    ap₂ text_cmp (with_roots-name ms rs i d) (with_roots-name ms rs j d)
+    ∙ up i j d lt (omega (arith, below))
 
 abbrev pub roots_of : List Mark → List Root
 roots_of ms = map (λ m. m.root) ms
@@ -298,4 +319,7 @@ IsSession-compacted s pairs pairs' places root root' touched marks marks' others
       marks =
           subst (AreBased pairs' places) (sym is)
           (AreBased-moved pairs pairs' places marks others split.trees split.all_of h.marks);
+      order =
+          subst (AreInOrder (λ (m : Mark). m.name)) (sym is)
+          (with_roots-order marks others h.order);
     }

@@ -9,6 +9,7 @@ use Rattle.geo_terms.specs.Alias.{home, is_alias}
 use Rattle.geo_terms.specs.PlaceForm.{PlaceParts}
 use Rattle.geo_terms.specs.Precedence.{record_at, spoken_at, first_override, speaking_entry}
 use Rattle.geo_terms.specs.Precedence.{speaker, first_delegation}
+use Rattle.geo_terms.specs.SlotOrder.{AreInOrder}
 use Rattle.geo_terms.specs.Sources.{InForce, no_sources}
 use Rattle.source_changes.specs.Changes.{Change, after, changes}
 use Rattle.source_changes.specs.Keeping.{AreSources, IsSound}
@@ -82,6 +83,7 @@ pub IsSession-grown : (s : InForce) (pairs pairs' : List Pair) (places places' :
 IsSession-grown s pairs pairs' places places' root touched marks m n grown grown' h = record {
   now = IsBased-grown s pairs pairs' places places' root touched m n grown grown' h.now;
   marks = AreBased-grown pairs pairs' places places' m n grown grown' marks h.marks;
+  order = h.order;
 }
 
 -- and is one after an emit
@@ -106,6 +108,7 @@ IsSession-emitted s pairs pairs' places places' old root touched touched' marks 
           subst (λ (rs : List Ends). IsBased s pairs' places' root rs) (sym quiet)
           (IsBased-emitted s pairs' places' root h.now.sources of answers);
       marks = AreBased-grown pairs pairs' places places' m n grown grown' marks h.marks;
+      order = h.order;
     }
 
 -- it is one from the start
@@ -132,6 +135,9 @@ AnswersAll-none pairs places root empty a below = record {
   place = sym (no_record a);
 }
 
+none_in_order : AreInOrder (λ (m : Mark). m.name) []
+none_in_order = λ i j d lt below. absurd (omega (arith, below))
+
 pub IsSession-begun : (s : InForce) (pairs : List Pair) (places : List PlaceParts) (root : Root)
     (touched : List Ends) (marks : List Mark)
     → s ≡ no_sources → touched ≡ [] → marks ≡ [] → IsRootOf pairs root → tree_of pairs root ≡ leaf 0
@@ -143,6 +149,7 @@ IsSession-begun s pairs places root touched marks none quiet unmarked of empty =
       (IsBased-emitted no_sources pairs places root AreSources-none of
       (AnswersAll-none pairs places root empty)));
   marks = subst (AreBased pairs places) (sym unmarked) tt;
+  order = subst (AreInOrder (λ (m : Mark). m.name)) (sym unmarked) none_in_order;
 }
 
 -- and after a call that sets or drops a source
@@ -167,6 +174,7 @@ IsSession-changed stay keep s s' c pairs places root touched touched' more marks
             };
           }));
       marks = h.marks;
+      order = h.order;
     }
 
 pub HasChanged-made : (c : Change) (old : Held) (s : InForce) (touched more : List Ends)

@@ -1,138 +1,48 @@
--- Lists in which each name stands once, and what holds of marks.
-use Rattle.std.proofs.Common.{◌≡◌, ℕ, suc, ◌+◌, ◌<◌, ◌≤◌, Bool, true, false, cond, not, nat_lt}
-use Rattle.std.proofs.Common.{List, [], ◌∷◌, ◌++◌, length, map, Option, None, Some, refl, sym, ap}
-use Rattle.std.proofs.Common.{ap₂, ◌∙◌, subst, arith}
-use Rattle.std.specs.Prelude.{slice_get, slice_set}
-use Rattle.std.specs.Cmp.Lexicographic.{bytes_decides}
-use Rattle.std.specs.List.{AllByRecursion, AllZip, position, position_or_len}
-use Rattle.std.proofs.lemmas.Bool.Decides.{nat_tests}
+-- Marks in the order of their names, and what holds of marks.
+use Rattle.std.proofs.Common.{◌≡◌, ℕ, true, false, cond, Less, Equal, Greater, Ordering, List}
+use Rattle.std.proofs.Common.{[], ◌∷◌, map, Option, None, Some, refl, sym, ap, ap₂, ◌∙◌, subst}
+use Rattle.std.specs.Cmp.Lexicographic.{bytes_decides, texts_ties}
+use Rattle.std.specs.List.{AllByRecursion, AllZip}
+use Rattle.std.specs.Ordering.{is_eq, match_ordering, ordering_reverse}
+use Rattle.std.proofs.lemmas.Cmp.{nat_list_cmp_total}
 use Rattle.geo_terms.specs.PlaceForm.{same_text}
+use Rattle.geo_terms.specs.Precedence.{text_cmp}
+use Rattle.geo_terms.specs.SlotOrder.{placed}
 use Rattle.source_changes.specs.Changes.{named}
-use Rattle.update_session.specs.Marks.{with_one}
-
--- an index that is found is one of the list, and the first that does
-found_at : {X : Type 0} (p : X → Bool) (xs : List X) (i : ℕ) → position p xs ≡ Some i
-    → (i ≡ position_or_len p xs) × (i < length xs)
-found_at p xs i found = by (nat_lt (position_or_len p xs) (length xs)) refl found
-  where
-    by : (b : Bool) → nat_lt (position_or_len p xs) (length xs) ≡ b
-        → cond b (Some (position_or_len p xs)) None ≡ Some i
-        → (i ≡ position_or_len p xs) × (i < length xs)
-    by true is e =
-        let same : position_or_len p xs ≡ i = cc in
-        let below : position_or_len p xs < length xs = grind (arith, nat_tests) in
-        (sym same, omega arith)
-    by false is e = absurd (let this : None ≡ Some i = e in cc)
-
-found_none : {X : Type 0} (p : X → Bool) (xs : List X) → position p xs ≡ None
-    → length xs ≤ position_or_len p xs
-found_none p xs none = by (nat_lt (position_or_len p xs) (length xs)) refl none
-  where
-    by : (b : Bool) → nat_lt (position_or_len p xs) (length xs) ≡ b
-        → cond b (Some (position_or_len p xs)) None ≡ None → length xs ≤ position_or_len p xs
-    by true is e = absurd (let this : Some (position_or_len p xs) ≡ None = e in cc)
-    by false is e = grind (arith, nat_tests)
 
 -- a text is the same as itself
 own_text : (t : List ℕ) → same_text t t ≡ true
 own_text t = (bytes_decides t t).1 refl
 
+-- a text that comes after another is not the same
+other_text : (t u : List ℕ) → text_cmp t u ≡ Ordering.Greater → same_text u t ≡ false
+other_text t u e =
+    texts_ties u t ∙ ap is_eq (nat_list_cmp_total.antisymm u t ∙ ap ordering_reverse e)
+
 module _ {X : Type 0} (name : X → List ℕ) where
-  -- where the one of a name stands
-  abbrev at : List ℕ → List X → ℕ
-  at n xs = position_or_len (λ y. same_text (name y) n) xs
-
-  one_more : (n : ℕ) → 1 + n ≡ suc n
-  one_more n = omega arith
-
-  -- the list with one more, by the index where its name stands
-  with_one-there : (x : X) (xs : List X) → at (name x) xs < length xs
-      → with_one name x xs ≡ slice_set xs (at (name x) xs) x
-  with_one-there x [] below = absurd (omega (arith, below))
-  with_one-there x (y ∷ ys) below =
-      elim (same_text (name y) (name x))
-      as (λ b. cond (not b) (1 + at (name x) ys) 0 < suc (length ys) → cond b (x ∷ ys)
-      (y ∷ with_one name x ys) ≡ slice_set (y ∷ ys) (cond (not b) (1 + at (name x) ys) 0) x) [
-        | true ↦ λ low. refl
-        | false ↦ λ low.
-            subst (λ n. y ∷ with_one name x ys ≡ slice_set (y ∷ ys) n x)
-            (sym (one_more (at (name x) ys)))
-            (ap (λ zs. y ∷ zs) (with_one-there x ys (omega (arith, low))))
-      ] below
-
-  with_one-new : (x : X) (xs : List X) → length xs ≤ at (name x) xs
-      → with_one name x xs ≡ xs ++ x ∷ []
-  with_one-new x [] none = refl
-  with_one-new x (y ∷ ys) none =
-      elim (same_text (name y) (name x)) as (λ b. suc (length ys) ≤ cond (not b)
-      (1 + at (name x) ys) 0 → cond b (x ∷ ys) (y ∷ with_one name x ys) ≡ y ∷ (ys ++ x ∷ [])) [
-        | true ↦ λ low. absurd (omega (arith, low))
-        | false ↦ λ low. ap (λ zs. y ∷ zs) (with_one-new x ys (omega (arith, low)))
-      ] none
-
-  pub put_there : (x : X) (xs : List X) (i : ℕ)
-      → position (λ y. same_text (name y) (name x)) xs ≡ Some i
-      → with_one name x xs ≡ slice_set xs i x
-  put_there x xs i found =
-      let is = found_at (λ y. same_text (name y) (name x)) xs i found in
-      with_one-there x xs (omega (arith, is.0, is.1)) ∙ ap (λ n. slice_set xs n x) (sym is.0)
-
-  pub put_last : (x : X) (xs : List X) → position (λ y. same_text (name y) (name x)) xs ≡ None
-      → with_one name x xs ≡ xs ++ x ∷ []
-  put_last x xs none = with_one-new x xs (found_none (λ y. same_text (name y) (name x)) xs none)
-
-  -- the one of a name, by its index
-  named-there : (n : List ℕ) (xs : List X) → at n xs < length xs
-      → named name n xs ≡ slice_get xs (at n xs)
-  named-there n [] below = absurd (omega (arith, below))
-  named-there n (y ∷ ys) below =
-      elim (same_text (name y) n) as (λ b. cond (not b) (1 + at n ys) 0 < suc (length ys)
-      → cond b (Some y) (named name n ys) ≡ slice_get (y ∷ ys) (cond (not b) (1 + at n ys) 0)) [
-        | true ↦ λ low. refl
-        | false ↦ λ low. named-there n ys (omega (arith, low))
-            ∙ ap (slice_get (y ∷ ys)) (sym (one_more (at n ys)))
-      ] below
-
-  named-none : (n : List ℕ) (xs : List X) → length xs ≤ at n xs → named name n xs ≡ None
-  named-none n [] none = refl
-  named-none n (y ∷ ys) none =
-      elim (same_text (name y) n) as (λ b. suc (length ys) ≤ cond (not b) (1 + at n ys) 0
-      → cond b (Some y) (named name n ys) ≡ None) [
-        | true ↦ λ low. absurd (omega (arith, low))
-        | false ↦ λ low. named-none n ys (omega (arith, low))
-      ] none
-
-  pub found_named : (n : List ℕ) (xs : List X) (i : ℕ)
-      → position (λ y. same_text (name y) n) xs ≡ Some i
-      → (i < length xs) × (named name n xs ≡ slice_get xs i)
-  found_named n xs i found =
-      let is = found_at (λ y. same_text (name y) n) xs i found in
-      (is.1, named-there n xs (omega (arith, is.0, is.1)) ∙ ap (slice_get xs) (sym is.0))
-
-  pub absent_named : (n : List ℕ) (xs : List X) → position (λ y. same_text (name y) n) xs ≡ None
-      → named name n xs ≡ None
-  absent_named n xs none = named-none n xs (found_none (λ y. same_text (name y) n) xs none)
-
   -- the one that came is found by its name
-  pub named-with_one : (x : X) (xs : List X) → named name (name x) (with_one name x xs) ≡ Some x
-  named-with_one x [] = ap (λ b. cond b (Some x) None) (own_text (name x))
-  named-with_one x (y ∷ ys) =
-      elim (same_text (name y) (name x)) as (λ b. same_text (name y) (name x) ≡ b
-      → named name (name x) (cond b (x ∷ ys) (y ∷ with_one name x ys)) ≡ Some x) [
-        | true ↦ λ e. ap (λ b. cond b (Some x) (named name (name x) ys)) (own_text (name x))
-        | false ↦ λ e. ap (λ b. cond b (Some y) (named name (name x) (with_one name x ys))) e
-            ∙ named-with_one x ys
+  pub named-placed : (x : X) (xs : List X) → named name (name x) (placed name x xs) ≡ Some x
+  named-placed x [] = ap (λ b. cond b (Some x) None) (own_text (name x))
+  named-placed x (y ∷ ys) =
+      elim (text_cmp (name x) (name y)) as (λ o. text_cmp (name x) (name y) ≡ o
+      → named name (name x) (match_ordering o (x ∷ y ∷ ys) (x ∷ ys) (y ∷ placed name x ys))
+      ≡ Some x) [
+        | Less ↦ λ e. ap (λ b. cond b (Some x) (named name (name x) (y ∷ ys))) (own_text (name x))
+        | Equal ↦ λ e. ap (λ b. cond b (Some x) (named name (name x) ys)) (own_text (name x))
+        | Greater ↦ λ e. ap (λ b. cond b (Some y) (named name (name x) (placed name x ys)))
+            (other_text (name x) (name y) e) ∙ named-placed x ys
       ] refl
 
   -- what holds of each and of one more holds of each of the list with it
-  pub all_with_one : (P : X → Type 0) (x : X) (xs : List X) → P x → AllByRecursion P xs
-      → AllByRecursion P (with_one name x xs)
-  all_with_one P x [] one all = (one, tt)
-  all_with_one P x (y ∷ ys) one all =
-      elim (same_text (name y) (name x))
-      as (λ b. AllByRecursion P (cond b (x ∷ ys) (y ∷ with_one name x ys))) [
-        | true ↦ (one, all.1)
-        | false ↦ (all.0, all_with_one P x ys one all.1)
+  pub all_placed : (P : X → Type 0) (x : X) (xs : List X) → P x → AllByRecursion P xs
+      → AllByRecursion P (placed name x xs)
+  all_placed P x [] one all = (one, tt)
+  all_placed P x (y ∷ ys) one all =
+      elim (text_cmp (name x) (name y))
+      as (λ o. AllByRecursion P (match_ordering o (x ∷ y ∷ ys) (x ∷ ys) (y ∷ placed name x ys))) [
+        | Less ↦ (one, all)
+        | Equal ↦ (one, all.1)
+        | Greater ↦ (all.0, all_placed P x ys one all.1)
       ]
 
 -- what holds of each holds of the one of a name
@@ -148,19 +58,22 @@ all_named name P n (y ∷ ys) x all is =
 -- two lists of the same names, one by one
 module _ {X Y : Type 0} (name : X → List ℕ) (name' : Y → List ℕ) (R : X → Y → Type 0)
     (same : (x : X) (y : Y) → R x y → name' y ≡ name x) where
-  pub zip_with_one : (x : X) (y : Y) (xs : List X) (ys : List Y) → R x y → AllZip R xs ys
-      → AllZip R (with_one name x xs) (with_one name' y ys)
-  zip_with_one x y [] [] one all = (one, tt)
-  zip_with_one x y [] (v ∷ vs) one all = absurd all
-  zip_with_one x y (u ∷ us) [] one all = absurd all
-  zip_with_one x y (u ∷ us) (v ∷ vs) one all =
-      subst (λ b. AllZip R (cond (same_text (name u) (name x)) (x ∷ us) (u ∷ with_one name x us))
-      (cond b (y ∷ vs) (v ∷ with_one name' y vs)))
-      (sym (ap₂ same_text (same u v all.0) (same x y one)))
-      (elim (same_text (name u) (name x)) as (λ b. AllZip R
-      (cond b (x ∷ us) (u ∷ with_one name x us)) (cond b (y ∷ vs) (v ∷ with_one name' y vs))) [
-        | true ↦ (one, all.1)
-        | false ↦ (all.0, zip_with_one x y us vs one all.1)
+  pub zip_placed : (x : X) (y : Y) (xs : List X) (ys : List Y) → R x y → AllZip R xs ys
+      → AllZip R (placed name x xs) (placed name' y ys)
+  zip_placed x y [] [] one all = (one, tt)
+  zip_placed x y [] (v ∷ vs) one all = absurd all
+  zip_placed x y (u ∷ us) [] one all = absurd all
+  zip_placed x y (u ∷ us) (v ∷ vs) one all =
+      subst (λ o. AllZip R (match_ordering (text_cmp (name x) (name u))
+      (x ∷ u ∷ us) (x ∷ us) (u ∷ placed name x us))
+      (match_ordering o (y ∷ v ∷ vs) (y ∷ vs) (v ∷ placed name' y vs)))
+      (sym (ap₂ text_cmp (same x y one) (same u v all.0)))
+      (elim (text_cmp (name x) (name u)) as (λ o. AllZip R
+      (match_ordering o (x ∷ u ∷ us) (x ∷ us) (u ∷ placed name x us))
+      (match_ordering o (y ∷ v ∷ vs) (y ∷ vs) (v ∷ placed name' y vs))) [
+        | Less ↦ (one, all)
+        | Equal ↦ (one, all.1)
+        | Greater ↦ (all.0, zip_placed x y us vs one all.1)
       ])
 
   -- the ones of a name are related, or there are none

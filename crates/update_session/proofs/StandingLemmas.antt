@@ -7,6 +7,7 @@ use Rattle.std.specs.List.Sorted.{IsPermutation}
 use Rattle.std.proofs.lemmas.List.Sorted.{IsPermutation-append, IsPermutation-refl}
 use Rattle.geo_addr.specs.Ranges.{Ends}
 use Rattle.geo_terms.specs.PlaceForm.{PlaceParts}
+use Rattle.geo_terms.specs.SlotOrder.{placed}
 use Rattle.geo_terms.specs.Sources.{InForce}
 use Rattle.source_changes.specs.Changes.{Change, after, changes, named}
 use Rattle.source_changes.specs.Laws.{OrderDoesNotMatter}
@@ -16,7 +17,6 @@ use Rattle.update_session.specs.declared.marks.Mark.{Mark}
 use Rattle.update_session.specs.Calls.{HasChanged, HasCompacted, HasEmitted, HasGoneBack, HasGrown}
 use Rattle.update_session.specs.Calls.{HasMarked, HasStayed, IsAsBefore, IsNew, IsSpent, mark_of}
 use Rattle.update_session.specs.Kept.{Held, RootMeans, gone_back, GrowsBy as PlacesGrowBy}
-use Rattle.update_session.specs.Marks.{with_one}
 use Rattle.update_session.specs.Standing.{IsMark, Standing, StandingMark, Stands, StandingStays}
 use Rattle.update_session.specs.Standing.{BackAsMarked, at_mark, begun_standing, changed}
 use Rattle.update_session.specs.Standing.{compact_count, compacted, emitted, mark_named, marked}
@@ -24,8 +24,8 @@ use Rattle.update_session.specs.Standing.{refused, emit_cost, emit_places, went_
 use Rattle.update_session.specs.State.{State}
 use Rattle.update_session.specs.Touch.{bound, few_places}
 use Rattle.update_session.proofs.KeptLemmas.{RootMeans-grown, grown_by_none, length-grown_by}
-use Rattle.update_session.proofs.MarkLemmas.{AreRelated, named-with_one, zip_joined, zip_named}
-use Rattle.update_session.proofs.MarkLemmas.{zip_weaker, zip_with_one}
+use Rattle.update_session.proofs.MarkLemmas.{AreRelated, named-placed, zip_joined, zip_named}
+use Rattle.update_session.proofs.MarkLemmas.{zip_weaker, zip_placed}
 use Rattle.update_session.proofs.TouchLemmas.{bound-moved, few_places-moved}
 
 begins : (epoch : ℕ) (name : List ℕ) (session : Held) → IsNew epoch name session
@@ -93,7 +93,7 @@ marks_stand name old new w stands is =
     subst (λ (h : Held). Stands h (marked name w)) (sym is) stands_now
   where
     now : Held
-    now = record old { marks = with_one (λ m. m.name) (mark_of name old) old.marks }
+    now = record old { marks = placed (λ m. m.name) (mark_of name old) old.marks }
 
     stayed : AllZip (IsMark now) w.marks old.marks
     stayed =
@@ -121,7 +121,7 @@ marks_stand name old new w stands is =
       root = record { of = stands.root.of; answers = stands.root.answers };
       nodes = stands.nodes;
       places = stands.places;
-      marks = zip_with_one (λ m. m.name) (λ m. m.name) (IsMark now) (λ x k h. h.name) (record {
+      marks = zip_placed (λ m. m.name) (λ m. m.name) (IsMark now) (λ x k h. h.name) (record {
         name = name;
         sources = w.state.sources;
         base = w.base;
@@ -191,7 +191,7 @@ back_as_marked name w v same =
     let mark : StandingMark =
     record { name = name; sources = w.state.sources; base = w.base; pending = w.pending } in
     let found : mark_named name v ≡ Some mark =
-    same ∙ named-with_one (λ m. m.name) mark w.marks in (
+    same ∙ named-placed (λ m. m.name) mark w.marks in (
       ap (λ (x : Option StandingMark). (at_mark x v).state.sources) found,
       ap (λ (x : Option StandingMark). (at_mark x v).base) found,
       ap (λ (x : Option StandingMark). (at_mark x v).pending) found,

@@ -3,11 +3,11 @@ use Rattle.std.specs.Prelude.{◌≡◌, ℕ, ◌+◌, ◌-◌, ◌^◌, ◌≤�
 use Rattle.std.specs.List.{AllZip}
 use Rattle.std.specs.List.Sorted.{IsPermutation}
 use Rattle.geo_addr.specs.Ranges.{Ends}
+use Rattle.geo_terms.specs.SlotOrder.{placed}
 use Rattle.geo_terms.specs.Sources.{InForce, no_sources}
 use Rattle.source_changes.specs.Changes.{Change, after, changes, named}
 use Rattle.trie_core.specs.Store.{GrowsBy}
 use Rattle.update_session.specs.Kept.{Held, RootMeans, gone_back, GrowsBy as PlacesGrowBy}
-use Rattle.update_session.specs.Marks.{with_one}
 use Rattle.update_session.specs.declared.marks.Mark.{Mark}
 use Rattle.update_session.specs.State.{begun, nodes_under}
 use Rattle.update_session.specs.Touch.{bound, few_places}
@@ -67,11 +67,11 @@ mark_of name session = record {
   touched = session.touched;
 }
 
--- after a call that marks the session: the mark has come, instead of the one with its name,
--- and nothing else has changed
+-- after a call that marks the session: the mark has come, instead of the one with its name or where
+-- it belongs in the order of names, and nothing else has changed
 abbrev pub HasMarked : (name : List ℕ) (old new : Held) → Type 0
 HasMarked name old new =
-    new ≡ record old { marks = with_one (λ m. m.name) (mark_of name old) old.marks }
+    new ≡ record old { marks = placed (λ m. m.name) (mark_of name old) old.marks }
 
 -- after one that goes back to a mark: sources, root and touched grounds are the mark's,
 -- and nothing else has changed

@@ -7,6 +7,7 @@ use Rattle.geo_terms.specs.Alias.{is_alias}
 use Rattle.geo_terms.specs.Numbers.{place_at}
 use Rattle.geo_terms.specs.PlaceForm.{PlaceParts}
 use Rattle.geo_terms.specs.Precedence.{record_at, spoken_at}
+use Rattle.geo_terms.specs.SlotOrder.{AreInOrder}
 use Rattle.geo_terms.specs.Sources.{InForce}
 use Rattle.source_changes.specs.Keeping.{AreSources}
 use Rattle.source_changes.specs.Laws.{IsKeptOutside}
@@ -67,11 +68,12 @@ abbrev pub IsNoted : Option (List Ends) → List Ends → Type 0
 IsNoted None touched = ⊤
 IsNoted (Some noted) touched = noted ≡ touched
 
--- what holds of every session
+-- what holds of every session; the marks stand in the order of their names
 pub record IsSession (s : InForce) (pairs : List Pair) (places : List PlaceParts) (root : Root)
     (touched : List Ends) (kept : List Mark) : Type 0 where
   pub now : IsBased s pairs places root touched
   pub marks : AreBased pairs places kept
+  pub order : AreInOrder (λ m. m.name) kept
 
 -- the root of a session is one of its store, and answers the record of these sources
 pub record RootMeans (session : Held) (s : InForce) : Type 0 where

@@ -4,12 +4,12 @@ use Rattle.std.specs.Prelude.{map, Option, None, Some}
 use Rattle.std.specs.List.{AllZip}
 use Rattle.std.specs.List.Sorted.{IsPermutation}
 use Rattle.geo_addr.specs.Ranges.{Ends}
+use Rattle.geo_terms.specs.SlotOrder.{placed}
 use Rattle.geo_terms.specs.Sources.{InForce, no_sources}
 use Rattle.source_changes.specs.Changes.{Change, after, changes, named}
 use Rattle.update_session.specs.Calls.{HasChanged, HasCompacted, HasEmitted, HasGoneBack, HasGrown}
 use Rattle.update_session.specs.Calls.{HasMarked, IsAsBefore, IsNew, IsSpent}
 use Rattle.update_session.specs.Kept.{Held, RootMeans, gone_back}
-use Rattle.update_session.specs.Marks.{with_one}
 use Rattle.update_session.specs.declared.marks.Mark.{Mark}
 use Rattle.update_session.specs.State.{State, begun, nodes_under}
 use Rattle.update_session.specs.Touch.{bound, few_places}
@@ -79,7 +79,7 @@ mark_named name w = named (λ m. m.name) name w.marks
 -- after a call that marks what is in force
 abbrev pub marked : List ℕ → Standing → Standing
 marked name w = record w {
-  marks = with_one (λ m. m.name) (record {
+  marks = placed (λ m. m.name) (record {
     name = name;
     sources = w.state.sources;
     base = w.base;

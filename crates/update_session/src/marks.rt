@@ -1,23 +1,71 @@
 //! States of a session that were marked, to go back to.
-ghost use Rattle.std.specs.Prelude.{◌≡◌, ◌∷◌, length, map, position, slice_get, IfOk, OnOk, OnErr};
+ghost use Rattle.std.specs.Prelude.{◌≡◌, ◌∷◌, length, map, IfOk, OnOk, OnErr};
 ghost use Rattle.std.specs.Option.{option_copied};
-ghost use Rattle.geo_terms.specs.PlaceForm.{same_text};
+ghost use Rattle.geo_terms.specs.SlotOrder.{AreInOrder, placed};
 ghost use Rattle.source_changes.specs.Changes.{named};
-ghost use Rattle.update_session.specs.Marks.{with_one, with_roots};
+ghost use Rattle.update_session.specs.Marks.{with_roots};
 
 use crate::grounds::Grounds;
 use geo_addr::{Memory, Text};
 use precedence::Sources;
+use source_changes::shelf;
+use source_changes::shelf::Named;
 use std::alloc::Global;
+use std::marker::Model;
+use std::sync::Arc;
 use trie_core::Root;
 
 /// The sources, the root and the touched grounds of a session when it was marked.
 #[derive(Drop)]
 pub(crate) struct Mark {
     pub(crate) name: Text,
-    pub(crate) sources: Sources,
+    pub(crate) sources: MarkedSources,
     pub(crate) root: Root,
     pub(crate) touched: Grounds,
+}
+
+impl Named for Mark {
+    ghost name = { λ m. m.name };
+
+    fn name(&self) -> &str {
+        self.name.as_str()
+    }
+}
+
+/// Sources that were marked. They stand apart, so that marks are moved cheaply on their shelf.
+#[derive(Drop)]
+pub(crate) struct MarkedSources {
+    sources: Arc<Sources>,
+}
+
+impl Model for MarkedSources {
+    ghost use Rattle.std.specs.Arc.{arc_value};
+    ghost use Rattle.geo_terms.specs.Sources.{InForce};
+
+    ghost Value = { InForce };
+
+    ghost view = { λ m. arc_value m.sources };
+}
+
+impl MarkedSources {
+    ghost use Rattle.std.specs.Prelude.{◌≡◌, IfOk};
+
+    // These sources, shared.
+    fn of(alloc: Global, sources: &Sources) -> Result<MarkedSources, Memory>
+        ensures { IfOk result (λ marked. marked ≡ sources.now) }
+    {
+        let sources = sources.snapshot()?;
+        let sources = Arc::new(alloc, sources)?;
+        Ok(MarkedSources { sources })
+    }
+
+    /// The same sources once more, shared.
+    pub(crate) fn snapshot(&self) -> Result<Sources, Memory>
+        ensures { IfOk result (λ same. same ≡ self.now) }
+    {
+        let same = self.sources.snapshot()?;
+        Ok(same)
+    }
 }
 
 /// A mark of this name. The sources and the grounds are shared.
@@ -32,7 +80,7 @@ pub(crate) fn make_mark(
         ≡ record { name = name.now; sources = sources.now; root = root; touched = touched }) }
 {
     let name = Text::of(alloc, name)?;
-    let sources = sources.snapshot()?;
+    let sources = MarkedSources::of(alloc, sources)?;
     Ok(Mark {
         name,
         sources,
@@ -41,43 +89,23 @@ pub(crate) fn make_mark(
     })
 }
 
-// Where the mark of a name stands.
-fn index_of_mark(marks: &[Mark], name: &str) -> Option<usize>
-    ensures { result ≡ position (λ m. same_text m.name name.now) marks.now }
-{
-    marks.iter().position(|mark| mark.name.as_str() == name)
-}
-
-/// The mark of a name.
+/// The mark of a name, by halving.
 pub(crate) fn find_mark<'a>(marks: &'a [Mark], name: &str) -> Option<&'a Mark>
+    requires { AreInOrder (λ m. m.name) marks.now }
     ensures { option_copied result ≡ named (λ m. m.name) name.now marks.entry.now }
 {
-    match index_of_mark(marks, name) {
-        Some(at) => mark_at(marks, at),
-        None => None,
-    }
-}
-
-fn mark_at(marks: &[Mark], at: usize) -> Option<&Mark>
-    ensures { option_copied result ≡ slice_get marks.now at }
-{
-    let mark = marks.get(at)?;
+    let mark = shelf::get(marks, name)?;
     Some(mark)
 }
 
-/// Puts a mark over the one with its name, or behind all others.
+/// Puts a mark over the one with its name, or where it belongs in the order of names.
 pub(crate) fn put_mark(marks: &mut Vec<Mark>, mark: Mark) -> Result<(), Memory>
-    ensures ok { OnOk result (marks.new.items ≡ with_one (λ m. m.name) mark marks.old.items) }
+    requires { AreInOrder (λ m. m.name) marks.old.items }
+    ensures ok { OnOk result (marks.new.items ≡ placed (λ m. m.name) mark marks.old.items) }
+    ensures order { AreInOrder (λ m. m.name) marks.new.items }
     ensures err { OnErr result (marks.new.items ≡ marks.old.items) }
 {
-    match index_of_mark(marks.as_slice(), mark.name.as_str()) {
-        Some(at) => {
-            marks[at] = mark;
-        }
-        None => {
-            marks.push(mark)?;
-        }
-    }
+    let _ = shelf::put(marks, mark)?;
     Ok(())
 }
 

@@ -1,8 +1,5 @@
 -- One point more.
-use Rattle.std.proofs.Common.{ap, ◌∙◌}
-use Rattle.geo_terms.specs.Precedence.{Reasons}
 use Rattle.check_census.specs.Sweep.{swept}
-use Rattle.check_census.specs.Verdicts.{line_for}
 use Rattle.check_census.proofs.SweepLemmas.{sweep_step}
 use Rattle.check_census.proofs.sweep.sweep.Goals as goal
 
@@ -13,6 +10,4 @@ loop-point-preserved c =
     c.heard_line-heard.result
     (swept c.args.sources.now c.args.url.now c.args.lines.now c.args.points.now)
     c.loop-point-test.true
-    (c.heard_line-heard.ensures ∙ ap
-    (λ (w : Reasons). line_for c.args.url.now w.speaker w.entry) c.why_at.ensures)
-    c.mark.ensures c.loop-point.invariant
+    c.heard_line-heard.ensures c.mark.ensures c.loop-point.invariant

@@ -26,6 +26,7 @@ invariant_of-self c =
             (subst (λ (rs : List Ends). IsBased c.in-Some.mark.now.sources c.self.inside.store
             c.self.inside.places c.in-Some.mark.now.root rs) (sym touched) based);
         marks = c.self.invariant.1.marks;
+        order = c.self.invariant.1.order;
       },
     )
 

@@ -2,7 +2,7 @@ use Rattle.std.proofs.Common.{◌∙◌, List, sym, ap, subst}
 use Rattle.geo_addr.specs.Ranges.{Ends}
 use Rattle.update_session.specs.declared.marks.Mark.{Mark}
 use Rattle.update_session.specs.Kept.{AreBased, IsBased}
-use Rattle.update_session.proofs.MarkLemmas.{all_with_one}
+use Rattle.update_session.proofs.MarkLemmas.{all_placed}
 use Rattle.update_session.proofs.session.Session.mark.Goals as goal
 
 pub invariant_of-self-2 : goal.invariant_of-self-2
@@ -24,8 +24,9 @@ invariant_of-self-2 c =
         marks =
             subst (AreBased c.self.inside.store c.self.inside.places)
             (sym c.in_ok-put_mark.ensures.ok)
-            (all_with_one (λ m. m.name)
+            (all_placed (λ m. m.name)
             (λ m. IsBased m.sources c.self.inside.store c.self.inside.places m.root m.touched)
             c.in_ok-mark.mark c.self.inside.marks.items one c.self.invariant.1.marks);
+        order = c.in_ok-put_mark.ensures.order;
       },
     )
