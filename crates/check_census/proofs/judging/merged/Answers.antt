@@ -15,9 +15,9 @@ loop-index-preserved c =
     c.loop-index.index c.count_before.result c.index-entries-index.result
     c.loop-index.verdicts.items c.push_notes.new.verdicts.items
     c.push.new.self.items _ c.split_at.result.0.now c.split_at.result.1.now
-    c.in_ok-entry_verdict.field-0
+    c.in_ok-verdict.verdict
     (read_at c.args.entries.now c.loop-index.index c.index-entries-index.result
     c.loop-index-test.true c.index-entries-index.is) c.count_before.ensures
     c.split_at.ensures.front c.split_at.ensures.back
-    c.in_ok-push_notes.ensures c.in_ok-push.ensures.items c.in_ok-entry_verdict.ensures
+    c.in_ok-push_notes.ensures c.in_ok-push.ensures.items c.in_ok-verdict.ensures
     c.loop-index.invariant
