@@ -1,16 +1,11 @@
 -- One entry more, with the notes before it.
 use Rattle.std.proofs.Common.{◌≡◌, ℕ, zero, suc, ◌+◌, ◌<◌, ◌≤◌, Bool, true, false, cond, ltb, List}
-use Rattle.std.proofs.Common.{[], ◌∷◌, ◌++◌, length, map, take, drop, get_or, Option, None, Some}
-use Rattle.std.proofs.Common.{slice_get, refl, sym, ap, ◌∙◌, arith, append_assoc}
-use Rattle.std.specs.Prelude.{is_some}
+use Rattle.std.proofs.Common.{[], ◌∷◌, ◌++◌, length, map, take, drop, get_or, Some, slice_get, refl}
+use Rattle.std.proofs.Common.{sym, ap, ◌∙◌, arith, append_assoc}
 use Rattle.geo_terms.specs.Sources.{InForce}
 use Rattle.geo_terms.specs.declared.note.LineNote.{LineNote}
 use Rattle.geo_terms.specs.declared.statement.Entry.{Entry}
-use Rattle.geo_terms.specs.declared.statement.Reference.{Reference}
 use Rattle.check_census.specs.Verdicts.{before, behind, entry_verdict, merged, note_verdict}
-use Rattle.check_census.specs.Verdicts.{ruling}
-use Rattle.check_census.specs.declared.verdict.Ruling.{Ruling}
-use Rattle.check_census.specs.declared.verdict.Ruling.TheVariants.{Speaks, Uncovered}
 use Rattle.check_census.specs.declared.verdict.Verdict.{Verdict}
 
 pub before-short : (line : ℕ) (ns : List LineNote) → length (before line ns) ≤ length ns
@@ -82,13 +77,3 @@ merged_step s url es left i count e vs more both whole earlier later v at count_
     ∙ append_assoc vs (map note_verdict (before e.line left))
     (entry_verdict s url e ∷ merged s url (drop (i + 1) es) (behind e.line left))
     ∙ ap (λ xs. vs ++ merged s url xs left) (sym (drop_at es i e at)) ∙ so_far
-
--- by whether a reference covers an entry
-pub uncovered : (o speaker : Option Reference) → false ≡ is_some o → Uncovered ≡ ruling o speaker
-uncovered None speaker none = refl
-uncovered (Some c) speaker none = absurd (let this : false ≡ true = none in cc)
-
-pub speaks : (o : Option Reference) (r : Reference) → true ≡ is_some o
-    → Speaks r.slot r.line ≡ ruling o (Some r)
-speaks None r one = absurd (let this : true ≡ false = one in cc)
-speaks (Some c) r one = refl
