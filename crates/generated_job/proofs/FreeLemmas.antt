@@ -1,8 +1,8 @@
 -- No move of the generated job is blocked: what it writes is never too large either, and there are
 -- numbers for all nodes.
-use Rattle.std.proofs.Common.{◌≡◌, ℕ, zero, suc, ◌+◌, ◌-◌, ◌*◌, ◌^◌, ◌<◌, ◌≤◌, inl, inr, Bool, true}
-use Rattle.std.proofs.Common.{false, nat_le, List, [], ◌∷◌, ◌++◌, length, map, take, refl, sym, ap}
-use Rattle.std.proofs.Common.{subst, ◌∙◌, arith, lit≤, lit<, length-append}
+use Rattle.std.proofs.Common.{◌≡◌, ℕ, zero, suc, ◌+◌, ◌-◌, ◌*◌, ◌^◌, ◌<◌, ◌≤◌, ◌⊎◌, inl, inr, Bool}
+use Rattle.std.proofs.Common.{true, false, nat_le, List, [], ◌∷◌, ◌++◌, length, map, take, refl}
+use Rattle.std.proofs.Common.{sym, ap, subst, ◌∙◌, arith, lit≤, lit<, length-append}
 use Rattle.std.proofs.Math.Nat.{mul-le-mul_right}
 use Rattle.std.proofs.lemmas.Bool.{lt-leb}
 use Rattle.std.proofs.lemmas.List.{length-map}
@@ -41,7 +41,7 @@ use Rattle.generated.specs.Feeds.{feed}
 use Rattle.generated.proofs.SizeLemmas.{feed_has, few_lines}
 use Rattle.job_run.specs.declared.stop.Cause.{Cause}
 use Rattle.job_run.specs.declared.stop.Cause.TheVariants.{TooLarge}
-use Rattle.job_run.specs.Acts.{Move, after, blocked, counts, does, looks}
+use Rattle.job_run.specs.Acts.{Move, after, blocked, counts, does, effect, looks}
 use Rattle.job_run.specs.Course.{ended, unless, course, IsAt}
 use Rattle.job_run.specs.Moves.{moves_of}
 use Rattle.job_run.specs.Sources.{change_by, dump_change, sourced}
@@ -422,10 +422,16 @@ module _ (lines : ℕ) (few : lines ≤ 1000000) (file : List ℕ) where
         );
   }
     where
+      many : (world : World) → (after move world).session.nodes ≤ k
+          → (after move world).session.numbered ≤ l
+          → (2 ^ 32 - 1 ≤ (effect move world).session.nodes)
+          ⊎ (2 ^ 32 - 1 ≤ (effect move world).session.numbered) → ⊥
+      many world made counted (inl nodes) = omega arith
+      many world made counted (inr numbers) = omega arith
+
       go : (world : World) → (after move world).session.nodes ≤ k
           → (after move world).session.numbered ≤ l → IsSpent move world → ⊥
-      go world made counted (inl nodes) = omega arith
-      go world made counted (inr numbers) = omega arith
+      go world made counted spent = many world made counted spent.many
 
   all_free : FreeFrom no_sources 0 0 0 (moves_of (gen_steps file))
   unfolding gen_steps dump_step stats_step first_step second_step

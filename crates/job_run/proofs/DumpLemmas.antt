@@ -3,12 +3,13 @@
 use Rattle.std.proofs.Common.{◌≡◌, ℕ, ◌+◌, ◌<◌, ◌≤◌, ◌⊎◌, inl, inr, Bool, true, false, cond, List}
 use Rattle.std.proofs.Common.{[], ◌++◌, length, take, drop, Option, Some, None, Ok, Err, refl, sym}
 use Rattle.std.proofs.Common.{ap, subst, ◌∙◌, arith, length-append}
-use Rattle.std.proofs.lemmas.List.{take-append-drop}
+use Rattle.std.proofs.lemmas.List.{length-take, take-append-drop}
 use Rattle.std.proofs.lemmas.Result.{MatchResult-weaker}
 use Rattle.std.specs.FinMap as map
 use Rattle.std.specs.Prelude.{IfErr, IfOk, IsSome, Result, nat_lt}
 use Rattle.std.proofs.lemmas.Bool.Decides.{nat_tests}
 use Rattle.geo_outside.specs.Files.{IsReadFrom, Told}
+use Rattle.geo_outside.specs.declared.whole.TheConstants.{PIECE}
 use Rattle.geo_outside.proofs.Reading.{AreFirst, first_all, first_more}
 use Rattle.geo_terms.specs.SourceForm.{DumpParts}
 use Rattle.geo_terms.specs.declared.source.SourceFault.{SourceFault}
@@ -21,7 +22,7 @@ use Rattle.job_run.specs.declared.stop.Cause.TheVariants.{Missing}
 use Rattle.job_run.specs.declared.stop.Stop.{Stop}
 use Rattle.job_run.specs.declared.stop.Stop.TheVariants.{Blocked, ReadFailed, PutFailed, SinkFailed}
 use Rattle.job_run.specs.declared.stop.Stop.TheVariants.{Memory}
-use Rattle.job_run.specs.Dumps.{IsDump, fault_cause, no_dump, refusal}
+use Rattle.job_run.specs.Dumps.{IsDump, IsReadNoFurther, fault_cause, no_dump, refusal}
 use Rattle.job_run.specs.Stops.{IsHindered}
 
 -- a reader was fed so many bytes, the first of the file, and found no fault in them
@@ -198,6 +199,30 @@ whole_refused slot told name reader fed n into r h none w e some read refused =
     (λ why. hindered_more why _ _ (λ cause q.
     ap (λ held. no_dump slot held) (all_read slot told name reader fed n into h none w e some read)
     ∙ (ap (λ s. refusal (dump s h.text)) (sym here) ∙ q)))
+
+-- no more was read than the bytes that a reader was fed, and one piece
+pub none_further : (slot file : List ℕ) (given given_now : ℕ) → given_now ≤ given
+    → IsReadNoFurther slot file given given_now
+none_further slot file given given_now none =
+    record { fine = 0; within = omega arith; unrefused = inl refl; read = omega (arith, none) }
+
+pub no_further : (slot : List ℕ) (told : Option Told) (name : List ℕ) (reader : Reading) (fed : ℕ)
+    → HasRead slot told name reader fed → (given given_now : ℕ) → given_now ≤ given + (fed + PIECE)
+    → (w : Told) (file : List ℕ) → told ≡ Some w → map.get w.held name ≡ Some file
+    → IsReadNoFurther slot file given given_now
+no_further slot told name reader fed h given given_now read w file e is =
+    let first : h.text ≡ take (length h.text) file =
+    subst (λ held. AreFirst held h.text) is (h.first w e) in
+    let count = h.count in
+    record {
+      fine = length h.text;
+      within = omega (arith, ap length first, length-take (length h.text) file);
+      unrefused = elim h.fine [
+        | inl none ↦ inl (sym count ∙ none)
+        | inr fine ↦ inr (ap (λ t. refusal (so_far slot t)) (sym first) ∙ fine)
+      ];
+      read = omega (arith, count, read);
+    }
 
 -- a file that is not there
 pub read_hindered : (slot : List ℕ) (held : Option (List ℕ)) (why : Stop)

@@ -55,8 +55,10 @@ module _ (stays : StandingStays) (step : Step) (world : World) (name : List ℕ)
                 })
                 | inr spent ↦ inr (record {
                   large = refl;
-                  spent =
-                      stays.same_end session world.session here.stands spent;
+                  spent = record {
+                    builds = tt;
+                    many = stays.same_end session world.session here.stands spent;
+                  };
                   files = kept;
                 })
               ];

@@ -1,5 +1,5 @@
 -- What each act of a job does, and the moves of a command.
-use Rattle.std.specs.Prelude.{ℕ, List, [], ◌∷◌, ◌++◌, length, flat_map, codes, decimal, Option}
+use Rattle.std.specs.Prelude.{◌≡◌, ℕ, List, [], ◌∷◌, ◌++◌, length, flat_map, codes, decimal, Option}
 use Rattle.std.specs.Prelude.{Some, None, is_some, if◌then◌else◌}
 use Rattle.feed_csv.specs.File.{longest as longest_feed}
 use Rattle.geo_terms.specs.NoteText.{note_line}
@@ -183,6 +183,27 @@ IsPrinting (looks step) = ⊥
 IsPrinting (counts step) = ⊥
 IsPrinting (does step) = IsPrintingAct step.act
 IsPrinting (shows last) = Unit {0}
+
+-- an act that builds the tree of the sources in force
+abbrev pub IsBuildingAct : Act → Type 0
+IsBuildingAct (Rpsl slot file) = ⊥
+IsBuildingAct (Stats slot file) = ⊥
+IsBuildingAct (Feed url file) = ⊥
+IsBuildingAct (Overrides file) = ⊥
+IsBuildingAct (Drop source) = ⊥
+IsBuildingAct (Emit file) = Unit {0}
+IsBuildingAct Report = ⊥
+IsBuildingAct (Mark name) = ⊥
+IsBuildingAct (Back name) = ⊥
+IsBuildingAct Compact = ⊥
+
+-- a move that builds a tree: that of a line that writes a file, or the last one of a command where
+-- the session stands behind it as behind an emit
+abbrev pub IsBuilding : Move → World → Type 0
+IsBuilding (looks step) world = ⊥
+IsBuilding (counts step) world = ⊥
+IsBuilding (does step) world = IsBuildingAct step.act
+IsBuilding (shows last) world = (last world).session ≡ emitted world.session
 
 -- the line of the job that a move belongs to, and 0 where it belongs to none
 abbrev pub line_of : Move → ℕ

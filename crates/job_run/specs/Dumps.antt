@@ -1,9 +1,11 @@
--- When a file is a dump, and why it is none.
-use Rattle.std.specs.Prelude.{◌≡◌, ℕ, List, Option, Some, None, Result, Ok, Err}
+-- When a file is a dump, why it is none, and how far it is read.
+use Rattle.std.specs.Prelude.{◌≡◌, ℕ, ◌+◌, ◌≤◌, ◌⊎◌, List, length, take, Option, Some, None, Result}
+use Rattle.std.specs.Prelude.{Ok, Err}
+use Rattle.geo_outside.specs.declared.whole.TheConstants.{PIECE}
 use Rattle.geo_terms.specs.SourceForm.{DumpParts}
 use Rattle.geo_terms.specs.declared.source.SourceFault.{SourceFault}
 use Rattle.geo_terms.specs.declared.source.SourceFault.TheVariants as faults
-use Rattle.feed_refs.specs.Dumps.{dump}
+use Rattle.feed_refs.specs.Dumps.{dump, so_far}
 use Rattle.job_run.specs.declared.stop.Cause.{Cause}
 use Rattle.job_run.specs.declared.stop.Cause.TheVariants.{Missing, TooLong, TooMany}
 
@@ -28,3 +30,11 @@ pub record IsDump (slot : List ℕ) (held : Option (List ℕ)) (found : DumpPart
   pub bytes : List ℕ
   pub there : held ≡ Some bytes
   pub is : dump slot bytes ≡ Ok found
+
+-- of a file the first bytes were read with which it is not refused, and one more piece at most:
+-- none behind the piece with which it has too many bytes or too many references
+pub record IsReadNoFurther (slot file : List ℕ) (given given_now : ℕ) : Type 0 where
+  pub fine : ℕ
+  pub within : fine ≤ length file
+  pub unrefused : (fine ≡ 0) ⊎ (refusal (so_far slot (take fine file)) ≡ None)
+  pub read : given_now ≤ given + (fine + PIECE)

@@ -11,7 +11,7 @@ use Rattle.job_run.specs.declared.stop.Cause.TheVariants.{TooLarge}
 use Rattle.job_run.specs.declared.stop.Stop.{Stop}
 use Rattle.job_run.specs.declared.stop.Stop.TheVariants.{Blocked, ReadFailed, PutFailed, SinkFailed}
 use Rattle.job_run.specs.declared.stop.Stop.TheVariants.{Memory}
-use Rattle.job_run.specs.Acts.{IsPrinting, Move, effect, blocked, after, step_of}
+use Rattle.job_run.specs.Acts.{IsBuilding, IsPrinting, Move, effect, blocked, after, step_of}
 use Rattle.job_run.specs.Course.{course, ended, IsAt}
 use Rattle.job_run.specs.Published.{Publishes}
 use Rattle.job_run.specs.Seen.{Seen, Prints, PrintsPart}
@@ -41,11 +41,12 @@ pub record IsBlocked (why : Cause) (move : Move) (world : World) (told : Option 
   pub cause : blocked move world ≡ Some why
   pub files : told ≡ Some world.told
 
--- after a move and those before it there may be so many nodes or places that there are no numbers
--- for them
-abbrev pub IsSpent : Move → World → Type 0
-IsSpent move world = (2 ^ 32 - 1 ≤ (effect move world).session.nodes)
-    ⊎ (2 ^ 32 - 1 ≤ (effect move world).session.numbered)
+-- a move builds a tree, and after it and the moves before it there may be so many nodes or places
+-- that there are no numbers for them
+pub record IsSpent (move : Move) (world : World) : Type 0 where
+  pub builds : IsBuilding move world
+  pub many : (2 ^ 32 - 1 ≤ (effect move world).session.nodes)
+      ⊎ (2 ^ 32 - 1 ≤ (effect move world).session.numbered)
 
 -- so many that this is answered as too large; no file was changed
 pub record IsUncounted (why : Cause) (move : Move) (world : World)

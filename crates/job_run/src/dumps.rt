@@ -8,7 +8,7 @@ ghost use Rattle.geo_outside.specs.declared.whole.TheConstants.{PIECE};
 ghost use Rattle.feed_refs.specs.Dumps.{dump, so_far};
 ghost use Rattle.feed_refs.specs.Readings.{reading};
 ghost use Rattle.feed_refs.specs.declared.limits.TheConstants.{LONGEST_DUMP};
-ghost use Rattle.job_run.specs.Dumps.{IsDump, no_dump, refusal};
+ghost use Rattle.job_run.specs.Dumps.{IsDump, IsReadNoFurther, no_dump, refusal};
 ghost use Rattle.job_run.specs.Stops.{IsHindered};
 ghost use Rattle.job_run.specs.World.{bytes_apart, held_in};
 
@@ -50,6 +50,9 @@ pub(crate) fn dump_in<F: Folder>(
     ensures apart_only { apart.now ≢ [] → (result ≢ Err Stop.ReadFailed)
         × (F.given folder.new ≤ F.given folder.old) }
     ensures given { F.given folder.new ≤ F.given folder.old + (LONGEST_DUMP + PIECE) }
+    ensures no_further { (w : Told) (file : List ℕ) → F.told folder.old ≡ Some w
+        → held_in apart.now w name.now ≡ Some file
+        → IsReadNoFurther slot.now file (F.given folder.old) (F.given folder.new) }
 {
     if apart.is_empty() {
         return read_dump(alloc, folder, slot, name);
@@ -95,6 +98,9 @@ fn read_dump<F: Folder>(alloc: Global, folder: &mut F, slot: &str, name: &str) -
     ensures put_faults { F.put_faults folder.old ≤ F.put_faults folder.new }
     ensures misses { F.misses folder.old ≤ F.misses folder.new }
     ensures given { F.given folder.new ≤ F.given folder.old + LONGEST_DUMP + PIECE }
+    ensures no_further { (w : Told) (file : List ℕ) → F.told folder.old ≡ Some w
+        → map.get w.held name.now ≡ Some file
+        → IsReadNoFurther slot.now file (F.given folder.old) (F.given folder.new) }
 {
     let mut buffer = empty_piece(alloc)?;
     let piece: &mut [u8] = &mut buffer;

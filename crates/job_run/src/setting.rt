@@ -1,5 +1,5 @@
 //! A source, read and set.
-ghost use Rattle.std.specs.Prelude.{◌≡◌, ◌≢◌, ◌⊎◌, ◌≤◌, ◌+◌, [], IfErr, IfOk, None, OnErr};
+ghost use Rattle.std.specs.Prelude.{◌≡◌, ◌≢◌, ◌⊎◌, ◌≤◌, ◌+◌, ℕ, List, [], IfErr, IfOk, None, OnErr};
 ghost use Rattle.std.specs.Prelude.{OnOk, Some};
 ghost use Rattle.geo_outside.specs.Count.{Rose};
 ghost use Rattle.geo_outside.specs.Files.{Told};
@@ -9,6 +9,7 @@ ghost use Rattle.nro_stats.specs.File.{stats};
 ghost use Rattle.nro_stats.specs.declared.read.TheConstants.{LONGEST_STATS};
 ghost use Rattle.override_rows.specs.File.{overrides};
 ghost use Rattle.override_rows.specs.declared.read.TheConstants.{LONGEST_OVERRIDES};
+ghost use Rattle.job_run.specs.Dumps.{IsReadNoFurther};
 ghost use Rattle.job_run.specs.Sources.{IsSet, LacksApart, no_overrides, no_source, no_stats};
 ghost use Rattle.job_run.specs.Stops.{IsHindered};
 ghost use Rattle.job_run.specs.World.{held_in};
@@ -61,6 +62,9 @@ pub(crate) fn set_dump<F: Folder>(
     ensures apart_only { apart.now ≢ [] → (result ≢ Err Stop.ReadFailed)
         × (F.given folder.new ≤ F.given folder.old) }
     ensures given { F.given folder.new ≤ F.given folder.old + (LONGEST_DUMP + PIECE) }
+    ensures no_further { (w : Told) (file : List ℕ) → F.told folder.old ≡ Some w
+        → held_in apart.now w name.now ≡ Some file
+        → IsReadNoFurther slot.now file (F.given folder.old) (F.given folder.new) }
 {
     let dump = match dump_in(alloc, apart, folder, slot, name) {
         Ok(dump) => dump,

@@ -43,7 +43,10 @@ module _ (stays : StandingStays) (world : World) (block : Prefix) (name : List �
         | inl blocks ↦ subst (λ (w : Stop). Fails w move world [] old new) (sym blocks) (record {
           files = inr (record {
             large = refl;
-            spent = stays.same_end session world.session here.stands (large blocks);
+            spent = record {
+              builds = refl;
+              many = stays.same_end session world.session here.stands (large blocks);
+            };
             files = kept;
           });
           printed = printed;

@@ -1,7 +1,7 @@
 use Rattle.std.proofs.Common.{◌∙◌, ◌++◌, List, [], ◌∷◌, ℕ, ap, map, append_assoc, subst, sym, arith}
 use Rattle.std.specs.Prelude.{find}
 use Rattle.split_core.proofs.Edges.{points_ascend}
-use Rattle.geo_addr.specs.Ranges.{AreCuts, Ends}
+use Rattle.geo_addr.specs.Ranges.{AreCuts, Ends, IsRange}
 use Rattle.geo_terms.specs.PlaceForm.{same_text}
 use Rattle.geo_terms.specs.SourceForm.{FeedParts}
 use Rattle.geo_terms.specs.Sources.{InForce, entries_in, feed_of, references}
@@ -17,10 +17,13 @@ use Rattle.precedence.proofs.sources.Sources.hearing_cuts.Goals as goal
 abbrev ranges_of : InForce → List Ends
 ranges_of s = map (λ (r : Reference). r.range) (references s)
 
+all_of_space : IsRange whole
+all_of_space = record { ordered = omega arith; within = omega arith }
+
 pub push_inside-requires-clause-ascending : goal.push_inside-requires-clause-ascending
 push_inside-requires-clause-ascending c =
     (subst (AreCutsOf (ranges_of c.self.inside.authority))
-    (sym (c.as_slice.ensures.value ∙ ap (λ (k : Speakers). k.cuts.items) c.deref.ensures))
+    (sym (c.as_slice.ensures.value ∙ ap (λ (k : Speakers). k.cuts.items) c.deref-2.ensures))
     c.in_ok-speakers.ensures.cuts).ascending
 
 pub push_inside-requires-2-clause-ascending : goal.push_inside-requires-2-clause-ascending
@@ -30,7 +33,7 @@ push_inside-requires-2-clause-ascending c =
 
 pub returns-clause-exact : goal.returns-clause-exact
 returns-clause-exact c =
-    let bounds : List Ends = whole ∷ [] in
+    let bounds : List Ends = c.whole.result ∷ [] in
     let refs : List Ends = ranges_of c.self.inside.authority in
     let ents : List Ends =
     entry_ranges (entries_in (feed_of c.self.inside.authority c.args.url.now)) in
@@ -40,7 +43,7 @@ returns-clause-exact c =
     let first : AreCutsInside refs bounds c.push_inside.new.found.items =
     gathered [] refs bounds c.as_slice.result.now c.in_ok-points.points.items
     c.push_inside.new.found.items none (subst (AreCutsOf refs)
-    (sym (c.as_slice.ensures.value ∙ ap (λ (k : Speakers). k.cuts.items) c.deref.ensures))
+    (sym (c.as_slice.ensures.value ∙ ap (λ (k : Speakers). k.cuts.items) c.deref-2.ensures))
     c.in_ok-speakers.ensures.cuts) c.in_ok-push_inside.ensures in
     let second : AreCutsInside (refs ++ ents) bounds c.push_feed_inside.new.cuts.items =
     subst (λ (fs : List FeedParts). AreCutsInside (refs ++ entry_ranges (entries_in
@@ -62,8 +65,10 @@ returns-clause-exact c =
     c.dedup.new.self.items) c.self.view_is
     (subst (λ (rs : List Ends). AreCuts rs whole c.dedup.new.self.items)
     (append_assoc refs ents c.args.more.now)
-    (cuts_inside_one ((refs ++ ents) ++ c.args.more.now) whole c.dedup.new.self.items
-    (record { ordered = omega arith; within = omega arith }) sorted))
+    (subst (λ (within : Ends). AreCuts ((refs ++ ents) ++ c.args.more.now) within
+    c.dedup.new.self.items) c.whole.ensures
+    (cuts_inside_one ((refs ++ ents) ++ c.args.more.now) c.whole.result c.dedup.new.self.items
+    (subst IsRange (sym c.whole.ensures) all_of_space) sorted)))
 
 pub returns-clause-ascending : goal.returns-clause-ascending
 returns-clause-ascending c =
