@@ -7,6 +7,7 @@ pub mod CountryLemmas
 pub mod FitLemmas
 pub mod GenEndLemmas
 pub mod HeadlineLemmas
+pub mod LastCommands
 pub mod LastLemmas
 pub mod LookupAnswers
 pub mod LookupEndsLemmas

@@ -73,25 +73,4 @@ write_status PutFailed is = inl refl
 write_status SinkFailed is = inr refl
 write_status Memory is = absurd (cc)
 
--- what stops the last move of `publish` has none of these statuses
-pub feed_status : (why : Stop) → (why ≡ Blocked TooLarge)
-    ⊎ ((why ≡ PutFailed) ⊎ ((why ≡ SinkFailed) ⊎ (why ≡ Memory)))
-    → (status_of why ≢ statuses.Words)
-    × ((status_of why ≢ statuses.ReadFault) × (status_of why ≢ statuses.Missing))
-feed_status why causes =
-    elim causes [
-      | inl large ↦ let e : status_of why ≡ statuses.TooLarge = ap status_of large in
-          (λ is. absurd (cc), (λ is. absurd (cc), λ is. absurd (cc)))
-      | inr more ↦ elim more [
-        | inl put ↦ let e : status_of why ≡ statuses.WriteFault = ap status_of put in
-            (λ is. absurd (cc), (λ is. absurd (cc), λ is. absurd (cc)))
-        | inr last ↦ elim last [
-          | inl sink ↦ let e : status_of why ≡ statuses.WriteFault = ap status_of sink in
-              (λ is. absurd (cc), (λ is. absurd (cc), λ is. absurd (cc)))
-          | inr memory ↦ let e : status_of why ≡ statuses.Memory = ap status_of memory in
-              (λ is. absurd (cc), (λ is. absurd (cc), λ is. absurd (cc)))
-        ]
-      ]
-    ]
-
 pub ruleset status_causes = (read_status, missing_status, words_status, write_status)

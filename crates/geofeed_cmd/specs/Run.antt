@@ -3,6 +3,7 @@ pub mod Answers
 pub mod Causes
 pub mod Closes
 pub mod Ending
+pub mod Ends
 pub mod Lines
 pub mod LookupEnds
 pub mod Pieces

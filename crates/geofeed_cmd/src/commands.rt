@@ -5,4 +5,3 @@ pub(crate) mod check;
 pub(crate) mod explain;
 pub(crate) mod generate;
 pub(crate) mod lookup;
-pub(crate) mod publish;

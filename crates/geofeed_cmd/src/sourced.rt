@@ -1,6 +1,7 @@
 //! The sources of a job, set before a command goes on with them.
 ghost use Rattle.std.specs.Prelude.{◌≡◌, ◌⊎◌, ◌≤◌, ◌<◌, ◌≢◌, ◌+◌, [], ◌∷◌, ◌++◌, IfErr, IfOk};
 ghost use Rattle.std.specs.Prelude.{Option, Some, length, slice_get};
+ghost use Rattle.fan_work.specs.declared.forks.TheConstants.{MOST_PIECES};
 ghost use Rattle.geo_outside.specs.Count.{Rose};
 ghost use Rattle.geo_outside.specs.Files.{Told};
 ghost use Rattle.job_run.specs.Seen.{seen};
@@ -30,6 +31,20 @@ use std::sync::ledger::Ledger;
 use std::thread::Threads;
 use update_session::Session;
 use update_session::laws::standing_stays;
+
+/// The same threads, memory and gate for work in so many pieces.
+pub(crate) fn by_pieces<'a, R, G>(forks: &Forks<'a, R, G>, pieces: u32) -> Forks<'a, R, G>
+    requires some { 0 < pieces }
+    requires few { pieces ≤ MOST_PIECES }
+    ensures { result.pieces ≡ pieces }
+{
+    Forks {
+        rt: forks.rt,
+        alloc: forks.alloc,
+        gate: forks.gate,
+        pieces,
+    }
+}
 
 /// A session in which the lines of a job were done that set and drop sources, mark, and go back; or
 /// the status of the command, whose stop line was printed.
