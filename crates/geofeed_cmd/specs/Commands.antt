@@ -2,3 +2,4 @@
 pub mod Census
 pub mod Check
 pub mod Explain
+pub mod Publish

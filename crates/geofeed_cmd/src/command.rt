@@ -14,6 +14,7 @@ ghost use Rattle.job_run.specs.World.{World};
 ghost use Rattle.geofeed_cmd.specs.Run.Answers.{Comes, EndsGenerated, IsAnswer, IsDone, Prevails};
 ghost use Rattle.geofeed_cmd.specs.Run.Answers.{SpendsAll};
 ghost use Rattle.geofeed_cmd.specs.Run.Causes.{Causes, IsFree};
+ghost use Rattle.geofeed_cmd.specs.Run.Feeds.{PublishesFeed};
 ghost use Rattle.geofeed_cmd.specs.Run.Plans.{Reaches, is_command, puts_files, reads_folder};
 ghost use Rattle.geofeed_cmd.specs.Run.Plans.{room_of, takes_steps};
 ghost use Rattle.geofeed_cmd.specs.declared.status.Status as statuses;
@@ -76,6 +77,11 @@ pub fn run<R: Threads + Sync, F: Folder, O: Sink, G: Gate, L: Ledger>(
         → (step : steps_of.Step) (name : List ℕ) (world : World)
         → Reaches (command_of (map string_bytes words.now)) first (does step) world
         → step.act ≡ Emit name → IsLeastByValue world.session.state }
+
+    // The file that `publish` wrote has the fewest lines that say of its block what the sources in
+    // force say, and whoever reads it as a feed gets these lines back, with no note.
+    ensures published { (first : Told) → F.told folder.old ≡ Some first → result ≡ Status.Done
+        → PublishesFeed (command_of (map string_bytes words.now)) first (F.told folder.new) }
 
     // What there is at each answer.
     ensures comes { (first : Told) → F.told folder.old ≡ Some first
@@ -165,6 +171,11 @@ pub fn run_told<R: Threads + Sync, F: Folder, O: Sink, G: Gate, L: Ledger>(
         → Reaches (command_of (map string_bytes words.now)) first (does step) world
         → step.act ≡ Emit name → IsLeastByValue world.session.state }
 
+    // The file that `publish` wrote has the fewest lines that say of its block what the sources in
+    // force say, and whoever reads it as a feed gets these lines back, with no note.
+    ensures published { (first : Told) → F.told folder.old ≡ Some first → result ≡ Status.Done
+        → PublishesFeed (command_of (map string_bytes words.now)) first (F.told folder.new) }
+
     // What there is at each answer.
     ensures comes { (first : Told) → F.told folder.old ≡ Some first
         → Comes result (command_of (map string_bytes words.now)) first
@@ -238,6 +249,8 @@ fn do_words<R: Threads + Sync, F: Folder, O: Sink, G: Gate, L: Ledger>(
         (seen (F.told folder.old) (O.written out.old) (O.faults out.old) steps.old)
         (seen (F.told folder.new) (O.written out.new) (O.faults out.new) steps.new)
         (F.put_faults folder.old) (F.put_faults folder.new) }
+    ensures published { (first : Told) → F.told folder.old ≡ Some first → result ≡ Status.Done
+        → PublishesFeed (command_of (map string_bytes words.now)) first (F.told folder.new) }
     ensures words { result ≡ Status.Words
         → is_command (command_of (map string_bytes words.now)) ≡ false }
     ensures none { is_command (command_of (map string_bytes words.now)) ≡ false
@@ -290,6 +303,8 @@ fn do_spoken<R: Threads + Sync, F: Folder, O: Sink, G: Gate, L: Ledger>(
         (seen (F.told folder.old) (O.written out.old) (O.faults out.old) steps.old)
         (seen (F.told folder.new) (O.written out.new) (O.faults out.new) steps.new)
         (F.put_faults folder.old) (F.put_faults folder.new) }
+    ensures published { (first : Told) → F.told folder.old ≡ Some first → result ≡ Status.Done
+        → PublishesFeed (named spoken.entry) first (F.told folder.new) }
     ensures words { result ≡ Status.Words → is_command (named spoken.entry) ≡ false }
     ensures none { is_command (named spoken.entry) ≡ false
         → (result ≡ Status.Words) ⊎ (result ≡ Status.Memory) }

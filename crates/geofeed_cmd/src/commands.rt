@@ -6,3 +6,4 @@ pub(crate) mod explain;
 pub(crate) mod generate;
 pub(crate) mod lookup;
 pub(crate) mod publish;
+pub(crate) mod write_feed;

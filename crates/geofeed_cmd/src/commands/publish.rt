@@ -1,6 +1,7 @@
 //! `publish JOB BLOCK FILE`: writes the shortest feed of a block by a job.
 ghost use Rattle.std.specs.Prelude.{◌≡◌, ◌⊎◌, ◌≤◌, ◌≢◌, ◌+◌, [], ◌∷◌, ◌++◌, Option, Some};
 ghost use Rattle.std.specs.FinMap as map;
+ghost use Rattle.geo_addr.specs.Ranges.{IsBlock};
 ghost use Rattle.geo_outside.specs.Count.{Rose};
 ghost use Rattle.geo_outside.specs.Files.{Told};
 ghost use Rattle.job_lines.specs.Commands.{Command, publish};
@@ -9,10 +10,12 @@ ghost use Rattle.job_run.specs.Acts.{shows};
 ghost use Rattle.job_run.specs.Moves.{read_rooms, source_moves};
 ghost use Rattle.job_run.specs.Seen.{seen};
 ghost use Rattle.publish_least.specs.Lines.{IsPlain};
-ghost use Rattle.published.specs.Publishing.{publishing};
+ghost use Rattle.geofeed_cmd.specs.Commands.Publish.{publishing};
 ghost use Rattle.geofeed_cmd.specs.Run.Answers.{Comes};
+ghost use Rattle.geofeed_cmd.specs.Run.Feeds.{LeavesFeed};
 ghost use Rattle.geofeed_cmd.specs.Run.Plans.{held_job, job_room, plan_of, planned, start_of};
 
+use crate::commands::write_feed::write_feed;
 use crate::job_file::job_in;
 use crate::sourced::sources_of;
 use crate::status::Status;
@@ -22,7 +25,6 @@ use geo_addr::Block;
 use geo_outside::{Folder, Gate, Sink, Steps};
 use job_lines::Job;
 use job_run::Journal;
-use published::write_feed;
 use std::alloc::Global;
 use std::marker::Sync;
 use std::mem::forget;
@@ -43,12 +45,16 @@ pub(crate) fn publish<R: Threads + Sync, F: Folder, O: Sink, G: Gate, L: Ledger>
     steps: &mut Steps<L>,
     journal: &mut Journal,
 ) -> Status
-    requires { IsPlain block }
+    requires aligned { IsBlock block }
+    requires plain { IsPlain block }
     ensures comes { (first : Told) → F.told folder.old ≡ Some first
         → Comes result (Some (publish name.now block file.now)) first
         (seen (F.told folder.old) (O.written out.old) (O.faults out.old) steps.old)
         (seen (F.told folder.new) (O.written out.new) (O.faults out.new) steps.new)
         (F.put_faults folder.old) (F.put_faults folder.new) }
+    ensures published { (first : Told) → F.told folder.old ≡ Some first → result ≡ Status.Done
+        → LeavesFeed (Some (publish name.now block file.now)) block file.now first
+        (F.told folder.new) }
     ensures not_words { result ≢ Status.Words }
     ensures read { result ≡ Status.ReadFault
         → Rose (F.read_faults folder.old) (F.read_faults folder.new) }
@@ -86,6 +92,7 @@ fn publish_by<R: Threads + Sync, F: Folder, O: Sink, G: Gate, L: Ledger>(
     journal: &mut Journal,
 ) -> Status
     requires limits { IsWithinLimits job }
+    requires aligned { IsBlock block }
     requires plain { IsPlain block }
     ensures comes { (first : Told) → F.told folder.old ≡ Some first
         → (command : Option Command)
@@ -96,6 +103,13 @@ fn publish_by<R: Threads + Sync, F: Folder, O: Sink, G: Gate, L: Ledger>(
         (seen (F.told folder.old) (O.written out.old) (O.faults out.old) steps.old)
         (seen (F.told folder.new) (O.written out.new) (O.faults out.new) steps.new)
         (F.put_faults folder.old) (F.put_faults folder.new) }
+    ensures published { (first : Told) → F.told folder.old ≡ Some first
+        → (command : Option Command)
+        → plan_of first command
+        ≡ planned (source_moves job.steps ++ shows (publishing block file.now) ∷ [])
+        (start_of first job)
+        → result ≡ Status.Done
+        → LeavesFeed command block file.now first (F.told folder.new) }
     ensures not_words { result ≢ Status.Words }
     ensures read { result ≡ Status.ReadFault
         → Rose (F.read_faults folder.old) (F.read_faults folder.new) }

@@ -13,3 +13,7 @@ returns-in-Err-clause-comes g c =
     rw c.no_command.ensures.status
     (comes_words (command_of (map string_bytes c.args.words.now)) first _ _ 0 0
     (ap is_command c.in-Err.ensures) told c.no_command.ensures.closed steps)
+
+pub returns-in-Err-clause-published : goal.returns-in-Err-clause-published
+returns-in-Err-clause-published g c =
+    λ first told done. let words = c.no_command.ensures.status in absurd cc

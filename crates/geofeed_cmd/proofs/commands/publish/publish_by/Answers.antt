@@ -4,11 +4,12 @@ use Rattle.geo_outside.specs.Count.{Rose}
 use Rattle.job_run.specs.Acts.{shows}
 use Rattle.job_run.specs.Moves.{source_moves}
 use Rattle.job_run.specs.Seen.{seen}
-use Rattle.published.specs.Publishing.{publishing}
+use Rattle.geofeed_cmd.specs.Commands.Publish.{publishing}
 use Rattle.geofeed_cmd.specs.Run.Lines.{stop_line}
 use Rattle.geofeed_cmd.specs.Run.Plans.{start_of}
+use Rattle.geofeed_cmd.proofs.FeedLemmas.{leaves_feed}
 use Rattle.geofeed_cmd.proofs.LastLemmas.{comes_last, comes_unmade}
-use Rattle.geofeed_cmd.proofs.StatusLemmas.{feed_status, write_status}
+use Rattle.geofeed_cmd.proofs.StatusLemmas.{feed_status, not_done, write_status}
 use Rattle.geofeed_cmd.proofs.commands.publish.publish_by.Goals as goal
 
 pub returns-in-Ok-written-clause-comes : goal.returns-in-Ok-written-clause-comes
@@ -26,6 +27,20 @@ returns-in-Ok-written-clause-comes g c =
     (O.faults after.out) after.steps)
     (c.write_feed-written.ensures.paid all.world all.stands)
     (c.in-Ok-written.ensures.done all.world all.stands)
+
+pub returns-in-Ok-written-clause-published : goal.returns-in-Ok-written-clause-published
+returns-in-Ok-written-clause-published g c =
+    λ first told command plan done.
+    let all = c.in-Ok.ensures.ok first told in
+    leaves_feed command first c.args.job.steps c.args.block c.args.file.now
+    (start_of first c.args.job) plan _ _ _ all
+    (g.F.Folder.told c.write_feed-written.new.folder)
+    (c.in-Ok-written.ensures.published all.world.told all.stands.tells)
+
+pub returns-in-Err-written-clause-published : goal.returns-in-Err-written-clause-published
+returns-in-Err-written-clause-published g c =
+    λ first told command plan done.
+    absurd (not_done c.in-Err-written.why (sym c.stop_at.ensures.status ∙ done))
 
 pub returns-in-Err-written-clause-comes : goal.returns-in-Err-written-clause-comes
 returns-in-Err-written-clause-comes g c =
