@@ -41,8 +41,8 @@ at_longer moves more start count move world there =
     }
 
 -- the move behind a list
-at_last : (moves : List Move) (last : Move) (start world : World) → course moves start ≡ ended world
-    → IsAt (moves ++ last ∷ []) start (length moves) last world
+pub at_last : (moves : List Move) (last : Move) (start world : World)
+    → course moves start ≡ ended world → IsAt (moves ++ last ∷ []) start (length moves) last world
 at_last moves last start world done = record {
   done = ap (λ (ms : List Move). course ms start) (take-append_seam moves (last ∷ [])) ∙ done;
   next = slice_get_last moves last;

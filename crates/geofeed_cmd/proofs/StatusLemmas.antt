@@ -73,4 +73,21 @@ write_status PutFailed is = inl refl
 write_status SinkFailed is = inr refl
 write_status Memory is = absurd (cc)
 
+-- no stop is `Done`
+pub not_done : (why : Stop) → status_of why ≢ statuses.Done
+not_done (Blocked Words) is = cc
+not_done (Blocked Missing) is = cc
+not_done (Blocked (Job fault)) is = cc
+not_done (Blocked TooLong) is = cc
+not_done (Blocked TooMany) is = cc
+not_done (Blocked NotThere) is = cc
+not_done (Blocked NoMark) is = cc
+not_done (Blocked NoFeed) is = cc
+not_done (Blocked TooLarge) is = cc
+not_done (Blocked (File fault)) is = cc
+not_done ReadFailed is = cc
+not_done PutFailed is = cc
+not_done SinkFailed is = cc
+not_done Memory is = cc
+
 pub ruleset status_causes = (read_status, missing_status, words_status, write_status)

@@ -3,3 +3,4 @@ pub mod Census
 pub mod Check
 pub mod Explain
 pub mod Last
+pub mod Publish

@@ -15,6 +15,7 @@ ghost use Rattle.geofeed_cmd.specs.Run.Answers.{Comes, EndsGenerated, IsAnswer, 
 ghost use Rattle.geofeed_cmd.specs.Run.Answers.{SpendsAll};
 ghost use Rattle.geofeed_cmd.specs.Run.Causes.{Causes, IsFree};
 ghost use Rattle.geofeed_cmd.specs.Run.Ends.{Concludes, around};
+ghost use Rattle.geofeed_cmd.specs.Run.Feeds.{PublishesFeed};
 ghost use Rattle.geofeed_cmd.specs.Run.Plans.{Reaches, is_command, puts_files, reads_folder};
 ghost use Rattle.geofeed_cmd.specs.Run.Plans.{room_of, takes_steps};
 ghost use Rattle.geofeed_cmd.specs.declared.status.Status as statuses;
@@ -76,6 +77,11 @@ pub fn run<R: Threads + Sync, F: Folder, O: Sink, G: Gate, L: Ledger>(
         → (step : steps_of.Step) (name : List ℕ) (world : World)
         → Reaches (command_of (map string_bytes words.now)) first (does step) world
         → step.act ≡ Emit name → IsLeastByValue world.session.state }
+
+    // The file that `publish` wrote has the fewest lines that say of its block what the sources in
+    // force say, and whoever reads it as a feed gets these lines back, with no note.
+    ensures published { (first : Told) → F.told folder.old ≡ Some first → result ≡ Status.Done
+        → PublishesFeed (command_of (map string_bytes words.now)) first (F.told folder.new) }
 
     // What there is at each answer.
     ensures comes { (first : Told) → F.told folder.old ≡ Some first

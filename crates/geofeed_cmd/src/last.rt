@@ -9,15 +9,18 @@ ghost use Rattle.job_run.specs.Moves.{read_rooms, source_moves};
 ghost use Rattle.job_run.specs.Seen.{seen};
 ghost use Rattle.job_run.specs.Stops.{Does, Fails, IsIn, IsPaid};
 ghost use Rattle.job_run.specs.World.{World};
-ghost use Rattle.geofeed_cmd.specs.Commands.Last.{HasFeed, ending_with, last_effect, last_move};
-ghost use Rattle.geofeed_cmd.specs.Commands.Last.{name_in};
+ghost use Rattle.published.specs.CleanSources.{AreCleanSources};
+ghost use Rattle.geofeed_cmd.specs.Commands.Last.{HasFeed, Leaves, ending_with, last_effect};
+ghost use Rattle.geofeed_cmd.specs.Commands.Last.{last_move, name_in};
 ghost use Rattle.geofeed_cmd.specs.Run.Answers.{Comes};
 ghost use Rattle.geofeed_cmd.specs.Run.Ends.{Concludes, Signs, around};
+ghost use Rattle.geofeed_cmd.specs.Run.Feeds.{PublishesFeed};
 ghost use Rattle.geofeed_cmd.specs.Run.Plans.{plan_of, planned, puts_files, start_of, takes_steps};
 
 use crate::commands::census::print_counts;
 use crate::commands::check::print_verdicts;
 use crate::commands::explain::print_why;
+use crate::commands::write_feed::write_feed;
 use crate::job_file::job_in;
 use crate::sourced::{by_pieces, sources_of};
 use crate::status::Status;
@@ -27,7 +30,6 @@ use geo_addr::{Addr, Block};
 use geo_outside::{Folder, Gate, Sink, Steps};
 use job_lines::Job;
 use job_run::{Cause, Journal, Stop};
-use published::write_feed;
 use std::marker::Sync;
 use std::mem::forget;
 use std::sync::ledger::Ledger;
@@ -101,6 +103,11 @@ fn by_job<R: Threads + Sync, F: Folder, O: Sink, G: Gate, L: Ledger>(
         (seen (F.told folder.old) (O.written out.old) (O.faults out.old) steps.old)
         (seen (F.told folder.new) (O.written out.new) (O.faults out.new) steps.new)
         (F.put_faults folder.old) (F.put_faults folder.new) }
+    ensures published { (first : Told) → F.told folder.old ≡ Some first → (name : List ℕ)
+        → plan_of first (Some (ending_with name last.now))
+        ≡ planned (source_moves job.steps ++ last_move last.now ∷ []) (start_of first job)
+        → result ≡ Status.Done
+        → PublishesFeed (Some (ending_with name last.now)) first (F.told folder.new) }
     ensures signs { Signs result (around F.Folder O.Sink folder.old out.old steps.old)
         (around F.Folder O.Sink folder.new out.new steps.new) }
     ensures unput { (name : List ℕ) → puts_files (Some (ending_with name last.now)) ≡ false
@@ -145,6 +152,9 @@ fn make_last<R: Threads + Sync, F: Folder, O: Sink, G: Gate, L: Ledger>(
         (seen (F.told folder.new) (O.written out.new) (O.faults out.new) steps.new)) }
     ensures paid { (world : World) → IsIn [] (F.told folder.old) session.old world
         → IsPaid (last_effect last.now world) world steps.old steps.new }
+    ensures leaves { (then : Told) → F.told folder.old ≡ Some then
+        → AreCleanSources session.old.state.sources
+        → OnOk result (Leaves last.now session.old.state.sources (F.told folder.new)) }
 
     ensures reads_nothing { IfErr result (λ why. (why ≢ Stop.ReadFailed)
         × (why ≢ Stop.Blocked Cause.Missing) × (why ≢ Stop.Blocked Cause.Words)) }

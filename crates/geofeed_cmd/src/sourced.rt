@@ -68,6 +68,7 @@ pub(crate) fn sources_of<R: Threads + Sync, F: Folder, O: Sink, G: Gate, L: Ledg
         (seen (F.told folder.old) (O.written out.old) (O.faults out.old) steps.old)
         (seen (F.told folder.new) (O.written out.new) (O.faults out.new) steps.new)
         (F.put_faults folder.old) (F.put_faults folder.new)) }
+    ensures not_done { result ≢ Err Status.Done }
     ensures not_words { result ≢ Err Status.Words }
     ensures read { result ≡ Err Status.ReadFault
         → Rose (F.read_faults folder.old) (F.read_faults folder.new) }

@@ -1,15 +1,19 @@
 -- The move with which a command ends behind the sources of its job.
-use Rattle.std.specs.Prelude.{ℕ, List, []}
+use Rattle.std.specs.Prelude.{◌×◌, ℕ, List, [], Option}
+use Rattle.geo_addr.specs.Ranges.{IsBlock}
+use Rattle.geo_outside.specs.Files.{Told}
+use Rattle.geo_terms.specs.Sources.{InForce}
 use Rattle.job_lines.specs.Commands.{Command, explain, publish, check, census}
 use Rattle.job_run.specs.Acts.{Move, shows}
 use Rattle.job_run.specs.World.{World, Effect}
 use Rattle.publish_least.specs.Lines.{IsPlain}
-use Rattle.published.specs.Publishing.{publishing}
 use Rattle.geofeed_cmd.specs.declared.last.Last.{Last}
 use Rattle.geofeed_cmd.specs.declared.last.Last.TheVariants.{Explain, Publish, Check, Census}
 use Rattle.geofeed_cmd.specs.Commands.Census.{counting}
 use Rattle.geofeed_cmd.specs.Commands.Check.{checking}
 use Rattle.geofeed_cmd.specs.Commands.Explain.{explaining}
+use Rattle.geofeed_cmd.specs.Commands.Publish.{publishing}
+use Rattle.geofeed_cmd.specs.Run.Feeds.{HoldsFeed}
 
 -- the command that ends with it, by the job of this name
 abbrev pub ending_with : (job : List ℕ) → Last → Command
@@ -38,6 +42,13 @@ name_in Census = []
 -- a block that is published has a feed
 abbrev pub HasFeed : Last → Type 0
 HasFeed (Explain address) = Unit {0}
-HasFeed (Publish block file) = IsPlain block
+HasFeed (Publish block file) = IsBlock block × IsPlain block
 HasFeed (Check url) = Unit {0}
 HasFeed Census = Unit {0}
+
+-- what it leaves in the folder by these sources
+abbrev pub Leaves : Last → InForce → (told : Option Told) → Type 0
+Leaves (Explain address) s told = Unit {0}
+Leaves (Publish block file) s told = HoldsFeed s block file.now told
+Leaves (Check url) s told = Unit {0}
+Leaves Census s told = Unit {0}

@@ -9,6 +9,7 @@ use Rattle.geofeed_cmd.specs.declared.status.Status.TheVariants as statuses
 use Rattle.job_lines.specs.Commands.{Command}
 use Rattle.job_run.specs.Seen.{Seen, seen}
 use Rattle.geofeed_cmd.specs.Run.Answers.{Comes}
+use Rattle.geofeed_cmd.specs.Run.Feeds.{PublishesFeed}
 use Rattle.geofeed_cmd.specs.Run.Plans.{is_command, puts_files, reads_folder, room_of, takes_steps}
 
 -- what the outside tells at a moment: the folder itself, what is seen, and the folder's counts
@@ -60,6 +61,8 @@ pub record Ends {F : Type 0} (result : Status) (command : Option Command)
 pub record Concludes {F : Type 0} (result : Status) (command : Option Command)
     (old new : Around F) : Type 0 where
   pub comes : ComesOut result command old new
+  pub published : (first : Told) → old.seen.told ≡ Some first → result ≡ statuses.Done
+      → PublishesFeed command first new.seen.told
   pub ends : Ends result command old new
 
 -- what holds of an answer behind a job that was read

@@ -16,6 +16,7 @@ returns-in-Err g c =
             rw c.no_command.ensures.status
             (comes_words (command_of (map string_bytes c.args.words.now)) first _ _ 0 0
             none told c.no_command.ensures.closed steps);
+        published = λ first told done. absurd (cc);
         ends = record {
           words = λ is. none;
           none = λ not. inl c.no_command.ensures.status;

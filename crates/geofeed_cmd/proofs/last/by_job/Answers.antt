@@ -7,9 +7,11 @@ use Rattle.job_run.specs.Seen.{seen}
 use Rattle.geofeed_cmd.specs.Commands.Last.{last_move, name_in}
 use Rattle.geofeed_cmd.specs.Run.Lines.{stop_line}
 use Rattle.geofeed_cmd.specs.Run.Plans.{start_of}
+use Rattle.geofeed_cmd.proofs.FeedLemmas.{leaves_last}
 use Rattle.geofeed_cmd.proofs.LastCommands.{last_named}
 use Rattle.geofeed_cmd.proofs.LastLemmas.{comes_last, comes_unmade}
-use Rattle.geofeed_cmd.proofs.StatusLemmas.{missing_status, read_status, words_status, write_status}
+use Rattle.geofeed_cmd.proofs.StatusLemmas.{missing_status, not_done, read_status, words_status}
+use Rattle.geofeed_cmd.proofs.StatusLemmas.{write_status}
 use Rattle.geofeed_cmd.proofs.last.by_job.Goals as goal
 
 pub returns-in-Ok-made-clause-comes : goal.returns-in-Ok-made-clause-comes
@@ -25,6 +27,19 @@ returns-in-Ok-made-clause-comes g c =
     (seen (F.told after.folder) (O.written after.out) (O.faults after.out) after.steps)
     (c.make_last-made.ensures.paid all.world all.stands)
     (c.in-Ok-made.ensures.done all.world all.stands)
+
+pub returns-in-Ok-made-clause-published : goal.returns-in-Ok-made-clause-published
+returns-in-Ok-made-clause-published g c =
+    λ first told name plan done.
+    let all = c.in-Ok.ensures.ok first told in
+    leaves_last name c.args.last.now first c.args.job.steps (start_of first c.args.job) plan
+    _ _ _ all (g.F.Folder.told c.make_last-made.new.folder)
+    (c.in-Ok-made.ensures.leaves all.world.told all.stands.tells)
+
+pub returns-in-Err-made-clause-published : goal.returns-in-Err-made-clause-published
+returns-in-Err-made-clause-published g c =
+    λ first told name plan done.
+    absurd (not_done c.in-Err-made.why (sym c.stop_at.ensures.status ∙ done))
 
 pub returns-in-Err-made-clause-comes : goal.returns-in-Err-made-clause-comes
 returns-in-Err-made-clause-comes g c =

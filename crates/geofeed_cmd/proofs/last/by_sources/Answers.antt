@@ -1,5 +1,5 @@
 -- The answer of a command by its sources from that of its parts.
-use Rattle.std.proofs.Common.{◌≡◌, ◌≤◌, ◌+◌, ◌∙◌, ap, arith, inl, inr, refl, rules}
+use Rattle.std.proofs.Common.{◌≡◌, ◌≤◌, ◌+◌, ◌∙◌, ap, arith, inl, inr, refl, rules, sym}
 use Rattle.std.specs.FinMap as map
 use Rattle.std.specs.Prelude.{Some}
 use Rattle.geo_outside.specs.Count.{Rose}
@@ -8,7 +8,7 @@ use Rattle.geofeed_cmd.specs.Commands.Last.{ending_with}
 use Rattle.geofeed_cmd.specs.Run.Plans.{held_job, job_room, room_of}
 use Rattle.geofeed_cmd.proofs.AnswerLemmas.{comes_earlier, comes_hindered}
 use Rattle.geofeed_cmd.proofs.LastCommands.{last_hindered, last_planned, least_room, of_job}
-use Rattle.geofeed_cmd.proofs.StatusLemmas.{status_causes}
+use Rattle.geofeed_cmd.proofs.StatusLemmas.{not_done, status_causes}
 use Rattle.geofeed_cmd.proofs.last.by_sources.Goals as goal
 
 pub returns-in-Ok : goal.returns-in-Ok
@@ -30,6 +30,9 @@ returns-in-Ok g c =
             c.by_job.ensures.comes first (c.job_in.ensures.same ∙ told) (Some known) plan in
             comes_earlier c.by_job.result (Some known) first _ _ _ _ _
             c.job_in.ensures.put_faults (rw c.job_in.ensures.same at comes);
+        published = λ first told done.
+            c.by_job.ensures.published first (c.job_in.ensures.same ∙ told) name
+            (last_planned name last first c.in-Ok.job (c.in-Ok.ensures.job first told)) done;
         ends = record {
           words = λ is. absurd (c.by_job.ensures.signs.not_words is);
           none = λ none. let is = its.is in absurd (cc);
@@ -71,6 +74,8 @@ returns-in-Err g c =
             (comes_hindered (ending_with name last) name first _ _ _ _ its.first c.in-Err.why
             (last_hindered name last first c.in-Err.why (c.in-Err.ensures.none first told))
             (c.job_in.ensures.same ∙ told) c.stop_at.ensures.closed steps);
+        published = λ first told done.
+            absurd (not_done c.in-Err.why (sym c.stop_at.ensures.status ∙ done));
         ends = record {
           words = search (rules, status_causes);
           none = λ none. let is = its.is in absurd (cc);

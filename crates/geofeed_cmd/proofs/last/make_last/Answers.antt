@@ -10,6 +10,7 @@ use Rattle.job_run.specs.Stops.{Tail}
 use Rattle.job_run.specs.World.{World}
 use Rattle.job_run.proofs.ActLemmas.{for_both, for_err, for_ok}
 use Rattle.geofeed_cmd.proofs.CheckLemmas.{unpaid}
+use Rattle.geofeed_cmd.proofs.FeedLemmas.{for_any}
 use Rattle.geofeed_cmd.proofs.LastLemmas.{does_shown, fails_shown, not_put, reads_nothing}
 use Rattle.geofeed_cmd.proofs.LastLemmas.{reads_unput}
 use Rattle.geofeed_cmd.proofs.last.make_last.Goals as goal
@@ -147,3 +148,18 @@ returns-in-Census-clause-unput g c =
 
 pub returns-in-Census-clause-still : goal.returns-in-Census-clause-still
 returns-in-Census-clause-still g c = rw c.in-Census.is (λ name none. absurd (cc))
+
+pub returns-in-Publish-clause-leaves : goal.returns-in-Publish-clause-leaves
+returns-in-Publish-clause-leaves g c = rw c.in-Publish.is c.write_feed.ensures.published
+
+pub returns-in-Explain-clause-leaves : goal.returns-in-Explain-clause-leaves
+returns-in-Explain-clause-leaves g c =
+    rw c.in-Explain.is (λ then told clean. for_any c.print_why.result _ tt)
+
+pub returns-in-Check-clause-leaves : goal.returns-in-Check-clause-leaves
+returns-in-Check-clause-leaves g c =
+    rw c.in-Check.is (λ then told clean. for_any c.print_verdicts.result _ tt)
+
+pub returns-in-Census-clause-leaves : goal.returns-in-Census-clause-leaves
+returns-in-Census-clause-leaves g c =
+    rw c.in-Census.is (λ then told clean. for_any c.print_counts.result _ tt)

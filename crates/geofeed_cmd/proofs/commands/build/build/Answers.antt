@@ -19,6 +19,7 @@ returns-in-Ok g c =
             c.do_job.ensures.comes first (c.job_in.ensures.same ∙ told) (Some known) plan in
             comes_earlier c.do_job.result (Some known) first _ _ _ _ _
             c.job_in.ensures.put_faults (rw c.job_in.ensures.same at comes);
+        published = λ first told done. tt;
         ends = search (rules, status_causes);
       };
     }
@@ -35,6 +36,7 @@ returns-in-Err g c =
             (hindered_job known first c.args.name.now c.in-Err.why
             (map.get first.held c.args.name.now) (c.in-Err.ensures.none first told))
             (c.job_in.ensures.same ∙ told) c.stop_at.ensures.closed steps);
+        published = λ first told done. tt;
         ends = search (rules, status_causes);
       };
     }

@@ -30,6 +30,7 @@ returns g c =
             c.do_whole-status.ensures.comes first (Some (gen c.args.lines c.args.name.now)) start
             (ap (λ (l : List Step). planned (moves_of l) start) (sym list))
             (record { tells = told; aside = sym files; stands = begun }) refl refl;
+        published = λ first told done. tt;
         ends = record {
           words = λ is. absurd (c.do_whole-status.ensures.not_words is);
           none = λ none. absurd (cc);

@@ -25,6 +25,7 @@ returns-in-Ok-print g c = record {
         (g.O.Sink.faults c.print.new.out) steps)
         (g.F.Folder.put_faults c.args.folder.now) (g.F.Folder.put_faults c.answer_in.new.folder)
         plan (c.answer_in.ensures.same ∙ told) (omega arith) c.in-Ok-print.ensures.printed;
+    published = λ first told done. tt;
     ends = search (rules, status_causes);
   };
 }
@@ -46,6 +47,7 @@ returns-in-Ok g c = record {
         plan (c.answer_in.ensures.same ∙ told) (omega arith)
         c.in-Err-print.why c.in-Err-print.ensures.causes c.in-Err-print.ensures.tail
         (λ failed. c.in-Err-print.ensures.sink_failed (cc)));
+    published = λ first told done. tt;
     ends = search (rules, status_causes);
   };
 }
@@ -62,6 +64,7 @@ returns g c = record {
         (g.O.Sink.faults c.stop_at.new.out) steps)
         _ _ refl c.in-Err.why (c.in-Err.ensures.none first told)
         (c.answer_in.ensures.same ∙ told) c.stop_at.ensures.closed (omega arith));
+    published = λ first told done. tt;
     ends = search (rules, status_causes);
   };
 }

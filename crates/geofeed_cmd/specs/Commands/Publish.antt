@@ -1,4 +1,4 @@
--- The last move of `publish JOB BLOCK FILE`.
+-- `publish JOB BLOCK FILE`: the shortest feed of a block.
 use Rattle.std.specs.Prelude.{ℕ, List, length, None}
 use Rattle.geo_addr.specs.Ranges.{Prefix}
 use Rattle.mmdb_file.specs.FileImage.{record_tree}

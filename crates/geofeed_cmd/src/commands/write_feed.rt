@@ -1,23 +1,28 @@
-//! A feed, written, and its line, printed.
+//! The last move of `publish`: a feed, written, and its line, printed.
 ghost use Rattle.std.specs.Prelude.{◌≡◌, ◌⊎◌, ◌≤◌, ◌+◌, [], length, IfErr, IfOk, OnOk};
+ghost use Rattle.std.specs.Prelude.{Some};
+ghost use Rattle.geo_addr.specs.Ranges.{IsBlock};
 ghost use Rattle.geo_outside.specs.Count.{Rose};
+ghost use Rattle.geo_outside.specs.Files.{Told};
 ghost use Rattle.mmdb_file.specs.FileImage.{record_tree};
 ghost use Rattle.publish_least.specs.Lines.{IsPlain};
+ghost use Rattle.published.specs.CleanSources.{AreCleanSources};
 ghost use Rattle.published.specs.PlaceLines.{published, published_lines};
+ghost use Rattle.published.specs.Shortest.{IsShortestFeed};
 ghost use Rattle.update_session.specs.Calls.{HasEmitted, HasGrown, IsSpent};
 ghost use Rattle.update_session.specs.Touch.{bound};
 ghost use Rattle.job_run.specs.Acts.{effect, shows};
 ghost use Rattle.job_run.specs.Seen.{seen};
 ghost use Rattle.job_run.specs.Stops.{Does, Fails, IsIn, IsPaid};
 ghost use Rattle.job_run.specs.World.{World};
-ghost use Rattle.published.specs.Publishing.{publishing};
+ghost use Rattle.geofeed_cmd.specs.Commands.Publish.{publishing};
+ghost use Rattle.geofeed_cmd.specs.Run.Feeds.{HoldsFeed};
 
-use crate::line::printed_line;
-use crate::publication::{Publication, publish};
 use fan_work::Forks;
 use geo_addr::{Block, Memory};
 use geo_outside::{Folder, Gate, Sink, Steps};
 use job_run::{Cause, Stop, print, put};
+use published::{Publication, printed_line, publish};
 use std::marker::Sync;
 use std::sync::ledger::Ledger;
 use std::thread::Threads;
@@ -25,7 +30,7 @@ use update_session::laws::standing_stays;
 use update_session::{EmitFault, Session};
 
 /// Writes the shortest feed of a block under this name, and prints its line.
-pub fn write_feed<R: Threads + Sync, F: Folder, O: Sink, G: Gate, L: Ledger>(
+pub(crate) fn write_feed<R: Threads + Sync, F: Folder, O: Sink, G: Gate, L: Ledger>(
     forks: &Forks<'_, R, G>,
     block: Block,
     name: &str,
@@ -34,7 +39,8 @@ pub fn write_feed<R: Threads + Sync, F: Folder, O: Sink, G: Gate, L: Ledger>(
     out: &mut O,
     steps: &mut Steps<L>,
 ) -> Result<(), Stop>
-    requires { IsPlain block }
+    requires aligned { IsBlock block }
+    requires plain { IsPlain block }
     ensures done { (world : World) → IsIn [] (F.told folder.old) session.old world
         → OnOk result (Does (shows (publishing block name.now)) world session.new
         (seen (F.told folder.old) (O.written out.old) (O.faults out.old) steps.old)
@@ -47,6 +53,12 @@ pub fn write_feed<R: Threads + Sync, F: Folder, O: Sink, G: Gate, L: Ledger>(
         → IsPaid (effect (shows (publishing block name.now)) world) world steps.old steps.new }
     ensures causes { IfErr result (λ why. (why ≡ Stop.Blocked Cause.TooLarge)
         ⊎ ((why ≡ Stop.PutFailed) ⊎ ((why ≡ Stop.SinkFailed) ⊎ (why ≡ Stop.Memory)))) }
+
+    // The file holds the shortest feed of the block, which reads back.
+    ensures published { (then : Told) → F.told folder.old ≡ Some then
+        → AreCleanSources session.old.state.sources
+        → OnOk result
+        (HoldsFeed session.old.state.sources block name.now (F.told folder.new)) }
 
     ensures put_failed { result ≡ Err Stop.PutFailed
         → Rose (F.put_faults folder.old) (F.put_faults folder.new) }
@@ -80,11 +92,14 @@ fn feed_of<R: Threads + Sync, G: Gate, L: Ledger>(
     session: &mut Session,
     steps: &mut Steps<L>,
 ) -> Result<Publication, Stop>
-    requires { IsPlain block }
+    requires aligned { IsBlock block }
+    requires plain { IsPlain block }
     ensures text { IfOk result (λ feed. feed.text.items
         ≡ published (record_tree session.old.state.sources) block) }
     ensures lines { IfOk result (λ feed. feed.lines
         ≡ length (published_lines (record_tree session.old.state.sources) block)) }
+    ensures shortest { AreCleanSources session.old.state.sources → IfOk result
+        (λ feed. IsShortestFeed session.old.state.sources block feed.text.items) }
     ensures too_large { result ≡ Err (Stop.Blocked Cause.TooLarge) → IsSpent session.old }
     ensures causes { IfErr result
         (λ why. (why ≡ Stop.Blocked Cause.TooLarge) ⊎ (why ≡ Stop.Memory)) }

@@ -1,10 +1,13 @@
-use Rattle.std.proofs.Common.{◌∙◌, Err, ap, refl}
+-- What the writing of a feed leaves, and why it stops.
+use Rattle.std.proofs.Common.{◌∙◌, Err, ap, refl, subst, sym}
 use Rattle.published.specs.FeedText.{printed_line}
+use Rattle.published.specs.Shortest.{IsShortestFeed}
 use Rattle.job_run.specs.Seen.{seen}
 use Rattle.job_run.proofs.ActLemmas.{for_both, for_ok}
-use Rattle.published.proofs.MoveLemmas.{does_feed, fails_early, fails_print, fails_put}
-use Rattle.published.proofs.MoveLemmas.{paid_feed}
-use Rattle.published.proofs.writing.write_feed.Goals as goal
+use Rattle.geofeed_cmd.proofs.FeedLemmas.{for_any, holds_feed}
+use Rattle.geofeed_cmd.proofs.FeedMoves.{does_feed, fails_early, fails_print, fails_put}
+use Rattle.geofeed_cmd.proofs.FeedMoves.{paid_feed}
+use Rattle.geofeed_cmd.proofs.commands.write_feed.write_feed.Goals as goal
 
 pub returns-in-Ok-put-clause-done : goal.returns-in-Ok-put-clause-done
 returns-in-Ok-put-clause-done g c world here =
@@ -18,6 +21,15 @@ returns-in-Ok-put-clause-done g c world here =
     (c.as_str.ensures ∙ c.in-Ok-printed_line.ensures
     ∙ ap (printed_line c.args.name.now) c.in-Ok.ensures.lines)
     c.feed_of.new.session c.in-Ok-put.ensures.ok c.feed_of.ensures.grown c.in-Ok.ensures.done)
+
+pub returns-in-Ok-put-clause-published : goal.returns-in-Ok-put-clause-published
+returns-in-Ok-put-clause-published g c then told clean =
+    let bytes = c.as_slice.result.now in
+    let feed = subst (IsShortestFeed c.args.session.now.state.sources c.args.block)
+    (sym c.as_slice.ensures.value) (c.in-Ok.ensures.shortest clean) in
+    for_any c.print.result _
+    (holds_feed c.args.session.now.state.sources c.args.block c.args.name.now bytes then
+    (g.F.Folder.told c.put.new.folder) (c.in-Ok-put.ensures.ok then told) feed)
 
 pub returns-in-Ok-put-clause-failed : goal.returns-in-Ok-put-clause-failed
 returns-in-Ok-put-clause-failed g c world here =

@@ -19,7 +19,7 @@ use Rattle.job_run.specs.Seen.{Seen, Prints}
 use Rattle.job_run.specs.Stops.{Does, Fails, Halts, IsIn, IsPaid, IsUnprinted, Tail}
 use Rattle.job_run.specs.World.{World}
 use Rattle.job_run.proofs.ActLemmas.{prints_none}
-use Rattle.published.specs.Publishing.{publishing}
+use Rattle.geofeed_cmd.specs.Commands.Publish.{publishing}
 
 module _ (stays : StandingStays) (world : World) (block : Prefix) (name : List ℕ) (session : Held)
     (old new : Seen) (here : IsIn [] old.told session world) where
