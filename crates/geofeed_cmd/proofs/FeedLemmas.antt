@@ -22,7 +22,7 @@ use Rattle.published.specs.CleanSources.{AreCleanSources}
 use Rattle.published.specs.Shortest.{IsShortestFeed}
 use Rattle.geofeed_cmd.specs.declared.last.Last.{Last}
 use Rattle.geofeed_cmd.specs.declared.last.Last.TheVariants.{Explain, Publish, Check, Census}
-use Rattle.geofeed_cmd.specs.Commands.Last.{Leaves, ending_with, last_move}
+use Rattle.geofeed_cmd.specs.Commands.Last.{LeavesBehind, ending_with, last_move}
 use Rattle.geofeed_cmd.specs.Commands.Publish.{publishing}
 use Rattle.geofeed_cmd.specs.Run.Feeds.{HoldsFeed, LeavesFeed, PublishesFeed}
 use Rattle.geofeed_cmd.specs.Run.Plans.{Reaches, plan_of, planned}
@@ -81,7 +81,7 @@ pub leaves_last : (name : List ℕ) (last : Last) (first : Told) (steps : List S
     ≡ planned (source_moves steps ++ last_move last ∷ []) start
     → (session : Held) (old mid : Seen) → DoesAll (source_moves steps) start session old mid
     → (told : Option Told)
-    → (AreCleanSources session.state.sources → Leaves last session.state.sources told)
+    → (AreCleanSources session.state.sources → LeavesBehind last session.state.sources told)
     → PublishesFeed (Some (ending_with name last)) first told
 leaves_last name (Explain address) first steps start plan session old mid all told leaves = tt
 leaves_last name (Publish block file) first steps start plan session old mid all told leaves =

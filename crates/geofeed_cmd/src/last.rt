@@ -10,7 +10,7 @@ ghost use Rattle.job_run.specs.Seen.{seen};
 ghost use Rattle.job_run.specs.Stops.{Does, Fails, IsIn, IsPaid};
 ghost use Rattle.job_run.specs.World.{World};
 ghost use Rattle.published.specs.CleanSources.{AreCleanSources};
-ghost use Rattle.geofeed_cmd.specs.Commands.Last.{HasFeed, Leaves, ending_with, last_effect};
+ghost use Rattle.geofeed_cmd.specs.Commands.Last.{HasFeed, LeavesBehind, ending_with, last_effect};
 ghost use Rattle.geofeed_cmd.specs.Commands.Last.{last_move, name_in};
 ghost use Rattle.geofeed_cmd.specs.Run.Answers.{Comes};
 ghost use Rattle.geofeed_cmd.specs.Run.Ends.{Concludes, Signs, around};
@@ -154,7 +154,7 @@ fn make_last<R: Threads + Sync, F: Folder, O: Sink, G: Gate, L: Ledger>(
         → IsPaid (last_effect last.now world) world steps.old steps.new }
     ensures leaves { (then : Told) → F.told folder.old ≡ Some then
         → AreCleanSources session.old.state.sources
-        → OnOk result (Leaves last.now session.old.state.sources (F.told folder.new)) }
+        → OnOk result (LeavesBehind last.now session.old.state.sources (F.told folder.new)) }
 
     ensures reads_nothing { IfErr result (λ why. (why ≢ Stop.ReadFailed)
         × (why ≢ Stop.Blocked Cause.Missing) × (why ≢ Stop.Blocked Cause.Words)) }

@@ -1,5 +1,5 @@
 -- The move with which a command ends behind the sources of its job.
-use Rattle.std.specs.Prelude.{◌×◌, ℕ, List, [], Option}
+use Rattle.std.specs.Prelude.{ℕ, List, [], Option}
 use Rattle.geo_addr.specs.Ranges.{IsBlock}
 use Rattle.geo_outside.specs.Files.{Told}
 use Rattle.geo_terms.specs.Sources.{InForce}
@@ -47,8 +47,8 @@ HasFeed (Check url) = Unit {0}
 HasFeed Census = Unit {0}
 
 -- what it leaves in the folder by these sources
-abbrev pub Leaves : Last → InForce → (told : Option Told) → Type 0
-Leaves (Explain address) s told = Unit {0}
-Leaves (Publish block file) s told = HoldsFeed s block file.now told
-Leaves (Check url) s told = Unit {0}
-Leaves Census s told = Unit {0}
+abbrev pub LeavesBehind : Last → InForce → (told : Option Told) → Type 0
+LeavesBehind (Explain address) s told = Unit {0}
+LeavesBehind (Publish block file) s told = HoldsFeed s block file.now told
+LeavesBehind (Check url) s told = Unit {0}
+LeavesBehind Census s told = Unit {0}
