@@ -68,6 +68,12 @@ first_number t =
     let (more, e) = seen_first same_answer answer_equality (None ∷ []) (leaves t) in
     ap (λ xs. number_in xs None) e
 
+-- the number of no place stands for none
+pub no_place : (t : Tree (Option PlaceParts)) → numbered (answers t) 0 ≡ None
+no_place t =
+    let (more, e) = seen_first same_answer answer_equality (None ∷ []) (leaves t) in
+    ap (λ xs. numbered xs 0) e
+
 map_twice : {A B C : Type 0} (g : B → C) (f : A → B) (t : Tree A)
     → map_tree g (map_tree f t) ≡ map_tree (λ x. g (f x)) t
 map_twice g f (leaf a) = refl

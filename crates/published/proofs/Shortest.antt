@@ -27,7 +27,7 @@ use Rattle.publish_least.proofs.Whole.{least_answers, least_fewest, least_inside
 use Rattle.published.specs.PlaceLines.{answers, number_in, numbered, published, published_feed}
 use Rattle.published.specs.PlaceLines.{published_lines}
 use Rattle.published.specs.Shortest.{IsShortestFeed, PublishedIsShortest, SayAs}
-use Rattle.published.proofs.Numbering.{finds, first_number}
+use Rattle.published.proofs.Numbering.{finds, first_number, no_place}
 use Rattle.published.proofs.Renumber.{relabelled}
 
 -- ---- the answer of lines with other numbers
@@ -156,6 +156,7 @@ module _ (s : InForce) (within : Prefix) (block : IsBlock within) (plain : IsPla
 
 pub published_is_shortest : PublishedIsShortest
 published_is_shortest s within block plain = record {
+  none = no_place (record_tree s);
   inside = inside s within block plain;
   say = say s within block plain;
   fewest = fewest s within block plain;

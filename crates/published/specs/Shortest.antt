@@ -17,10 +17,11 @@ abbrev pub SayAs : (ℕ → Option PlaceParts) → Prefix → (ℕ → Option Pl
 SayAs wanted within place_of lines =
     (a : ℕ) → IsWithin (range_of_block within) a → place_of (answer lines a) ≡ wanted a
 
--- so these lines inside the block do, and no list of lines inside it, of whatever places, that does
--- so is shorter
+-- so these lines inside the block do, where an address outside of all lines has no place, and no
+-- list of lines inside the block, of whatever places, that does so is shorter
 pub record AreShortest (wanted : ℕ → Option PlaceParts) (within : Prefix)
     (place_of : ℕ → Option PlaceParts) (lines : List Line) : Type 0 where
+  pub none : place_of 0 ≡ None
   pub inside : AreInside within lines
   pub say : SayAs wanted within place_of lines
   pub fewest : (other : ℕ → Option PlaceParts) (others : List Line) → other 0 ≡ None
