@@ -1,12 +1,13 @@
 #!/usr/bin/env bash
-# `run` promises all that `run_told` promises, which `main` calls: their clauses have the same names
-# and the same texts, in the same order. And docs/inside/PROVED.md has a row for each.
+# All that `run` promises is proved from the one clause of `run_told`, which `main` calls: the
+# record of what holds of an answer. For the body of `run` is one call of it.
+# And docs/inside/PROVED.md has a row for each clause of `run`.
 set -u
 cd "$(dirname "${BASH_SOURCE[0]}")/.." || exit 1
 . checks/words.bash
 file=crates/geofeed_cmd/src/command.rt
 
-# clauses NAME: the clauses of this function, without comments and blank lines.
+# clauses NAME, body NAME: those of this function, without comments and blank lines.
 clauses() {
     awk -v begins="^pub fn $1<" '
         $0 ~ begins { inside = 1 }
@@ -15,10 +16,24 @@ clauses() {
         inside && clause && !/^ *(\/\/.*)?$/
     ' "$file"
 }
+body() {
+    awk -v begins="^pub fn $1<" '
+        $0 ~ begins { inside = 1 }
+        inside && /^\}/ { exit }
+        inside && body && !/^ *(\/\/.*)?$/
+        inside && /^\{/ { body = 1 }
+    ' "$file"
+}
 
 counted 18 "$(clauses run | grep -c '^    ensures')" "clauses of run"
-differ=$(diff <(clauses run) <(clauses run_told)) \
-    || fail "run and run_told promise different things: $differ"
+over='    let mut journal = Journal::new(alloc);
+    run_told(rt, alloc, words, folder, out, gate, steps, &mut journal)'
+[ "$(body run)" = "$over" ] || fail "run is not one call of run_told: $(body run)"
+told='    ensures leaves { Concludes result (command_of (map string_bytes words.now))
+        (around F.Folder O.Sink folder.old out.old steps.old)
+        (around F.Folder O.Sink folder.new out.new steps.new) }'
+[ "$(clauses run_told)" = "$told" ] \
+    || fail "run_told does not promise the record of an answer alone: $(clauses run_told)"
 
 while read -r clause; do
     grep -qE "^\| [^|]*\`$clause\`[^|]* \|" docs/inside/PROVED.md \

@@ -38,12 +38,6 @@ closes-after old mid new faults faults_mid faults_now text line printed closed r
       ]
     ]
 
--- no line
-pub closes-nothing : (old new : Option (List ℕ)) (faults faults_now : ℕ) → new ≡ old
-    → Closes old new faults faults_now [] []
-closes-nothing old new faults faults_now same before was =
-    inl (same ∙ was ∙ ap Some (sym (append-nil before)))
-
 -- a line that is left out
 pub closes-unwritten : (old new : Option (List ℕ)) (faults faults_now : ℕ) (line : List ℕ)
     → new ≡ old → Closes old new faults faults_now [] line

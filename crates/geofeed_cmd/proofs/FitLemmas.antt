@@ -28,7 +28,7 @@ use Rattle.job_run.specs.Moves.{alone, most_together, moves_from, sets_feed, tak
 use Rattle.job_run.specs.Sources.{crowded, entries_of, file_named, is_there, no_source, rows_of}
 use Rattle.job_run.specs.Sources.{settings_of, uncounted, unreadable, unusable}
 use Rattle.job_run.specs.World.{World, file_in, printing}
-use Rattle.published.specs.Publishing.{publishing}
+use Rattle.geofeed_cmd.specs.Commands.Publish.{publishing}
 use Rattle.geofeed_cmd.specs.Commands.Census.{counting as census_of}
 use Rattle.geofeed_cmd.specs.Commands.Check.{checking, no_feed}
 use Rattle.geofeed_cmd.specs.Commands.Explain.{explaining}

@@ -1,24 +1,25 @@
 -- How a command's answer follows from its last move, behind the sources of its job.
 use Rattle.std.proofs.Common.{◌≡◌, ℕ, zero, suc, ◌+◌, ◌≤◌, ◌⊎◌, inl, inr, List, [], ◌∷◌, ◌++◌}
-use Rattle.std.proofs.Common.{length, take, refl, sym}
+use Rattle.std.proofs.Common.{length, take, refl, sym, ◌≢◌}
 use Rattle.std.proofs.Common.{◌∙◌, ap, subst, arith, append_assoc}
 use Rattle.std.proofs.lemmas.List.{take-append-le}
 use Rattle.std.proofs.lemmas.Option.{slice_get_within}
 use Rattle.std.proofs.Math.Seq.{take-append_seam}
-use Rattle.std.specs.Prelude.{Option, Some, slice_get}
+use Rattle.std.specs.Prelude.{Option, Some, slice_get, Result, Ok, Err, IfErr}
 use Rattle.geo_outside.specs.Count.{Rose}
 use Rattle.geo_outside.specs.Files.{Told}
 use Rattle.trie_core.proofs.StoreLemmas.{slice_get-append, slice_get_last}
 use Rattle.update_session.specs.Kept.{Held}
 use Rattle.job_lines.specs.Commands.{Command}
 use Rattle.job_run.specs.declared.stop.Cause.{Cause}
+use Rattle.job_run.specs.declared.stop.Cause.TheVariants as causes
 use Rattle.job_run.specs.declared.stop.Stop.{Stop}
 use Rattle.job_run.specs.declared.stop.Stop.TheVariants as stops
 use Rattle.job_run.specs.Acts.{Move, shows, after, effect, line_of}
 use Rattle.job_run.specs.Course.{course, ended, unless, go_on, IsAt}
 use Rattle.job_run.specs.Published.{Publishes}
 use Rattle.job_run.specs.Seen.{Seen, seen, Prints}
-use Rattle.job_run.specs.Stops.{Does, DoesAll, Fails, Halts, IsPaid, Tail}
+use Rattle.job_run.specs.Stops.{Does, DoesAll, Fails, Halts, IsIn, IsPaid, Tail}
 use Rattle.job_run.specs.World.{World, printing}
 use Rattle.job_run.proofs.CourseLemmas.{course-append}
 use Rattle.geofeed_cmd.specs.Run.Answers.{Comes, IsDone}
@@ -26,7 +27,7 @@ use Rattle.geofeed_cmd.specs.Run.Closes.{Closes}
 use Rattle.geofeed_cmd.specs.Run.Lines.{status_of, stop_line}
 use Rattle.geofeed_cmd.specs.Run.Plans.{plan_of, planned}
 use Rattle.geofeed_cmd.proofs.AnswerLemmas.{at_planned, by_cause}
-use Rattle.geofeed_cmd.proofs.CloseLemmas.{append-nil, closes-nothing, leaves, no-line}
+use Rattle.geofeed_cmd.proofs.CloseLemmas.{append-nil, leaves}
 
 -- a move of a list is one of the list with more behind it
 pub at_longer : (moves more : List Move) (start : World) (count : ℕ) (move : Move) (world : World)
@@ -40,8 +41,8 @@ at_longer moves more start count move world there =
     }
 
 -- the move behind a list
-at_last : (moves : List Move) (last : Move) (start world : World) → course moves start ≡ ended world
-    → IsAt (moves ++ last ∷ []) start (length moves) last world
+pub at_last : (moves : List Move) (last : Move) (start world : World)
+    → course moves start ≡ ended world → IsAt (moves ++ last ∷ []) start (length moves) last world
 at_last moves last start world done = record {
   done = ap (λ (ms : List Move). course ms start) (take-append_seam moves (last ∷ [])) ∙ done;
   next = slice_get_last moves last;
@@ -69,14 +70,6 @@ tail_more stops.SinkFailed old mid new text part first tail = λ before was.
     let p = tail (before ++ text) (first before was) in
     (p.0, p.1 ∙ ap Some (append_assoc before text (take p.0 part)))
 tail_more stops.Memory old mid new text part first tail = prints_still old mid new text first tail
-
--- a move that puts nothing does not stop at a put
-pub puts_nothing : (cause : Cause) (why : Stop)
-    → (why ≡ stops.Blocked cause) ⊎ ((why ≡ stops.SinkFailed) ⊎ (why ≡ stops.Memory))
-    → why ≡ stops.PutFailed → ⊥
-puts_nothing cause why (inl blocks) put = cc
-puts_nothing cause why (inr (inl failed)) put = cc
-puts_nothing cause why (inr (inr out)) put = cc
 
 -- a position in a list with one member more: it is one of the list's, or the last
 pub data Position (moves : List Move) (last : Move) (count : ℕ) (move : Move) : Type 0 where
@@ -157,60 +150,63 @@ module _ (command : Option Command) (first : Told) (moves : List Move) (last : M
       (leaves why last all.world old now new.written new.print_faults line is printed closed rises)
       steps put sink
 
--- the last move only prints
-module _ (text : World → List ℕ) (command : Option Command) (first : Told) (moves : List Move)
-    (start : World)
-    (plan : plan_of first command
-    ≡ planned (moves ++ shows (λ world. printing (text world) world) ∷ []) start)
-    (unspent : start.session.spent ≡ 0) (session : Held) (old mid : Seen)
-    (all : DoesAll moves start session old mid)
-    (new : Seen) (told : new.told ≡ mid.told) (steps : new.steps ≡ mid.steps) where
+-- a last move that only prints
+module _ (text : World → List ℕ) (world : World) (session : Held) (old new : Seen)
+    (here : IsIn [] old.told session world) (same : new.told ≡ old.told) where
   abbrev shown : Move
-  shown = shows (λ world. printing (text world) world)
+  shown = shows (λ w. printing (text w) w)
 
-  paid : IsPaid (effect shown all.world) all.world mid.steps new.steps
-  paid = omega (arith, steps)
+  pub does_shown : Prints old.written new.written (text world) → Does shown world session old new
+  does_shown printed = record {
+    free = refl;
+    now = record { tells = same ∙ here.tells; aside = refl; stands = here.stands };
+    printed = printed;
+    published = tt;
+  }
 
-  pub comes_shown : Prints mid.written new.written (text all.world) → IsDone command first old new
-  comes_shown printed =
-      comes_last command first moves shown start plan unspent session old mid all session new paid
-      (record {
-        free = refl;
-        now = record { tells = told ∙ all.stands.tells; aside = refl; stands = all.stands.stands };
-        printed = printed;
-        published = tt;
-      })
-
-  fails : (why : Stop) → (why ≡ stops.SinkFailed) ⊎ (why ≡ stops.Memory)
-      → Tail why [] (text all.world) mid.written new.written → Fails why shown all.world [] mid new
-  fails why causes tail = record {
+  pub fails_shown : (why : Stop) → (why ≡ stops.SinkFailed) ⊎ (why ≡ stops.Memory)
+      → Tail why [] (text world) old.written new.written → Fails why shown world [] old new
+  fails_shown why causes tail = record {
     files = elim causes [
-      | inl failed ↦ subst (λ w. Halts w shown all.world new.told) (sym failed)
-          (record { prints = tt; free = refl; files = told ∙ all.stands.tells })
+      | inl failed ↦ subst (λ w. Halts w shown world new.told) (sym failed)
+          (record { prints = tt; free = refl; files = same ∙ here.tells })
       | inr out ↦
-          subst (λ w. Halts w shown all.world new.told) (sym out) (inl (told ∙ all.stands.tells))
+          subst (λ w. Halts w shown world new.told) (sym out) (inl (same ∙ here.tells))
     ];
     printed = tail;
   }
 
-  no-line-of : (why : Stop)
-      → (why ≡ stops.SinkFailed) ⊎ (why ≡ stops.Memory) → [] ≡ stop_line why 0 []
-  no-line-of why causes = elim causes [
-    | inl failed ↦ sym (ap (λ w. stop_line w 0 []) failed ∙ (no-line 0 []).0)
-    | inr out ↦ sym (ap (λ w. stop_line w 0 []) out ∙ (no-line 0 []).1)
-  ]
+-- a last move that stops for one of these causes reads nothing
+pub reads_nothing : (cause : Cause) → cause ≢ causes.Missing → cause ≢ causes.Words → (why : Stop)
+    → (why ≡ stops.Blocked cause)
+    ⊎ ((why ≡ stops.PutFailed) ⊎ ((why ≡ stops.SinkFailed) ⊎ (why ≡ stops.Memory)))
+    → (why ≢ stops.ReadFailed) × (why ≢ stops.Blocked causes.Missing)
+    × (why ≢ stops.Blocked causes.Words)
+reads_nothing cause there words why (inl blocks) =
+    ((λ is. cc), (λ is. there (cc)), (λ is. words (cc)))
+reads_nothing cause there words why (inr (inl put)) = ((λ is. cc), (λ is. cc), (λ is. cc))
+reads_nothing cause there words why (inr (inr (inl sink))) =
+    ((λ is. cc), (λ is. cc), (λ is. cc))
+reads_nothing cause there words why (inr (inr (inr memory))) =
+    ((λ is. cc), (λ is. cc), (λ is. cc))
 
-  pub comes_unshown : (why : Stop) → (why ≡ stops.SinkFailed) ⊎ (why ≡ stops.Memory)
-      → Tail why [] (text all.world) mid.written new.written → old.print_faults ≤ new.print_faults
-      → (puts puts_now : ℕ) → (why ≡ stops.SinkFailed → Rose old.print_faults new.print_faults)
-      → Comes (status_of why) command first old new puts puts_now
-  comes_unshown why causes tail rises puts puts_now sink =
-      comes_unmade command first moves shown start plan unspent session old mid all why
-      new new.written
-      new.print_faults [] (no-line-of why causes) paid (fails why causes tail)
-      (closes-nothing new.written new.written new.print_faults new.print_faults refl) rises
-      puts puts_now
-      (λ put. absurd (elim causes [
-        | inl failed ↦ (let a = put in let b = failed in cc)
-        | inr out ↦ (let a = put in let b = out in cc)
-      ])) sink
+-- a last move that puts nothing stops for one of these
+abbrev pub Unput : Cause → Stop → Type 0
+Unput cause why =
+    (why ≡ stops.Blocked cause) ⊎ ((why ≡ stops.SinkFailed) ⊎ (why ≡ stops.Memory))
+
+pub reads_unput : (cause : Cause) → cause ≢ causes.Missing → cause ≢ causes.Words → (why : Stop)
+    → Unput cause why
+    → (why ≢ stops.ReadFailed) × (why ≢ stops.Blocked causes.Missing)
+    × (why ≢ stops.Blocked causes.Words)
+reads_unput cause there words why (inl blocks) =
+    reads_nothing cause there words why (inl blocks)
+reads_unput cause there words why (inr more) =
+    reads_nothing cause there words why (inr (inr more))
+
+pub not_put : (cause : Cause) (result : Result (Unit {0}) Stop) → IfErr result (Unput cause)
+    → result ≢ Err stops.PutFailed
+not_put cause (Ok done) causes is = cc
+not_put cause (Err why) (inl blocks) is = cc
+not_put cause (Err why) (inr (inl sink)) is = cc
+not_put cause (Err why) (inr (inr memory)) is = cc

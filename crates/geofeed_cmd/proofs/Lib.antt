@@ -2,11 +2,15 @@ pub mod AnswerLemmas
 pub mod CauseLemmas
 pub mod CensusLemmas
 pub mod CheckLemmas
+pub mod CleanWorlds
 pub mod CloseLemmas
 pub mod CountryLemmas
+pub mod FeedLemmas
+pub mod FeedMoves
 pub mod FitLemmas
 pub mod GenEndLemmas
 pub mod HeadlineLemmas
+pub mod LastCommands
 pub mod LastLemmas
 pub mod LookupAnswers
 pub mod LookupEndsLemmas

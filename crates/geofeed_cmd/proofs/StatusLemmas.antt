@@ -73,25 +73,21 @@ write_status PutFailed is = inl refl
 write_status SinkFailed is = inr refl
 write_status Memory is = absurd (cc)
 
--- what stops the last move of `publish` has none of these statuses
-pub feed_status : (why : Stop) → (why ≡ Blocked TooLarge)
-    ⊎ ((why ≡ PutFailed) ⊎ ((why ≡ SinkFailed) ⊎ (why ≡ Memory)))
-    → (status_of why ≢ statuses.Words)
-    × ((status_of why ≢ statuses.ReadFault) × (status_of why ≢ statuses.Missing))
-feed_status why causes =
-    elim causes [
-      | inl large ↦ let e : status_of why ≡ statuses.TooLarge = ap status_of large in
-          (λ is. absurd (cc), (λ is. absurd (cc), λ is. absurd (cc)))
-      | inr more ↦ elim more [
-        | inl put ↦ let e : status_of why ≡ statuses.WriteFault = ap status_of put in
-            (λ is. absurd (cc), (λ is. absurd (cc), λ is. absurd (cc)))
-        | inr last ↦ elim last [
-          | inl sink ↦ let e : status_of why ≡ statuses.WriteFault = ap status_of sink in
-              (λ is. absurd (cc), (λ is. absurd (cc), λ is. absurd (cc)))
-          | inr memory ↦ let e : status_of why ≡ statuses.Memory = ap status_of memory in
-              (λ is. absurd (cc), (λ is. absurd (cc), λ is. absurd (cc)))
-        ]
-      ]
-    ]
+-- no stop is `Done`
+pub not_done : (why : Stop) → status_of why ≢ statuses.Done
+not_done (Blocked Words) is = cc
+not_done (Blocked Missing) is = cc
+not_done (Blocked (Job fault)) is = cc
+not_done (Blocked TooLong) is = cc
+not_done (Blocked TooMany) is = cc
+not_done (Blocked NotThere) is = cc
+not_done (Blocked NoMark) is = cc
+not_done (Blocked NoFeed) is = cc
+not_done (Blocked TooLarge) is = cc
+not_done (Blocked (File fault)) is = cc
+not_done ReadFailed is = cc
+not_done PutFailed is = cc
+not_done SinkFailed is = cc
+not_done Memory is = cc
 
 pub ruleset status_causes = (read_status, missing_status, words_status, write_status)

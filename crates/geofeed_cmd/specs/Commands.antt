@@ -2,3 +2,5 @@
 pub mod Census
 pub mod Check
 pub mod Explain
+pub mod Last
+pub mod Publish

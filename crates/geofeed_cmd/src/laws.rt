@@ -1,5 +1,6 @@
 //! Laws over the definitions of commands alone, as functions that do nothing:
 //! what each ensures is the law.
+ghost use Rattle.geofeed_cmd.specs.Run.CleanWorlds.{SourcesAreClean};
 ghost use Rattle.geofeed_cmd.specs.Run.LookupEnds.{LookupEndsByCases};
 ghost use Rattle.geofeed_cmd.specs.Run.Pieces.{PiecesChangeNothing};
 
@@ -18,3 +19,9 @@ pub fn pieces_change_nothing()
 {
     accepted_job_says_its_lines();
 }
+
+/// In each world that a command reaches the sources are clean: each place that they name can stand
+/// in a feed.
+pub fn sources_are_clean()
+    ensures { SourcesAreClean }
+{}

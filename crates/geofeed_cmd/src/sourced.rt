@@ -1,6 +1,7 @@
 //! The sources of a job, set before a command goes on with them.
 ghost use Rattle.std.specs.Prelude.{◌≡◌, ◌⊎◌, ◌≤◌, ◌<◌, ◌≢◌, ◌+◌, [], ◌∷◌, ◌++◌, IfErr, IfOk};
 ghost use Rattle.std.specs.Prelude.{Option, Some, length, slice_get};
+ghost use Rattle.fan_work.specs.declared.forks.TheConstants.{MOST_PIECES};
 ghost use Rattle.geo_outside.specs.Count.{Rose};
 ghost use Rattle.geo_outside.specs.Files.{Told};
 ghost use Rattle.job_run.specs.Seen.{seen};
@@ -31,6 +32,20 @@ use std::thread::Threads;
 use update_session::Session;
 use update_session::laws::standing_stays;
 
+/// The same threads, memory and gate for work in so many pieces.
+pub(crate) fn by_pieces<'a, R, G>(forks: &Forks<'a, R, G>, pieces: u32) -> Forks<'a, R, G>
+    requires some { 0 < pieces }
+    requires few { pieces ≤ MOST_PIECES }
+    ensures { result.pieces ≡ pieces }
+{
+    Forks {
+        rt: forks.rt,
+        alloc: forks.alloc,
+        gate: forks.gate,
+        pieces,
+    }
+}
+
 /// A session in which the lines of a job were done that set and drop sources, mark, and go back; or
 /// the status of the command, whose stop line was printed.
 pub(crate) fn sources_of<R: Threads + Sync, F: Folder, O: Sink, G: Gate, L: Ledger>(
@@ -53,6 +68,7 @@ pub(crate) fn sources_of<R: Threads + Sync, F: Folder, O: Sink, G: Gate, L: Ledg
         (seen (F.told folder.old) (O.written out.old) (O.faults out.old) steps.old)
         (seen (F.told folder.new) (O.written out.new) (O.faults out.new) steps.new)
         (F.put_faults folder.old) (F.put_faults folder.new)) }
+    ensures not_done { result ≢ Err Status.Done }
     ensures not_words { result ≢ Err Status.Words }
     ensures read { result ≡ Err Status.ReadFault
         → Rose (F.read_faults folder.old) (F.read_faults folder.new) }

@@ -1,14 +1,14 @@
 -- The record of clean sources is clean.
-use Rattle.std.proofs.Common.{◌≡◌, ℕ, zero, suc, ◌+◌, ◌^◌, Bool, true, false, cond, All, List, []}
-use Rattle.std.proofs.Common.{◌∷◌, ◌++◌, filter, find, flat_map, fold, Option, None, Some}
-use Rattle.std.proofs.lemmas.List.Elements.{All-head, All-tail}
-use Rattle.geo_addr.specs.Ranges.{Ends, holds}
+use Rattle.std.proofs.Common.{ℕ, zero, suc, ◌+◌, ◌^◌, Bool, true, false, cond, List, []}
+use Rattle.std.proofs.Common.{◌∷◌, find, fold, Option, None, Some}
+use Rattle.std.specs.List.{AllByRecursion as Each}
+use Rattle.geo_addr.specs.Ranges.{holds}
 use Rattle.geo_terms.specs.Alias.{home}
 use Rattle.geo_terms.specs.DelegationForm.{DelegationParts}
 use Rattle.geo_terms.specs.First.{better, first_of}
-use Rattle.geo_terms.specs.PlaceForm.{PlaceParts, same_text}
+use Rattle.geo_terms.specs.PlaceForm.{same_text}
 use Rattle.geo_terms.specs.Precedence.{chosen, delegation_before, entries_within, entry_before}
-use Rattle.geo_terms.specs.Precedence.{entry_of, first_delegation, first_override, lies_within}
+use Rattle.geo_terms.specs.Precedence.{entry_of, first_delegation, first_override}
 use Rattle.geo_terms.specs.Precedence.{override_before, record_at, speaker, speaking_entry}
 use Rattle.geo_terms.specs.Precedence.{spoken_at}
 use Rattle.geo_terms.specs.SourceForm.{FeedParts}
@@ -23,35 +23,7 @@ use Rattle.csv_lines.specs.Clean.{IsCleanPlace, IsCleanSaid}
 use Rattle.mmdb_file.specs.FileImage.{record_tree, same_answer}
 use Rattle.published.specs.CleanSources.{AreCleanSources, CleanSourcesMakeCleanRecords}
 use Rattle.published.specs.Reread.{IsCleanAt}
-
-abbrev Each : {X : Type 0} → (X → Type 0) → List X → Type 0
-Each P [] = Unit {0}
-Each P (x ∷ xs) = P x × Each P xs
-
-abbrev IfAny : {X : Type 0} → (X → Type 0) → Option X → Type 0
-IfAny P None = Unit {0}
-IfAny P (Some x) = P x
-
-each_from_all : {X : Type 0} (P : X → Type 0) (xs : List X) → All P xs → Each P xs
-each_from_all P [] all = tt
-each_from_all P (x ∷ xs) all = (All-head P x xs all, each_from_all P xs (All-tail P x xs all))
-
-each_filter : {X : Type 0} (P : X → Type 0) (q : X → Bool) (xs : List X) → Each P xs
-    → Each P (filter q xs)
-each_filter P q [] e = tt
-each_filter P q (x ∷ xs) e = by (q x) (each_filter P q xs e.1)
-  where
-    by : (b : Bool) → Each P (filter q xs) → Each P (cond b (x ∷ filter q xs) (filter q xs))
-    by true more = (e.0, more)
-    by false more = more
-
-each_front : {X : Type 0} (P : X → Type 0) (xs ys : List X) → Each P (xs ++ ys) → Each P xs
-each_front P [] ys e = tt
-each_front P (x ∷ xs) ys e = (e.0, each_front P xs ys e.1)
-
-each_back : {X : Type 0} (P : X → Type 0) (xs ys : List X) → Each P (xs ++ ys) → Each P ys
-each_back P [] ys e = e
-each_back P (x ∷ xs) ys e = each_back P xs ys e.1
+use Rattle.published.proofs.EachLemmas.{IfAny, each_filter, each_flat}
 
 -- the first of members that pass passes
 module _ {X : Type 0} (P : X → Type 0) (before : X → X → Bool) where
@@ -73,16 +45,14 @@ module _ {X : Type 0} (P : X → Type 0) (before : X → X → Bool) where
   first_passes xs all = fold_passes xs None tt all
 
 found_entries : (P : Entry → Type 0) (q : FeedParts → Bool) (fs : List FeedParts)
-    → Each P (flat_map (λ f. f.entries) fs) → Each P (entries_in (find q fs))
+    → Each (λ f. Each P f.entries) fs → Each P (entries_in (find q fs))
 found_entries P q [] all = tt
-found_entries P q (f ∷ fs) all =
-    by (q f) (each_front P f.entries (flat_map (λ f. f.entries) fs) all)
-    (found_entries P q fs (each_back P f.entries (flat_map (λ f. f.entries) fs) all))
+found_entries P q (f ∷ fs) all = by (q f) (found_entries P q fs all.1)
   where
-    by : (b : Bool) → Each P f.entries
+    by : (b : Bool)
         → Each P (entries_in (find q fs)) → Each P (entries_in (cond b (Some f) (find q fs)))
-    by true one more = one
-    by false one more = more
+    by true more = all.0
+    by false more = more
 
 -- ---- an address
 
@@ -113,20 +83,19 @@ module _ (s : InForce) (clean : AreCleanSources s) where
   entry_clean (Some r) a =
       let es = entries_in (feed_of s r.url) in
       first_passes IsCleanEntry entry_before (entries_within es r.range a)
-      (each_filter IsCleanEntry (λ e. _) es (found_entries IsCleanEntry
-      (λ f. same_text f.url r.url) s.feeds (each_from_all IsCleanEntry _ clean.entries)))
+      (each_filter IsCleanEntry (λ e. _) es
+      (found_entries IsCleanEntry (λ f. same_text f.url r.url) s.feeds clean.feeds))
 
   spoken_clean : (a : ℕ) → IsCleanAt (spoken_at s a)
   unfolding spoken_at speaking_entry first_override first_delegation
   spoken_clean a =
       chosen_clean (first_override s a) (speaking_entry s a) (first_delegation s a)
       (first_passes (λ o. IsCleanSaid o.said) override_before _
-      (each_filter (λ o. IsCleanSaid o.said) (λ o. holds o.range a) (override_rows s)
-      (each_from_all (λ o. IsCleanSaid o.said) (override_rows s) clean.rows)))
+      (each_filter (λ o. IsCleanSaid o.said) (λ o. holds o.range a) (override_rows s) clean.rows))
       (entry_clean (speaker s a) a)
       (first_passes (λ d. IsCleanPlace d.place) delegation_before _
       (each_filter (λ d. IsCleanPlace d.place) (λ d. holds d.range a) (delegations s)
-      (each_from_all (λ d. IsCleanPlace d.place) (delegations s) clean.delegations)))
+      (each_flat (λ d. IsCleanPlace d.place) (λ t. t.rows) s.stats clean.stats)))
 
 -- ---- all of them
 

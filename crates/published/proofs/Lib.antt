@@ -1,9 +1,12 @@
 mod BlockBytes
-pub mod FileLemmas
+pub mod CleanFeeds
 pub mod CleanRecords
+pub mod CleanRows
+pub mod CleanStats
+pub mod EachLemmas
+pub mod FileLemmas
 pub mod LineReads
 pub mod LineText
-pub mod MoveLemmas
 pub mod Numbering
 mod PlainLemmas
 pub mod Renumber

@@ -1,12 +1,12 @@
 -- The lines of a feed that was written of lines, and what they say together.
-use Rattle.std.proofs.Common.{inl, inr, ◌≡◌, ◌≢◌, ℕ, zero, suc, ◌+◌, ◌-◌, ◌^◌, ◌<◌, ◌≤◌, eqb, Bool}
-use Rattle.std.proofs.Common.{true, false, not, cond, ◌&&◌, ◌==◌, All, AllPairs, List, [], ◌∷◌}
-use Rattle.std.proofs.Common.{◌++◌, length, map, filter_map, flat_map, get_or, Option, None, Some}
-use Rattle.std.proofs.Common.{refl, sym, ap, ◌∙◌, subst, arith}
+use Rattle.std.proofs.Common.{inl, inr, ◌≡◌, ◌≢◌, ℕ, zero, suc, ◌+◌, ◌-◌, ◌^◌, ◌<◌}
+use Rattle.std.proofs.Common.{true, false, ◌==◌, All, AllPairs, List, [], ◌∷◌}
+use Rattle.std.proofs.Common.{◌++◌, length, map, filter_map, get_or, Option, None, Some}
+use Rattle.std.proofs.Common.{refl, sym, ap, ◌∙◌, arith}
 use Rattle.std.specs.Prelude.{nat_eq}
-use Rattle.std.specs.List.{enumerate_from, list_all, starts_with}
+use Rattle.std.specs.List.{enumerate_from, list_all}
 use Rattle.std.specs.Str.Lines.{strip_carriage_return}
-use Rattle.std.proofs.lemmas.Bool.{and_parts, eqb-true, false_from_ne_true, ne_eqb}
+use Rattle.std.proofs.lemmas.Bool.{and_parts, eqb-true, false_from_ne_true}
 use Rattle.std.proofs.lemmas.Bool.Decides.{nat_tests}
 use Rattle.std.proofs.lemmas.List.{append_assoc, length-map}
 use Rattle.std.proofs.lemmas.List.Elements.{All-cons, All-head, All-nil, All-tail}
@@ -15,7 +15,7 @@ use Rattle.std.proofs.lemmas.List.Splits.{slice_split_at}
 use Rattle.std.proofs.lemmas.Nat.{pow_pos}
 use Rattle.std.proofs.Math.Pow.{pow-lt}
 use Rattle.std.proofs.lemmas.Bool.{cases_order}
-use Rattle.geo_addr.specs.Lines.{byte_order_mark, lines_of, numbered_lines, pieces, without_mark}
+use Rattle.geo_addr.specs.Lines.{lines_of, numbered_lines, pieces, without_mark}
 use Rattle.geo_addr.specs.Printing.{block_text}
 use Rattle.geo_addr.specs.Ranges.{Ends, IsBlock, Prefix, range_of_block}
 use Rattle.geo_addr.proofs.LineLemmas.{line_before_feed}
@@ -25,17 +25,16 @@ use Rattle.geo_terms.specs.declared.note.LineNote.{LineNote}
 use Rattle.geo_terms.specs.declared.statement.Entry.{Entry}
 use Rattle.csv_lines.specs.Clean.{is_clean}
 use Rattle.csv_lines.specs.Repeats.{kept, merged, repeat_faults}
-use Rattle.csv_lines.proofs.FateLemmas.{Apart, apart_kept, apart_silent}
+use Rattle.csv_lines.proofs.FateLemmas.{apart_kept, apart_silent}
 use Rattle.feed_csv.specs.File.{accepted, entry_by, entry_line, entry_of as file_entry, entry_range}
-use Rattle.feed_csv.specs.File.{entry_said, fault_alone, fault_of, faults, feed, refused}
+use Rattle.feed_csv.specs.File.{entry_said, fault_alone, fault_of, faults, refused}
 use Rattle.feed_csv.specs.File.{repeat_rules}
-use Rattle.feed_csv.specs.Outcomes.{outcome}
 use Rattle.feed_csv.proofs.FileLemmas.{faults_are}
 use Rattle.publish_least.specs.Lines.{AreInside, InPreorder, IsBefore, IsInside}
 use Rattle.publish_least.specs.declared.line.Line.{Line}
 use Rattle.published.specs.FeedText.{feed_text, line_text, place_text}
 use Rattle.published.specs.Reread.{AreApart, AreClean, AreInForm, FeedsReadBack, IsCleanAt}
-use Rattle.published.specs.Reread.{IsLineInForm, entry_of, says}
+use Rattle.published.specs.Reread.{IsLineInForm, entry_of}
 use Rattle.published.proofs.BlockBytes.{ascii_block, some_block}
 use Rattle.published.proofs.LineText.{line_good_of, line_is, line_reads}
 

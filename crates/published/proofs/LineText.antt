@@ -1,12 +1,11 @@
 -- A line that is written of a block and a place: what it is made of, and what it says.
-use Rattle.std.proofs.Common.{◌≡◌, ℕ, ◌+◌, ◌<◌, Bool, true, false, not, cond, ◌&&◌, ◌||◌, ◌==◌}
+use Rattle.std.proofs.Common.{◌≡◌, ℕ, ◌<◌, Bool, true, false, not, cond, ◌==◌}
 use Rattle.std.proofs.Common.{List, [], ◌∷◌, ◌++◌, length, map, flat_map, Option, None, Some, refl}
 use Rattle.std.proofs.Common.{sym, ap, ◌∙◌, subst, arith}
-use Rattle.std.specs.Prelude.{Ok, is_some, option_map, unwrap_or}
+use Rattle.std.specs.Prelude.{Ok}
 use Rattle.std.specs.List.{list_all}
-use Rattle.std.specs.Str.{is_utf8}
 use Rattle.std.proofs.lemmas.Bool.{and_parts}
-use Rattle.std.proofs.lemmas.List.{append_assoc, append-nil}
+use Rattle.std.proofs.lemmas.List.{append-nil}
 use Rattle.std.proofs.lemmas.Str.{is_utf8-from_IsUtf8}
 use Rattle.geo_addr.specs.Prefixes.{block_in}
 use Rattle.geo_addr.specs.Printing.{block_text}
@@ -20,10 +19,10 @@ use Rattle.geo_terms.specs.declared.place.Said.TheVariants.{Nothing, At}
 use Rattle.csv_lines.specs.Clean.{IsCleanPlace, is_clean}
 use Rattle.csv_lines.specs.Fields.{Field, Plain, Quoted, fields, is_field, is_inner, is_plain}
 use Rattle.csv_lines.specs.Fields.{joined, value, values_of, written}
-use Rattle.csv_lines.specs.Rests.{column, content_of, rest_of, row_of, said_in}
-use Rattle.csv_lines.specs.declared.rest.Content.TheVariants.{Blank, NotText, NoFields, Fields}
+use Rattle.csv_lines.specs.Rests.{content_of, row_of}
+use Rattle.csv_lines.specs.declared.rest.Content.TheVariants.{Fields}
 use Rattle.csv_lines.proofs.FieldLaw.{fields_are_unique}
-use Rattle.feed_csv.specs.Outcomes.{accepted_at, located_at, outcome, outcome_by, row_outcome}
+use Rattle.feed_csv.specs.Outcomes.{accepted_at, outcome, row_outcome}
 use Rattle.published.specs.FeedText.{field_of, line_text, place_text, place_values}
 use Rattle.published.specs.Reread.{IsCleanAt, IsLineInForm, IsTextPlace, said_by}
 use Rattle.published.proofs.BlockBytes.{good_block, plain_block, some_block}

@@ -1,12 +1,11 @@
 -- The numbers of places do not matter: the feed of a tree of numbers is that of the tree of the
 -- places that they stand for.
-use Rattle.std.proofs.Common.{inl, inr, ◌≡◌, ℕ, zero, suc, ◌+◌, ◌<◌, ◌≤◌, Bool, true, false, not}
-use Rattle.std.proofs.Common.{cond, List, [], ◌∷◌, ◌++◌, map, flat_map, length, get_or, Option}
-use Rattle.std.proofs.Common.{None, Some, refl, sym, ap, ap₂, ◌∙◌, subst, arith}
+use Rattle.std.proofs.Common.{inl, inr, ◌≡◌, ℕ, suc, ◌+◌, ◌≤◌, Bool, true, false, not}
+use Rattle.std.proofs.Common.{cond, List, [], ◌∷◌, ◌++◌, map, length, get_or, Option}
+use Rattle.std.proofs.Common.{None, refl, sym, ap, ap₂, ◌∙◌, subst, arith}
 use Rattle.std.specs.List.{IsDistinct, enumerate_from, position_or_len}
 use Rattle.std.proofs.lemmas.List.Elements.{All-cons, All-nil}
 use Rattle.std.proofs.lemmas.List.{append_assoc, append-nil, length-map}
-use Rattle.std.proofs.lemmas.List.Sums.{passes_at_first}
 use Rattle.geo_addr.specs.Ranges.{Prefix}
 use Rattle.geo_terms.specs.Numbers.{place_at, same_place}
 use Rattle.geo_terms.specs.PlaceForm.{PlaceParts}
@@ -68,6 +67,12 @@ pub first_number : (t : Tree (Option PlaceParts)) → number_in (answers t) None
 first_number t =
     let (more, e) = seen_first same_answer answer_equality (None ∷ []) (leaves t) in
     ap (λ xs. number_in xs None) e
+
+-- the number of no place stands for none
+pub no_place : (t : Tree (Option PlaceParts)) → numbered (answers t) 0 ≡ None
+no_place t =
+    let (more, e) = seen_first same_answer answer_equality (None ∷ []) (leaves t) in
+    ap (λ xs. numbered xs 0) e
 
 map_twice : {A B C : Type 0} (g : B → C) (f : A → B) (t : Tree A)
     → map_tree g (map_tree f t) ≡ map_tree (λ x. g (f x)) t

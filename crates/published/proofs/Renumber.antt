@@ -1,7 +1,7 @@
 -- Other numbers for the leaves of a tree, 0 for 0 and different ones for different leaves, change
 -- no line but in its leaf.
 use Rattle.std.proofs.Common.{inl, inr, ◌≡◌, ℕ, Bool, true, false, ◌||◌, cond, List, [], ◌∷◌, ◌++◌}
-use Rattle.std.proofs.Common.{map, filter, length, refl, sym, ap, ap₂, ◌∙◌, subst}
+use Rattle.std.proofs.Common.{map, refl, sym, ap, ap₂, ◌∙◌, subst}
 use Rattle.std.specs.Prelude.{nat_eq}
 use Rattle.std.proofs.lemmas.Bool.Decides.{same_from_decides}
 use Rattle.std.proofs.lemmas.List.{map-append}
@@ -9,7 +9,7 @@ use Rattle.geo_addr.specs.Ranges.{Prefix}
 use Rattle.trie_core.specs.Tree.{Tree, leaf, node, AllLeaves, map_tree}
 use Rattle.trie_core.proofs.TreeLemmas.{nat_equality}
 use Rattle.least_nodes.specs.Layout.{below, each_once, leaves}
-use Rattle.least_nodes.proofs.Elements.{In, In-append, In-each_once}
+use Rattle.least_nodes.proofs.Elements.{In, In-each_once}
 use Rattle.least_nodes.proofs.RenameLemmas.{map-each_once}
 use Rattle.publish_least.specs.Choice.{first_of, lines_below, lines_of, lower_half, order_after}
 use Rattle.publish_least.specs.Choice.{part_of, prefix_bits, root_line, standing, upper_half}

@@ -1,6 +1,6 @@
 -- The published lines of sources say what the sources say, and no fewer lines do.
-use Rattle.std.proofs.Common.{inl, inr, ◌≡◌, ℕ, zero, suc, ◌+◌, ◌-◌, ◌^◌, ◌<◌, ◌≤◌, Bool, true}
-use Rattle.std.proofs.Common.{false, cond, nat_le, List, [], ◌∷◌, map, length, All, Option, None}
+use Rattle.std.proofs.Common.{inl, ◌≡◌, ℕ, ◌-◌, ◌^◌, ◌<◌, ◌≤◌, Bool, true}
+use Rattle.std.proofs.Common.{false, cond, nat_le, List, [], ◌∷◌, map, length, Option, None}
 use Rattle.std.proofs.Common.{Some, option_map, refl, sym, ap, ◌∙◌, subst, arith}
 use Rattle.std.proofs.lemmas.List.{length-map}
 use Rattle.std.proofs.lemmas.List.Elements.{All-map}
@@ -13,6 +13,7 @@ use Rattle.geo_terms.specs.Sources.{InForce}
 use Rattle.trie_core.specs.Tree.{Tree, leaf, node, height, look, map_tree}
 use Rattle.trie_core.proofs.RenameLemmas.{height-map_tree, look-map_tree}
 use Rattle.trie_core.proofs.TreeLemmas.{TreeOfFunction-holds}
+use Rattle.feed_csv.specs.File.{feed}
 use Rattle.least_nodes.specs.Layout.{leaves}
 use Rattle.least_nodes.proofs.Elements.{In, In-left, In-right, In-each_once-new}
 use Rattle.mmdb_file.specs.FileImage.{record_tree, same_answer}
@@ -22,10 +23,11 @@ use Rattle.publish_least.specs.Lines.{AreInside, IsInside, IsPlain, answer, leaf
 use Rattle.publish_least.specs.Lines.{longest}
 use Rattle.publish_least.specs.declared.line.Line.{Line}
 use Rattle.publish_least.proofs.PartLemmas.{height-part, look-part}
-use Rattle.publish_least.proofs.Whole.{least_answers, least_fewest}
-use Rattle.published.specs.PlaceLines.{answers, number_in, numbered, published_lines}
-use Rattle.published.specs.Shortest.{AreShortest, PublishedIsShortest, SayAs}
-use Rattle.published.proofs.Numbering.{finds, first_number}
+use Rattle.publish_least.proofs.Whole.{least_answers, least_fewest, least_inside}
+use Rattle.published.specs.PlaceLines.{answers, number_in, numbered, published, published_feed}
+use Rattle.published.specs.PlaceLines.{published_lines}
+use Rattle.published.specs.Shortest.{IsShortestFeed, PublishedIsShortest, SayAs}
+use Rattle.published.proofs.Numbering.{finds, first_number, no_place}
 use Rattle.published.proofs.Renumber.{relabelled}
 
 -- ---- the answer of lines with other numbers
@@ -123,6 +125,10 @@ module _ (s : InForce) (within : Prefix) (block : IsBlock within) (plain : IsPla
   some_number : (m n : ℕ) → Some m ≡ Some n → m ≡ n
   some_number m n e = cc
 
+  inside : AreInside within (published_lines whole within)
+  unfolding published_lines
+  inside = least_inside (part_of t within) within block plain low_part
+
   say : SayAs (record_at s) within (numbered order) (published_lines whole within)
   unfolding published_lines
   say a inside =
@@ -149,5 +155,23 @@ module _ (s : InForce) (within : Prefix) (block : IsBlock within) (plain : IsPla
         (λ a at. part_is a at ∙ ap Some (sym (answer-name f zero_is others a ∙ ap g (says a at)))))
 
 pub published_is_shortest : PublishedIsShortest
-published_is_shortest s within block plain =
-    record { say = say s within block plain; fewest = fewest s within block plain }
+published_is_shortest s within block plain = record {
+  none = no_place (record_tree s);
+  inside = inside s within block plain;
+  say = say s within block plain;
+  fewest = fewest s within block plain;
+}
+
+-- what is published of clean sources is a shortest feed
+pub shortest_feed : (s : InForce) (within : Prefix) (bytes : List ℕ) → IsBlock within
+    → IsPlain within → bytes ≡ published (record_tree s) within
+    → ((url : List ℕ) → feed url bytes ≡ published_feed url (record_tree s) within)
+    → IsShortestFeed s within bytes
+unfolding published published_feed
+shortest_feed s within bytes block plain text reads = record {
+  place_of = numbered (answers (record_tree s));
+  lines = published_lines (record_tree s) within;
+  shortest = published_is_shortest s within block plain;
+  text = text;
+  reads_back = reads;
+}

@@ -1,12 +1,12 @@
 -- Texts that a line of a feed may hold: clean ones, which are UTF-8, and what is made of them.
-use Rattle.std.proofs.Common.{inl, inr, ◌≡◌, ℕ, zero, suc, ◌+◌, ◌-◌, ◌<◌, Bool, true, false, not}
-use Rattle.std.proofs.Common.{cond, ◌&&◌, ◌||◌, ◌==◌, List, [], ◌∷◌, ◌++◌, length, map, take, drop}
+use Rattle.std.proofs.Common.{inl, inr, ◌≡◌, ℕ, zero, ◌+◌, ◌-◌, ◌<◌, Bool, true, false}
+use Rattle.std.proofs.Common.{cond, ◌==◌, List, [], ◌∷◌, ◌++◌, length}
 use Rattle.std.proofs.Common.{reverse, refl, sym, ap, ◌∙◌, subst, ne_eqb, arith}
 use Rattle.std.specs.Prelude.{IsUtf8}
-use Rattle.std.specs.List.{list_all, onto_first, prefix_len, suffix_len}
+use Rattle.std.specs.List.{list_all, onto_first, prefix_len}
 use Rattle.std.proofs.lemmas.Bool.{and_parts, cases_eq}
 use Rattle.std.proofs.lemmas.Bool.Decides.{nat_tests}
-use Rattle.std.proofs.lemmas.List.{append_assoc, append-nil, reverse-append, take_all}
+use Rattle.std.proofs.lemmas.List.{append_assoc, reverse-append, take_all}
 use Rattle.std.proofs.lemmas.List.Folds.{list_all-append}
 use Rattle.std.proofs.lemmas.Str.{IsUtf8-append, IsUtf8-from_ascii, IsUtf8-nil}
 use Rattle.std.proofs.lemmas.Str.Ascii.{IsAscii-from_all}

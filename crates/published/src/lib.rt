@@ -1,5 +1,5 @@
-//! The feed of lines of blocks and places: its text, which reads back as these lines, and the last
-//! move of `publish JOB BLOCK FILE`, in which the tree is built, the feed put and its line printed.
+//! The feed of lines of blocks and places, which reads back as these lines: the shortest one of a
+//! block, and the line that is printed for it.
 #![tactic(auto)]
 
 mod fields;
@@ -8,10 +8,8 @@ pub mod laws;
 mod line;
 mod plain;
 mod publication;
-mod writing;
 
 pub use file::feed_text;
 pub use line::printed_line;
 pub use plain::is_plain;
 pub use publication::{Publication, publish};
-pub use writing::write_feed;

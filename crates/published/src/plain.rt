@@ -1,5 +1,6 @@
 //! Which blocks have a feed.
 ghost use Rattle.std.specs.Prelude.{◌≡◌, IsTrue};
+ghost use Rattle.geo_addr.specs.Ranges.{IsBlock};
 ghost use Rattle.job_lines.specs.Commands.{is_plain};
 ghost use Rattle.publish_least.specs.Lines.{IsPlain};
 
@@ -10,6 +11,7 @@ use geo_addr::Block;
 pub fn is_plain(block: Block) -> bool
     ensures same { result ≡ is_plain block }
     ensures plain { IsTrue result → IsPlain block }
+    ensures aligned { IsBlock block }
 {
     let Block { first, len } = block;
     len >= 96 || first >= 1 << 32

@@ -21,7 +21,7 @@ use Rattle.job_run.specs.Sources.{unreadable}
 use Rattle.job_run.specs.World.{World, printing}
 use Rattle.job_lines.specs.Commands.{Command, build, lookup, explain, gen, publish, check}
 use Rattle.job_lines.specs.Commands.{census}
-use Rattle.published.specs.Publishing.{publishing}
+use Rattle.geofeed_cmd.specs.Commands.Publish.{publishing}
 use Rattle.generated_job.specs.Job.{gen_start, gen_steps}
 use Rattle.geofeed_cmd.specs.Commands.Census.{counting}
 use Rattle.geofeed_cmd.specs.Commands.Check.{checking}

@@ -1,15 +1,16 @@
 //! `build JOB`: does a job.
-ghost use Rattle.std.specs.Prelude.{◌≡◌, ◌⊎◌, ◌≤◌, ◌≢◌, ◌+◌, Option, Some};
-ghost use Rattle.geo_outside.specs.Count.{Rose};
+ghost use Rattle.std.specs.Prelude.{◌≡◌, ◌≤◌, ◌+◌, Option, Some};
 ghost use Rattle.geo_outside.specs.Files.{Told};
 ghost use Rattle.job_run.specs.Seen.{seen};
 ghost use Rattle.job_lines.specs.Said.{IsWithinLimits};
 ghost use Rattle.job_run.specs.Moves.{moves_of, read_rooms};
 ghost use Rattle.job_lines.specs.Commands.{Command, build};
 ghost use Rattle.geofeed_cmd.specs.Run.Answers.{Comes};
-ghost use Rattle.geofeed_cmd.specs.Run.Plans.{plan_of, planned, room_of, start_of};
+ghost use Rattle.geofeed_cmd.specs.Run.Ends.{Concludes, Signs, around};
+ghost use Rattle.geofeed_cmd.specs.Run.Plans.{plan_of, planned, start_of};
 
 use crate::job_file::job_in;
+use crate::sourced::by_pieces;
 use crate::status::Status;
 use crate::stop::stop_at;
 use crate::whole::do_whole;
@@ -18,7 +19,6 @@ use geo_addr::Memory;
 use geo_outside::{Folder, Gate, Sink, Steps};
 use job_lines::Job;
 use job_run::Journal;
-use std::alloc::Global;
 use std::marker::Sync;
 use std::mem::forget;
 use std::sync::ledger::Ledger;
@@ -29,48 +29,33 @@ use update_session::laws::standing_stays;
 /// Does the job in the file of this name.
 #[tactic(auto, using(crate::proofs::StatusLemmas::status_causes))]
 pub(crate) fn build<R: Threads + Sync, F: Folder, O: Sink, G: Gate, L: Ledger>(
-    rt: &R,
-    alloc: Global,
+    forks: &Forks<'_, R, G>,
     name: &str,
     folder: &mut F,
     out: &mut O,
-    gate: &G,
     steps: &mut Steps<L>,
     journal: &mut Journal,
 ) -> Status
-    ensures comes { (first : Told) → F.told folder.old ≡ Some first
-        → Comes result (Some (build name.now)) first
-        (seen (F.told folder.old) (O.written out.old) (O.faults out.old) steps.old)
-        (seen (F.told folder.new) (O.written out.new) (O.faults out.new) steps.new)
-        (F.put_faults folder.old) (F.put_faults folder.new) }
-    ensures not_words { result ≢ Status.Words }
-    ensures read { result ≡ Status.ReadFault
-        → Rose (F.read_faults folder.old) (F.read_faults folder.new) }
-    ensures missing { result ≡ Status.Missing → Rose (F.misses folder.old) (F.misses folder.new) }
-    ensures write { result ≡ Status.WriteFault
-        → Rose (F.put_faults folder.old) (F.put_faults folder.new)
-        ⊎ Rose (O.faults out.old) (O.faults out.new) }
-    ensures given { (first : Told) → F.told folder.old ≡ Some first
-        → F.given folder.new ≤ F.given folder.old + room_of first (Some (build name.now)) }
+    ensures leaves { Concludes result (Some (build name.now))
+        (around F.Folder O.Sink folder.old out.old steps.old)
+        (around F.Folder O.Sink folder.new out.new steps.new) }
 {
-    match job_in(alloc, name, folder, journal) {
+    match job_in(forks.alloc, name, folder, journal) {
         Ok(job) => {
             journal.notices.of_job(name, &job);
-            do_job(rt, alloc, job, folder, out, gate, steps, journal)
+            do_job(forks, job, folder, out, steps, journal)
         }
-        Err(why) => stop_at(alloc, why, 0, name, out, journal),
+        Err(why) => stop_at(forks.alloc, why, 0, name, out, journal),
     }
 }
 
 /// Does a job that was read.
 #[tactic(auto, using(crate::proofs::StatusLemmas::status_causes))]
 fn do_job<R: Threads + Sync, F: Folder, O: Sink, G: Gate, L: Ledger>(
-    rt: &R,
-    alloc: Global,
+    forks: &Forks<'_, R, G>,
     job: Job,
     folder: &mut F,
     out: &mut O,
-    gate: &G,
     steps: &mut Steps<L>,
     journal: &mut Journal,
 ) -> Status
@@ -82,13 +67,8 @@ fn do_job<R: Threads + Sync, F: Folder, O: Sink, G: Gate, L: Ledger>(
         (seen (F.told folder.old) (O.written out.old) (O.faults out.old) steps.old)
         (seen (F.told folder.new) (O.written out.new) (O.faults out.new) steps.new)
         (F.put_faults folder.old) (F.put_faults folder.new) }
-    ensures not_words { result ≢ Status.Words }
-    ensures read { result ≡ Status.ReadFault
-        → Rose (F.read_faults folder.old) (F.read_faults folder.new) }
-    ensures missing { result ≡ Status.Missing → Rose (F.misses folder.old) (F.misses folder.new) }
-    ensures write { result ≡ Status.WriteFault
-        → Rose (F.put_faults folder.old) (F.put_faults folder.new)
-        ⊎ Rose (O.faults out.old) (O.faults out.new) }
+    ensures signs { Signs result (around F.Folder O.Sink folder.old out.old steps.old)
+        (around F.Folder O.Sink folder.new out.new steps.new) }
     ensures given { F.given folder.new ≤ F.given folder.old + read_rooms job.steps }
 {
     standing_stays();
@@ -98,13 +78,8 @@ fn do_job<R: Threads + Sync, F: Folder, O: Sink, G: Gate, L: Ledger>(
         steps: list,
     } = job;
     let list = list.as_slice();
-    let forks = Forks {
-        rt,
-        alloc,
-        gate,
-        pieces,
-    };
-    let mut session = match Session::new(alloc, meta) {
+    let forks = by_pieces(forks, pieces);
+    let mut session = match Session::new(forks.alloc, meta) {
         Ok(session) => session,
         Err(Memory) => return Status::Memory,
     };

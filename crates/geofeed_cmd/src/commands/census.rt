@@ -1,15 +1,11 @@
 //! `census JOB`: prints how many addresses each country has by a job.
-ghost use Rattle.std.specs.Prelude.{◌≡◌, ◌⊎◌, ◌≤◌, ◌≢◌, ◌+◌, [], ◌∷◌, ◌++◌, IfErr, IfOk, OnOk};
-ghost use Rattle.std.specs.Prelude.{Option, Some};
+ghost use Rattle.std.specs.Prelude.{◌≡◌, ◌⊎◌, ◌≤◌, ◌+◌, [], IfErr, IfOk, OnOk, Option};
 ghost use Rattle.geo_outside.specs.Count.{Rose};
 ghost use Rattle.geo_outside.specs.Files.{Told};
 ghost use Rattle.geo_terms.specs.Sources.{InForce};
 ghost use Rattle.check_census.specs.Census.{census};
 ghost use Rattle.check_census.specs.Texts.{count_lines};
-ghost use Rattle.job_lines.specs.Commands.{Command, census as census_command};
-ghost use Rattle.job_lines.specs.Said.{IsWithinLimits};
 ghost use Rattle.job_run.specs.Acts.{effect, shows};
-ghost use Rattle.job_run.specs.Moves.{read_rooms, source_moves};
 ghost use Rattle.job_run.specs.Seen.{seen};
 ghost use Rattle.job_run.specs.Stops.{Does, Fails, IsIn, IsPaid};
 ghost use Rattle.job_run.specs.World.{World};
@@ -17,109 +13,21 @@ ghost use Rattle.update_session.specs.Calls.{HasEmitted, HasGrown, IsSpent};
 ghost use Rattle.update_session.specs.Kept.{RootMeans};
 ghost use Rattle.update_session.specs.Touch.{bound};
 ghost use Rattle.geofeed_cmd.specs.Commands.Census.{counting, country_by};
-ghost use Rattle.geofeed_cmd.specs.Run.Answers.{Comes};
-ghost use Rattle.geofeed_cmd.specs.Run.Plans.{plan_of, planned, room_of, start_of};
 
-use crate::job_file::job_in;
-use crate::sourced::sources_of;
-use crate::status::Status;
-use crate::stop::stop_at;
 use check_census::census_text;
 use fan_work::Forks;
 use geo_addr::{Memory, Text};
-use geo_outside::{Folder, Gate, Sink, Steps};
-use job_lines::Job;
-use job_run::{Cause, Journal, Stop, print};
+use geo_outside::{Gate, Sink, Steps};
+use job_run::{Cause, Stop, print};
 use std::alloc::Global;
 use std::marker::Sync;
-use std::mem::forget;
 use std::sync::ledger::Ledger;
 use std::thread::Threads;
 use update_session::laws::standing_stays;
 use update_session::{EmitFault, Session};
 
-/// Prints how many addresses each country has by the sources of the job in the file of this name.
-#[tactic(auto, using(crate::proofs::StatusLemmas::status_causes))]
-pub(crate) fn census<R: Threads + Sync, F: Folder, O: Sink, G: Gate, L: Ledger>(
-    rt: &R,
-    alloc: Global,
-    name: &str,
-    folder: &mut F,
-    out: &mut O,
-    gate: &G,
-    steps: &mut Steps<L>,
-    journal: &mut Journal,
-) -> Status
-    ensures comes { (first : Told) → F.told folder.old ≡ Some first
-        → Comes result (Some (census_command name.now)) first
-        (seen (F.told folder.old) (O.written out.old) (O.faults out.old) steps.old)
-        (seen (F.told folder.new) (O.written out.new) (O.faults out.new) steps.new)
-        (F.put_faults folder.old) (F.put_faults folder.new) }
-    ensures not_words { result ≢ Status.Words }
-    ensures read { result ≡ Status.ReadFault
-        → Rose (F.read_faults folder.old) (F.read_faults folder.new) }
-    ensures missing { result ≡ Status.Missing → Rose (F.misses folder.old) (F.misses folder.new) }
-    ensures write { result ≡ Status.WriteFault → Rose (O.faults out.old) (O.faults out.new) }
-    ensures unput { F.told folder.new ≡ F.told folder.old }
-    ensures given { (first : Told) → F.told folder.old ≡ Some first
-        → F.given folder.new ≤ F.given folder.old + room_of first (Some (census_command name.now)) }
-{
-    match job_in(alloc, name, folder, journal) {
-        Ok(job) => census_by(rt, alloc, job, folder, out, gate, steps, journal),
-        Err(why) => stop_at(alloc, why, 0, name, out, journal),
-    }
-}
-
-/// Prints how many addresses each country has by the sources of a job that was read.
-#[tactic(auto, using(crate::proofs::StatusLemmas::status_causes))]
-fn census_by<R: Threads + Sync, F: Folder, O: Sink, G: Gate, L: Ledger>(
-    rt: &R,
-    alloc: Global,
-    job: Job,
-    folder: &mut F,
-    out: &mut O,
-    gate: &G,
-    steps: &mut Steps<L>,
-    journal: &mut Journal,
-) -> Status
-    requires { IsWithinLimits job }
-    ensures comes { (first : Told) → F.told folder.old ≡ Some first
-        → (command : Option Command)
-        → plan_of first command
-        ≡ planned (source_moves job.steps ++ shows counting ∷ []) (start_of first job)
-        → Comes result command first
-        (seen (F.told folder.old) (O.written out.old) (O.faults out.old) steps.old)
-        (seen (F.told folder.new) (O.written out.new) (O.faults out.new) steps.new)
-        (F.put_faults folder.old) (F.put_faults folder.new) }
-    ensures not_words { result ≢ Status.Words }
-    ensures read { result ≡ Status.ReadFault
-        → Rose (F.read_faults folder.old) (F.read_faults folder.new) }
-    ensures missing { result ≡ Status.Missing → Rose (F.misses folder.old) (F.misses folder.new) }
-    ensures write { result ≡ Status.WriteFault → Rose (O.faults out.old) (O.faults out.new) }
-    ensures unput { F.told folder.new ≡ F.told folder.old }
-    ensures given { F.given folder.new ≤ F.given folder.old + read_rooms job.steps }
-{
-    let forks = Forks {
-        rt,
-        alloc,
-        gate,
-        pieces: job.pieces,
-    };
-    let mut session = match sources_of(&forks, job, folder, out, steps, journal) {
-        Ok(session) => session,
-        Err(status) => return status,
-    };
-    let printed = print_counts(&forks, &mut session, out, steps);
-    // The process ends: its memory goes back whole, not source by source.
-    forget(session);
-    match printed {
-        Ok(()) => Status::Done,
-        Err(why) => stop_at(alloc, why, 0, "", out, journal),
-    }
-}
-
 /// Builds the tree of the sources in force, and prints how many addresses each country has in it.
-fn print_counts<R: Threads + Sync, O: Sink, G: Gate, L: Ledger>(
+pub(crate) fn print_counts<R: Threads + Sync, O: Sink, G: Gate, L: Ledger>(
     forks: &Forks<'_, R, G>,
     session: &mut Session,
     out: &mut O,

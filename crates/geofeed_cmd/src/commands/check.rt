@@ -1,80 +1,56 @@
 //! `check JOB URL`: prints what becomes of each line of a feed of a job.
-ghost use Rattle.std.specs.Prelude.{◌≡◌, ◌⊎◌, ◌≤◌, ◌≢◌, ◌+◌, ℕ, [], ◌∷◌, ◌++◌, false, IfErr, IfOk};
-ghost use Rattle.std.specs.Prelude.{OnOk, Option, Some, length};
+ghost use Rattle.std.specs.Prelude.{◌≡◌, ◌⊎◌, ◌≤◌, ℕ, [], IfErr, IfOk, OnOk, Option, Some, length};
 ghost use Rattle.geo_outside.specs.Count.{Rose};
 ghost use Rattle.geo_outside.specs.Files.{Told};
 ghost use Rattle.geo_terms.specs.Sources.{feed_of};
 ghost use Rattle.check_census.specs.Texts.{verdict_lines};
 ghost use Rattle.check_census.specs.Verdicts.{verdicts};
-ghost use Rattle.job_lines.specs.Commands.{Command, check, check_key};
+ghost use Rattle.job_lines.specs.Commands.{check_key};
 ghost use Rattle.job_lines.specs.Acts.{feed_key};
-ghost use Rattle.job_lines.specs.Said.{IsWithinLimits};
 ghost use Rattle.job_run.specs.Acts.{shows};
-ghost use Rattle.job_run.specs.Moves.{read_rooms, source_moves};
 ghost use Rattle.job_run.specs.Seen.{seen};
 ghost use Rattle.job_run.specs.Stops.{Does, Fails, IsIn};
 ghost use Rattle.job_run.specs.World.{World};
 ghost use Rattle.geofeed_cmd.specs.Commands.Check.{checking};
-ghost use Rattle.geofeed_cmd.specs.Run.Answers.{Comes};
-ghost use Rattle.geofeed_cmd.specs.Run.Plans.{is_command, plan_of, planned, reads_folder, room_of};
-ghost use Rattle.geofeed_cmd.specs.Run.Plans.{start_of};
+ghost use Rattle.geofeed_cmd.specs.Run.Ends.{Concludes, around};
 
-use crate::job_file::job_in;
-use crate::sourced::sources_of;
+use crate::last::{Last, by_sources};
 use crate::status::Status;
-use crate::stop::{no_command, stop_at};
+use crate::stop::no_command;
 use check_census::verdict_text;
 use fan_work::Forks;
 use geo_addr::{Memory, Text};
 use geo_outside::{Folder, Gate, Sink, Steps};
 use geo_terms::Feed;
-use job_lines::{Job, LineFault, Reason, url_at};
+use job_lines::{LineFault, Reason, url_at};
 use job_run::{Cause, Journal, Stop, print};
 use precedence::Sources;
 use std::alloc::Global;
 use std::marker::Sync;
-use std::mem::forget;
 use std::sync::ledger::Ledger;
 use std::thread::Threads;
 use update_session::{ReadyFeed, Session};
 
 /// Does `check` with the URL that a word is, if it is one.
 pub(crate) fn check<R: Threads + Sync, F: Folder, O: Sink, G: Gate, L: Ledger>(
-    rt: &R,
-    alloc: Global,
+    forks: &Forks<'_, R, G>,
     name: &str,
     word: &str,
     folder: &mut F,
     out: &mut O,
-    gate: &G,
     steps: &mut Steps<L>,
     journal: &mut Journal,
 ) -> Status
-    ensures comes { (first : Told) → F.told folder.old ≡ Some first
-        → Comes result (check_key name.now (feed_key word.now)) first
-        (seen (F.told folder.old) (O.written out.old) (O.faults out.old) steps.old)
-        (seen (F.told folder.new) (O.written out.new) (O.faults out.new) steps.new)
-        (F.put_faults folder.old) (F.put_faults folder.new) }
-    ensures words { result ≡ Status.Words
-        → is_command (check_key name.now (feed_key word.now)) ≡ false }
-    ensures none { is_command (check_key name.now (feed_key word.now)) ≡ false
-        → (result ≡ Status.Words) ⊎ (result ≡ Status.Memory) }
-    ensures untouched { is_command (check_key name.now (feed_key word.now)) ≡ false
-        → folder.new ≡ folder.old }
-    ensures read { result ≡ Status.ReadFault
-        → Rose (F.read_faults folder.old) (F.read_faults folder.new) }
-    ensures missing { result ≡ Status.Missing → Rose (F.misses folder.old) (F.misses folder.new) }
-    ensures unread { reads_folder (check_key name.now (feed_key word.now)) ≡ false
-        → (result ≢ Status.ReadFault) × (F.given folder.new ≤ F.given folder.old) }
-    ensures write { result ≡ Status.WriteFault → Rose (O.faults out.old) (O.faults out.new) }
-    ensures unput { F.told folder.new ≡ F.told folder.old }
-    ensures still { steps.new ≡ steps.old }
-    ensures given { (first : Told) → F.told folder.old ≡ Some first
-        → F.given folder.new ≤ F.given folder.old
-        + room_of first (check_key name.now (feed_key word.now)) }
+    ensures leaves { Concludes result (check_key name.now (feed_key word.now))
+        (around F.Folder O.Sink folder.old out.old steps.old)
+        (around F.Folder O.Sink folder.new out.new steps.new) }
 {
-    match key_of(alloc, name, word, journal) {
-        Ok(key) => check_keyed(rt, alloc, name, key, folder, out, gate, steps, journal),
+    match key_of(forks.alloc, name, word, journal) {
+        Ok(Some(url)) => {
+            let last = Last::Check(url.as_str());
+            by_sources(forks, name, &last, folder, out, steps, journal)
+        }
+        Ok(None) => no_command(forks.alloc, out, journal),
         Err(Memory) => Status::Memory,
     }
 }
@@ -98,142 +74,8 @@ fn key_of(
     }
 }
 
-/// Does `check` with the key of a feed, if there is one.
-#[tactic(auto, using(crate::proofs::StatusLemmas::status_causes))]
-fn check_keyed<R: Threads + Sync, F: Folder, O: Sink, G: Gate, L: Ledger>(
-    rt: &R,
-    alloc: Global,
-    name: &str,
-    key: Option<Text>,
-    folder: &mut F,
-    out: &mut O,
-    gate: &G,
-    steps: &mut Steps<L>,
-    journal: &mut Journal,
-) -> Status
-    ensures comes { (first : Told) → F.told folder.old ≡ Some first
-        → Comes result (check_key name.now key) first
-        (seen (F.told folder.old) (O.written out.old) (O.faults out.old) steps.old)
-        (seen (F.told folder.new) (O.written out.new) (O.faults out.new) steps.new)
-        (F.put_faults folder.old) (F.put_faults folder.new) }
-    ensures words { result ≡ Status.Words → is_command (check_key name.now key) ≡ false }
-    ensures none { is_command (check_key name.now key) ≡ false
-        → (result ≡ Status.Words) ⊎ (result ≡ Status.Memory) }
-    ensures untouched { is_command (check_key name.now key) ≡ false → folder.new ≡ folder.old }
-    ensures read { result ≡ Status.ReadFault
-        → Rose (F.read_faults folder.old) (F.read_faults folder.new) }
-    ensures missing { result ≡ Status.Missing → Rose (F.misses folder.old) (F.misses folder.new) }
-    ensures unread { reads_folder (check_key name.now key) ≡ false
-        → (result ≢ Status.ReadFault) × (F.given folder.new ≤ F.given folder.old) }
-    ensures write { result ≡ Status.WriteFault → Rose (O.faults out.old) (O.faults out.new) }
-    ensures unput { F.told folder.new ≡ F.told folder.old }
-    ensures still { steps.new ≡ steps.old }
-    ensures given { (first : Told) → F.told folder.old ≡ Some first
-        → F.given folder.new ≤ F.given folder.old + room_of first (check_key name.now key) }
-{
-    match key {
-        Some(url) => check_feed(
-            rt,
-            alloc,
-            name,
-            url.as_str(),
-            folder,
-            out,
-            gate,
-            steps,
-            journal,
-        ),
-        None => no_command(alloc, out, journal),
-    }
-}
-
-/// Prints what becomes of each line of the feed of this URL, which is a feed's key, by the sources
-/// of the job in the file of this name.
-#[tactic(auto, using(crate::proofs::StatusLemmas::status_causes))]
-fn check_feed<R: Threads + Sync, F: Folder, O: Sink, G: Gate, L: Ledger>(
-    rt: &R,
-    alloc: Global,
-    name: &str,
-    url: &str,
-    folder: &mut F,
-    out: &mut O,
-    gate: &G,
-    steps: &mut Steps<L>,
-    journal: &mut Journal,
-) -> Status
-    ensures comes { (first : Told) → F.told folder.old ≡ Some first
-        → Comes result (Some (check name.now url.now)) first
-        (seen (F.told folder.old) (O.written out.old) (O.faults out.old) steps.old)
-        (seen (F.told folder.new) (O.written out.new) (O.faults out.new) steps.new)
-        (F.put_faults folder.old) (F.put_faults folder.new) }
-    ensures not_words { result ≢ Status.Words }
-    ensures read { result ≡ Status.ReadFault
-        → Rose (F.read_faults folder.old) (F.read_faults folder.new) }
-    ensures missing { result ≡ Status.Missing → Rose (F.misses folder.old) (F.misses folder.new) }
-    ensures write { result ≡ Status.WriteFault → Rose (O.faults out.old) (O.faults out.new) }
-    ensures unput { F.told folder.new ≡ F.told folder.old }
-    ensures still { steps.new ≡ steps.old }
-    ensures given { (first : Told) → F.told folder.old ≡ Some first
-        → F.given folder.new ≤ F.given folder.old + room_of first (Some (check name.now url.now)) }
-{
-    match job_in(alloc, name, folder, journal) {
-        Ok(job) => check_by(rt, alloc, job, url, folder, out, gate, steps, journal),
-        Err(why) => stop_at(alloc, why, 0, name, out, journal),
-    }
-}
-
-/// Prints what becomes of each line of the feed of this URL by the sources of a job that was read.
-#[tactic(auto, using(crate::proofs::StatusLemmas::status_causes))]
-fn check_by<R: Threads + Sync, F: Folder, O: Sink, G: Gate, L: Ledger>(
-    rt: &R,
-    alloc: Global,
-    job: Job,
-    url: &str,
-    folder: &mut F,
-    out: &mut O,
-    gate: &G,
-    steps: &mut Steps<L>,
-    journal: &mut Journal,
-) -> Status
-    requires { IsWithinLimits job }
-    ensures comes { (first : Told) → F.told folder.old ≡ Some first
-        → (command : Option Command)
-        → plan_of first command
-        ≡ planned (source_moves job.steps ++ shows (checking url.now) ∷ []) (start_of first job)
-        → Comes result command first
-        (seen (F.told folder.old) (O.written out.old) (O.faults out.old) steps.old)
-        (seen (F.told folder.new) (O.written out.new) (O.faults out.new) steps.new)
-        (F.put_faults folder.old) (F.put_faults folder.new) }
-    ensures not_words { result ≢ Status.Words }
-    ensures read { result ≡ Status.ReadFault
-        → Rose (F.read_faults folder.old) (F.read_faults folder.new) }
-    ensures missing { result ≡ Status.Missing → Rose (F.misses folder.old) (F.misses folder.new) }
-    ensures write { result ≡ Status.WriteFault → Rose (O.faults out.old) (O.faults out.new) }
-    ensures unput { F.told folder.new ≡ F.told folder.old }
-    ensures still { steps.new ≡ steps.old }
-    ensures given { F.given folder.new ≤ F.given folder.old + read_rooms job.steps }
-{
-    let forks = Forks {
-        rt,
-        alloc,
-        gate,
-        pieces: job.pieces,
-    };
-    let session = match sources_of(&forks, job, folder, out, steps, journal) {
-        Ok(session) => session,
-        Err(status) => return status,
-    };
-    let printed = print_verdicts(alloc, url, &session, out, journal);
-    // The process ends: its memory goes back whole, not source by source.
-    forget(session);
-    match printed {
-        Ok(()) => Status::Done,
-        Err(why) => stop_at(alloc, why, 0, url, out, journal),
-    }
-}
-
 /// Prints what becomes of each line of the feed of this URL by the sources of a session.
-fn print_verdicts<O: Sink>(
+pub(crate) fn print_verdicts<O: Sink>(
     alloc: Global,
     url: &str,
     session: &Session,

@@ -5,9 +5,8 @@ ghost use Rattle.geo_outside.specs.Count.{Rose};
 ghost use Rattle.geo_outside.specs.Files.{Told};
 ghost use Rattle.job_lines.specs.Commands.{lookup};
 ghost use Rattle.job_run.specs.Acts.{shows};
-ghost use Rattle.geofeed_cmd.specs.Run.Answers.{Comes};
+ghost use Rattle.geofeed_cmd.specs.Run.Ends.{Concludes, around};
 ghost use Rattle.geofeed_cmd.specs.Run.Plans.{alone, lookup_plan, planned, refused};
-ghost use Rattle.job_run.specs.Seen.{seen};
 ghost use Rattle.job_run.specs.Stops.{IsHindered};
 ghost use Rattle.job_run.specs.World.{printing};
 
@@ -29,18 +28,9 @@ pub(crate) fn lookup<F: Folder, O: Sink>(
     out: &mut O,
     journal: &mut Journal,
 ) -> Status
-    ensures comes { (first : Told) (steps : ℕ) → F.told folder.old ≡ Some first
-        → Comes result (Some (lookup name.now at.0)) first
-        (seen (F.told folder.old) (O.written out.old) (O.faults out.old) steps)
-        (seen (F.told folder.new) (O.written out.new) (O.faults out.new) steps)
-        (F.put_faults folder.old) (F.put_faults folder.new) }
-    ensures not_words { result ≢ Status.Words }
-    ensures read { result ≡ Status.ReadFault
-        → Rose (F.read_faults folder.old) (F.read_faults folder.new) }
-    ensures missing { result ≡ Status.Missing → Rose (F.misses folder.old) (F.misses folder.new) }
-    ensures write { result ≡ Status.WriteFault → Rose (O.faults out.old) (O.faults out.new) }
-    ensures unput { F.told folder.new ≡ F.told folder.old }
-    ensures given { F.given folder.new ≤ F.given folder.old + 1073807360 }
+    ensures leaves { (steps : ℕ) → Concludes result (Some (lookup name.now at.0))
+        (around F.Folder O.Sink folder.old out.old steps)
+        (around F.Folder O.Sink folder.new out.new steps) }
 {
     match answer_in(alloc, name, at, folder) {
         Ok(text) => match print(out, text.as_str()) {

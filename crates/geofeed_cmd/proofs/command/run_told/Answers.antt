@@ -1,71 +1,34 @@
--- What follows from what there is at each answer.
-use Rattle.std.proofs.Common.{ap, subst}
-use Rattle.std.specs.Prelude.{map, string_bytes, Option}
-use Rattle.geofeed_cmd.specs.declared.status.Status.TheVariants as statuses
-use Rattle.job_lines.specs.Commands.{Command, command_of}
-use Rattle.geofeed_cmd.specs.Run.Answers.{IsAnswer}
-use Rattle.geofeed_cmd.specs.Run.Plans.{reads_folder}
-use Rattle.geofeed_cmd.proofs.AnswerLemmas.{answered}
-use Rattle.geofeed_cmd.proofs.CauseLemmas.{caused, certain}
-use Rattle.geofeed_cmd.proofs.GenEndLemmas.{gen_ends}
-use Rattle.geofeed_cmd.proofs.HeadlineLemmas.{done_of, least_by_value, no_fault, published_at}
-use Rattle.geofeed_cmd.proofs.WordLemmas.{command_few}
+-- Words that are no command.
+use Rattle.std.proofs.Common.{◌≤◌, ap, arith, inl, refl}
+use Rattle.std.specs.Prelude.{map, string_bytes}
+use Rattle.job_lines.specs.Commands.{command_of}
+use Rattle.geofeed_cmd.specs.Run.Plans.{is_command}
+use Rattle.geofeed_cmd.proofs.AnswerLemmas.{comes_words}
 use Rattle.geofeed_cmd.proofs.command.run_told.Goals as goal
 
-pub returns-clause-done : goal.returns-clause-done
-returns-clause-done g c =
-    λ first told done. done_of c.do_words.result (command_of (map string_bytes c.args.words.now))
-    first _ _ _ _ done (c.do_words.ensures.comes first told)
-
-pub returns-clause-headline : goal.returns-clause-headline
-returns-clause-headline g c =
-    λ first told done step name world there emits.
-    published_at (command_of (map string_bytes c.args.words.now)) first _ _
-    (done_of c.do_words.result (command_of (map string_bytes c.args.words.now)) first _ _ _ _ done
-    (c.do_words.ensures.comes first told)) step name world there emits
-
-pub returns-clause-by_value : goal.returns-clause-by_value
-returns-clause-by_value g c =
-    λ first told done step name world there emits.
-    least_by_value world.session.state
-    (published_at (command_of (map string_bytes c.args.words.now)) first _ _
-    (done_of c.do_words.result (command_of (map string_bytes c.args.words.now)) first _ _ _ _ done
-    (c.do_words.ensures.comes first told)) step name world there emits)
-
-pub returns-clause-exact : goal.returns-clause-exact
-returns-clause-exact g c =
-    λ first told. answered c.do_words.result (command_of (map string_bytes c.args.words.now)) first
-    _ _ _ _ (c.do_words.ensures.comes first told)
-
-pub returns-clause-caused : goal.returns-clause-caused
-returns-clause-caused g c =
-    λ first told.
-    caused (command_of (map string_bytes c.args.words.now)) first c.do_words.result
-    (answered c.do_words.result (command_of (map string_bytes c.args.words.now)) first _ _ _ _
-    (c.do_words.ensures.comes first told))
-
-pub returns-clause-certain : goal.returns-clause-certain
-returns-clause-certain g c =
-    λ first told status cause.
-    certain (command_of (map string_bytes c.args.words.now)) first c.do_words.result
-    (answered c.do_words.result (command_of (map string_bytes c.args.words.now)) first _ _ _ _
-    (c.do_words.ensures.comes first told)) status cause
-
-pub returns-clause-complete : goal.returns-clause-complete
-returns-clause-complete g c =
-    λ first told free cheap unread unwritten unprinted.
-    no_fault (command_of (map string_bytes c.args.words.now)) first c.do_words.result cheap _ _ _
-    c.do_words.ensures.read c.do_words.ensures.write unread unwritten unprinted
-    (certain (command_of (map string_bytes c.args.words.now)) first c.do_words.result
-    (answered c.do_words.result (command_of (map string_bytes c.args.words.now)) first _ _ _ _
-    (c.do_words.ensures.comes first told)) statuses.Done free)
-
-pub returns-clause-generated : goal.returns-clause-generated
-returns-clause-generated g c =
-    λ first lines file told its.
-    let words = map string_bytes c.args.words.now in
-    let answer = answered c.do_words.result (command_of words) first _ _ _ _
-    (c.do_words.ensures.comes first told) in
-    gen_ends lines file first (command_few lines file words its) c.do_words.result
-    (subst (λ (o : Option Command). IsAnswer o first c.do_words.result) its answer)
-    (λ fault. (c.do_words.ensures.unread (ap reads_folder its)).0 fault)
+pub returns-in-Err : goal.returns-in-Err
+returns-in-Err g c =
+    let none = ap is_command c.in-Err.ensures in
+    record {
+      leaves = record {
+        comes = λ first told.
+            let steps : c.args.steps.now ≤ c.args.steps.now = omega arith in
+            rw c.no_command.ensures.status
+            (comes_words (command_of (map string_bytes c.args.words.now)) first _ _ 0 0
+            none told c.no_command.ensures.closed steps);
+        published = λ first told done. absurd (cc);
+        ends = record {
+          words = λ is. none;
+          none = λ not. inl c.no_command.ensures.status;
+          untouched = λ not. refl;
+          unput = λ not. refl;
+          still = λ not. refl;
+          given = λ first told. omega arith;
+          read = λ is. absurd (cc);
+          missing = λ is. absurd (cc);
+          unread = λ not. ((λ is. absurd (cc)), omega arith);
+          write = λ is. absurd (cc);
+          unprinted = λ not is. absurd (cc);
+        };
+      };
+    }

@@ -1,12 +1,13 @@
 -- The sources of a job from what its steps left.
-use Rattle.std.proofs.Common.{[], ◌∷◌, ◌++◌, refl, sym, ◌∙◌, ap, arith, List}
+use Rattle.std.proofs.Common.{◌≡◌, [], ◌∷◌, ◌++◌, refl, sym, ◌∙◌, ap, arith, List}
 use Rattle.geo_outside.specs.Count.{Rose}
 use Rattle.job_lines.specs.declared.job.Step.{Step}
 use Rattle.job_run.specs.Moves.{source_moves}
 use Rattle.geofeed_cmd.specs.Run.Plans.{start_of, planned}
+use Rattle.geofeed_cmd.specs.declared.status.Status.TheVariants as statuses
 use Rattle.geofeed_cmd.proofs.AnswerLemmas.{comes_stop}
 use Rattle.geofeed_cmd.proofs.LastLemmas.{at_longer}
-use Rattle.geofeed_cmd.proofs.StatusLemmas.{status_causes}
+use Rattle.geofeed_cmd.proofs.StatusLemmas.{not_done, status_causes}
 use Rattle.geofeed_cmd.proofs.sourced.sources_of.Goals as goal
 
 pub returns-in-Ok-do_steps-clause-ok : goal.returns-in-Ok-do_steps-clause-ok
@@ -48,6 +49,11 @@ returns-clause-err g c =
     c.in-Err-do_steps.ensures.put_failed
     (λ sink. let rose : Rose (g.O.Sink.faults c.args.out.now) (g.O.Sink.faults c.do_steps.new.out) =
     c.in-Err-do_steps.ensures.sink_failed sink in omega arith))
+
+pub returns-clause-not_done : goal.returns-clause-not_done
+returns-clause-not_done g c is =
+    let done : c.stop_in.result ≡ statuses.Done = cc in
+    absurd (not_done c.in-Err-do_steps.stop.why (sym c.stop_in.ensures.status ∙ done))
 
 pub returns-clause-not_words : goal.returns-clause-not_words
 returns-clause-not_words g c = grind (arith, status_causes)

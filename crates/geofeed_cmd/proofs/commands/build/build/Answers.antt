@@ -1,30 +1,42 @@
 -- The answer of `build` from that of its parts.
-use Rattle.std.proofs.Common.{◌≤◌, ◌∙◌, ap, arith, refl}
+use Rattle.std.proofs.Common.{◌≤◌, ◌∙◌, ap, arith, refl, rules}
 use Rattle.std.specs.FinMap as map
 use Rattle.std.specs.Prelude.{Some}
 use Rattle.job_lines.specs.Commands.{build}
 use Rattle.geofeed_cmd.specs.Run.Plans.{job_plan}
 use Rattle.geofeed_cmd.proofs.AnswerLemmas.{comes_earlier, comes_hindered, hindered_job}
+use Rattle.geofeed_cmd.proofs.StatusLemmas.{status_causes}
 use Rattle.geofeed_cmd.proofs.commands.build.build.Goals as goal
 
-pub returns-in-Ok-clause-comes : goal.returns-in-Ok-clause-comes
-returns-in-Ok-clause-comes g c =
-    λ first told.
-    let plan =
-    ap (job_plan (build c.args.name.now) first c.args.name.now) (c.in-Ok.ensures.job first told) in
-    let comes = c.do_job.ensures.comes first (c.job_in.ensures.same ∙ told)
-    (Some (build c.args.name.now)) plan in
-    comes_earlier c.do_job.result
-    (Some (build c.args.name.now)) first _ _ _ _ _ c.job_in.ensures.put_faults
-    (rw c.job_in.ensures.same at comes)
+pub returns-in-Ok : goal.returns-in-Ok
+returns-in-Ok g c =
+    let known = build c.args.name.now in
+    record {
+      leaves = record {
+        comes = λ first told.
+            let plan = ap (job_plan known first c.args.name.now) (c.in-Ok.ensures.job first told) in
+            let comes =
+            c.do_job.ensures.comes first (c.job_in.ensures.same ∙ told) (Some known) plan in
+            comes_earlier c.do_job.result (Some known) first _ _ _ _ _
+            c.job_in.ensures.put_faults (rw c.job_in.ensures.same at comes);
+        published = λ first told done. tt;
+        ends = search (rules, status_causes);
+      };
+    }
 
-pub returns-in-Err-clause-comes : goal.returns-in-Err-clause-comes
-returns-in-Err-clause-comes g c =
-    λ first told.
-    let steps : c.args.steps.now ≤ c.args.steps.now = omega arith in
-    rw c.stop_at.ensures.status
-    (comes_hindered (build c.args.name.now) c.args.name.now first _ _ _ _ refl c.in-Err.why
-    (hindered_job (build c.args.name.now) first c.args.name.now c.in-Err.why
-    (map.get first.held c.args.name.now)
-    (c.in-Err.ensures.none first told))
-    (c.job_in.ensures.same ∙ told) c.stop_at.ensures.closed steps)
+pub returns-in-Err : goal.returns-in-Err
+returns-in-Err g c =
+    let known = build c.args.name.now in
+    record {
+      leaves = record {
+        comes = λ first told.
+            let steps : c.args.steps.now ≤ c.args.steps.now = omega arith in
+            rw c.stop_at.ensures.status
+            (comes_hindered known c.args.name.now first _ _ _ _ refl c.in-Err.why
+            (hindered_job known first c.args.name.now c.in-Err.why
+            (map.get first.held c.args.name.now) (c.in-Err.ensures.none first told))
+            (c.job_in.ensures.same ∙ told) c.stop_at.ensures.closed steps);
+        published = λ first told done. tt;
+        ends = search (rules, status_causes);
+      };
+    }
