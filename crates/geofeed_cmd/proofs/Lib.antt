@@ -14,6 +14,7 @@ pub mod LastCommands
 pub mod LastLemmas
 pub mod LookupAnswers
 pub mod LookupEndsLemmas
+pub mod NoCommand
 pub mod PiecesLemmas
 pub mod StatusLemmas
 pub mod ValueLemmas
