@@ -157,6 +157,23 @@ fed_refused slot reader file why is refused =
     hindered_more why _ _ (λ cause q. fed_fault slot file cause
     (ap (λ s. refusal (so_far s file)) (sym here) ∙ q)) (refused [] (at_slot slot [] reader is))
 
+-- a reader that was fed a whole text answers for all of it
+pub whole_text_refused : (slot bytes : List ℕ) (before after : Reading)
+    (r : Result DumpParts Stop) → before ≡ reading slot []
+    → ((text : List ℕ) → before ≡ reading before.slot text
+    → (after ≡ reading before.slot (text ++ bytes))
+    × (refusal (so_far before.slot (text ++ bytes)) ≡ None))
+    → ((text : List ℕ) → after ≡ reading after.slot text → IfErr r (λ why. IsHindered why
+    (λ cause. refusal (dump after.slot text) ≡ Some cause)))
+    → IfErr r (λ why. IsHindered why (λ cause. refusal (dump slot bytes) ≡ Some cause))
+whole_text_refused slot bytes before after r is taken refused =
+    let now = (taken [] (at_slot slot [] before is)).0 in
+    let same : after ≡ reading slot bytes =
+    now ∙ ap (λ s. reading s bytes) (slot_is slot [] before is) in
+    subst (λ (s : List ℕ). IfErr r (λ why. IsHindered why
+    (λ cause. refusal (dump s bytes) ≡ Some cause))) (slot_is slot bytes after same)
+    (refused bytes (at_slot slot bytes after same))
+
 -- the end of a file: all of it was read
 all_read : (slot : List ℕ) (told : Option Told) (name : List ℕ) (reader : Reading) (fed n : ℕ)
     (into : List ℕ) (h : HasRead slot told name reader fed) → n ≡ 0
