@@ -17,7 +17,6 @@ use Rattle.csv_lines.specs.Clean.{IsCleanPlace, IsCleanSaid}
 use Rattle.feed_refs.specs.Dumps.{dump}
 use Rattle.source_changes.specs.Changes.{Change, SetDump, SetFeed, SetStats, SetOverrides, DropDump}
 use Rattle.source_changes.specs.Changes.{DropFeed, DropStats, DropOverrides, after as after_change}
-use Rattle.update_session.specs.Marks.{with_one}
 use Rattle.update_session.specs.Standing.{Standing, StandingMark, at_mark, begun_standing}
 use Rattle.update_session.specs.Standing.{mark_named, marked, went_back}
 use Rattle.file_lookup.specs.Lookup.{answer}
@@ -80,17 +79,6 @@ module _ {X : Type 0} (P : X → Type 0) where
         | Equal ↦ (p, h.1)
         | Greater ↦ (h.0, each_placed name x ys p h.1)
       ]
-
-  each_with_one : (name : X → List ℕ) (x : X) (xs : List X) → P x → Each P xs
-      → Each P (with_one name x xs)
-  each_with_one name x [] p h = (p, tt)
-  each_with_one name x (y ∷ ys) p h =
-      by (same_text (name y) (name x)) (each_with_one name x ys p h.1)
-    where
-      by : (b : Bool) → Each P (with_one name x ys)
-          → Each P (cond b (x ∷ ys) (y ∷ with_one name x ys))
-      by true more = (p, h.1)
-      by false more = (h.0, more)
 
 -- ---- sources
 
@@ -188,7 +176,7 @@ sourced_clean (Some change) w is h = record {
 marked_clean : (name : List ℕ) (w : Standing) → IsCleanAtAll w → IsCleanAtAll (marked name w)
 marked_clean name w h = record {
   sources = h.sources;
-  marks = each_with_one (λ m. AreCleanSources m.sources) (λ m. m.name) (record {
+  marks = each_placed (λ m. AreCleanSources m.sources) (λ m. m.name) (record {
     name = name;
     sources = w.state.sources;
     base = w.base;
