@@ -119,7 +119,9 @@ impl Notices {
         count: usize,
         session: &Session,
     ) {
-        for step in job.iter().skip(at).take(count) {
+        // (`skip` would go over the steps before them, one by one)
+        let (_before, rest) = job.split_at(at.min(job.len()));
+        for step in rest.iter().take(count) {
             match &step.act {
                 Act::Emit { file } => {
                     if scope == Scope::Whole && is_without_record(session) && sets_any(job) {
