@@ -39,7 +39,7 @@ feed() {
         END {
             front = honest ? "2001:db8:7f4a:7c15" : "9e37:79b9:7f4a:7c15"
             size = family == "places" ? 32 : family == "packed" ? 30 : 16
-            if (honest) count = family == "cache" ? 3 : lines
+            if (honest) count = family == "cache" ? 6 : lines
             for (n = 0; n < count && honest; n++) word[n] = made(size)
             for (n = 0; n < lines; n++) {
                 high = int(n / 65536)

@@ -9,7 +9,7 @@
 // places  places of one mark, whose cities begin with the same 24 letters
 // texts   cities of one mark, so that their places have one too
 // packed  cities whose spellings in a data section have one hash
-// cache   three cities in turn, of one mark and with tails of one slot: each is made again
+// cache   six cities in turn, of one mark and with tails of one slot: each is made again
 // words   what is searched for feeds of so many lines, for where nothing can be compiled
 #include <cstdint>
 #include <cstdio>
@@ -137,14 +137,16 @@ static string of_one_mark() {
     }
 }
 
-// Three such texts whose lines have tails that lead to one of 16,384 slots.
-static strings three_turns() {
+// As many such texts, whose lines have tails that lead to one of 16,384 slots: more than are kept.
+static const unsigned TURNS = 6;
+
+static strings crowded_turns() {
     std::vector<strings> slots(1 << 14);
     for (;;) {
         string city = of_one_mark();
         auto &slot = slots[tail_mark("DE,," + city + ",") % slots.size()];
         slot.push_back(city);
-        if (slot.size() == 3) return slot;
+        if (slot.size() == TURNS) return slot;
     }
 }
 
@@ -160,7 +162,7 @@ static void put_city(unsigned n, const string &city) {
 
 static void put_words(unsigned count) {
     printf("places %s\npacked %s\n", trap().c_str(), packed_trap().c_str());
-    for (const string &city : three_turns()) printf("cache %s\n", city.c_str());
+    for (const string &city : crowded_turns()) printf("cache %s\n", city.c_str());
     for (unsigned n = 0; n < count; n++) printf("texts %s\n", of_one_mark().c_str());
 }
 
@@ -176,10 +178,10 @@ int main(int count_of_words, char **words) {
     strings turns;
     if (!honest && family == "places") front = trap();
     if (!honest && family == "packed") front = packed_trap();
-    if (family == "cache") turns = honest ? strings({letters(16), letters(16), letters(16)})
-                                          : three_turns();
+    if (family == "cache" && !honest) turns = crowded_turns();
+    while (family == "cache" && turns.size() < TURNS) turns.push_back(letters(16));
     for (unsigned n = 0; n < count; n++) {
-        if (!turns.empty()) put_city(n, turns[n % 3]);
+        if (!turns.empty()) put_city(n, turns[n % TURNS]);
         else if (honest) put_city(n, letters(length));
         else if (!front.empty()) put_city(n, front + letters(8));
         else if (family == "texts") put_city(n, of_one_mark());
