@@ -71,8 +71,8 @@ impl Place {
         let (first, second) = (texts.country().as_bytes(), texts.region().as_bytes());
         let (third, fourth) = (texts.city().as_bytes(), texts.postal().as_bytes());
         let mixed = mixed_texts(first, second, third, fourth);
-        let mark = low(mixed);
-        let rank = low(mixed_again(mixed, first, second, third, fourth));
+        let again = mixed_again(mixed, first, second, third, fourth);
+        let (mark, rank) = ((mixed % (1 << 32)) as u32, (again % (1 << 32)) as u32);
         let lead = lead_of(first, second);
         let parts = Parts {
             mark,
@@ -237,13 +237,6 @@ fn mixed_again(mixed: u64, country: &[u8], region: &[u8], city: &[u8], postal: &
     hasher.write(region);
     hasher.write(country);
     hasher.finish()
-}
-
-// The low half of a number.
-fn low(number: u64) -> u32
-    ensures { result ≡ number % 2 ^ 32 }
-{
-    (number % (1 << 32)) as u32
 }
 
 // A number that tells a country and its region, or 0 where none does.

@@ -4,7 +4,7 @@ ghost use Rattle.std.specs.Prelude.{IsOkUnless, IsTrue, [], ◌∷◌, if◌then
 ghost use Rattle.std.specs.List.{list_all};
 ghost use Rattle.std.specs.Char.{is_ascii_alphanumeric};
 ghost use Rattle.geo_terms.specs.PlaceForm.{country_fits, country_of_region, is_country, is_empty};
-ghost use Rattle.geo_terms.specs.PlaceForm.{is_region, is_subdivision, lengths_fit};
+ghost use Rattle.geo_terms.specs.PlaceForm.{is_region, lengths_fit};
 ghost use Rattle.geo_terms.specs.PlaceForm.{nowhere, parts_of, place_of_country, region_fits};
 ghost use Rattle.geo_terms.specs.PlaceForm.{same_text, says_nothing, upper};
 ghost use Rattle.geo_terms.specs.SaidOf.{said_of, said_by};
@@ -105,7 +105,7 @@ pub fn country_place(texts: &mut Texts, country: &[u8]) -> Result<Option<Place>,
     if !first.is_ascii_alphabetic() || !second.is_ascii_alphabetic() {
         return Ok(None);
     }
-    let pair = upper_pair(*first, *second);
+    let pair = [first.to_ascii_uppercase(), second.to_ascii_uppercase()];
     if is_nowhere(&pair) {
         return Ok(None);
     }
@@ -117,15 +117,6 @@ pub fn country_place(texts: &mut Texts, country: &[u8]) -> Result<Option<Place>,
     let country = unsafe { str::from_utf8_unchecked(country) };
     let made = JoinedTexts::of(texts.alloc, country, "", "", "")?;
     Ok(Some(texts.new_place(mark, made)?))
-}
-
-// Two bytes in upper case.
-fn upper_pair(first: u8, second: u8) -> [u8; 2]
-    ensures { result ≡ upper (first ∷ second ∷ []) }
-{
-    let first = first.to_ascii_uppercase();
-    let second = second.to_ascii_uppercase();
-    [first, second]
 }
 
 // What fields that are in form and have this mark say, where it did not come before.
@@ -247,16 +238,12 @@ fn is_region(text: &[u8]) -> bool
             first.is_ascii_alphabetic()
                 && second.is_ascii_alphabetic()
                 && *dash == b'-'
-                && is_subdivision(rest)
+                && !rest.is_empty()
+                && rest.len() <= 3
+                && is_alphanumeric(rest)
         }
         _ => false,
     }
-}
-
-fn is_subdivision(text: &[u8]) -> bool
-    ensures { result ≡ is_subdivision text.now }
-{
-    !text.is_empty() && text.len() <= 3 && is_alphanumeric(text)
 }
 
 fn is_alphanumeric(text: &[u8]) -> bool

@@ -1,14 +1,18 @@
 //! Values by marks, without chains.
 use geo_addr::Memory;
 use std::alloc::Global;
+use std::collections::BTreeSet;
 use std::mem;
 
-/// Values by marks: one has a slot of the group that its mark leads to, and an older one may go for
-/// a newer one. So a look-up is four looks, whatever marks strangers make.
+/// Values by marks: one has a slot of the group that its mark leads to. Where a group is full, the
+/// oldest of it stands in an ordered set. So a look-up is four looks and at most one way down that
+/// set, whatever marks strangers make, and nothing that came is let go.
 #[derive(Drop)]
-pub(crate) struct Slots<T: Drop> {
+pub(crate) struct Slots<T: Ord + Drop> {
     slots: Vec<Option<(u64, T)>>,
-    put: u64,
+    others: BTreeSet<T>,
+    // How many have a slot.
+    held: u64,
 }
 
 /// How many slots are a group.
@@ -17,14 +21,15 @@ pub(crate) const TOGETHER: usize = 4;
 /// How many slots a table has at first, and at most.
 const FIRST: u64 = 1 << 6;
 
-const MOST: u64 = 1 << 20;
+const MOST: u64 = 1 << 22;
 
-impl<T: Drop> Slots<T> {
+impl<T: Ord + Drop> Slots<T> {
     /// No slot yet; it takes no memory.
     pub(crate) fn new(alloc: Global) -> Slots<T> {
         Slots {
             slots: Vec::new(alloc),
-            put: 0,
+            others: BTreeSet::new(alloc),
+            held: 0,
         }
     }
 
@@ -36,17 +41,36 @@ impl<T: Drop> Slots<T> {
         }
     }
 
-    /// Puts a value in; the table doubles once half as many were put in as it has slots.
+    /// What equals this value among those that have no slot, where all slots of its group are taken.
+    pub(crate) fn other(&self, mark: u64, value: &T) -> Option<&T> {
+        let own = self.slot_of(mark);
+        for beside in 0..TOGETHER {
+            match self.slots.get(own ^ beside) {
+                Some(Some(_)) => {}
+                _ => return None,
+            }
+        }
+        self.others.get(value)
+    }
+
+    /// Puts a value in; the table doubles once half of its slots are taken.
     pub(crate) fn keep(&mut self, alloc: Global, mark: u64, value: T) -> Result<(), Memory> {
         let count = self.slots.len() as u64;
-        if self.put >= count / 2 && count < MOST {
+        if self.held >= count / 2 && count < MOST {
             self.grow(alloc, count.saturating_mul(2).max(FIRST))?;
         }
-        self.put = self.put.saturating_add(1);
-        self.put_in(mark, value);
+        match self.put_in(mark, value) {
+            None => self.held = self.held.saturating_add(1),
+            Some((_, oldest)) => {
+                if self.others.insert(oldest).is_err() {
+                    return Err(Memory);
+                }
+            }
+        }
         Ok(())
     }
 
+    // A group becomes two, so each value finds a slot again.
     fn grow(&mut self, alloc: Global, count: u64) -> Result<(), Memory> {
         let mut slots = Vec::with_capacity(alloc, count as usize)?;
         for _ in 0..count {
@@ -54,26 +78,27 @@ impl<T: Drop> Slots<T> {
         }
         for slot in mem::replace(&mut self.slots, slots) {
             if let Some((mark, value)) = slot {
-                self.put_in(mark, value);
+                let _none = self.put_in(mark, value);
             }
         }
         Ok(())
     }
 
     // Puts a value into the slot of its mark, and what was there into the one beside it, and so on
-    // up to a free one; what has none left is let go.
-    fn put_in(&mut self, mark: u64, value: T) {
+    // up to a free one; gives what has none left.
+    fn put_in(&mut self, mark: u64, value: T) -> Option<(u64, T)> {
         let own = self.slot_of(mark);
         let mut moved = Some((mark, value));
         for beside in 0..TOGETHER {
             let Some(slot) = self.slots.get_mut(own ^ beside) else {
-                return;
+                return moved;
             };
             moved = mem::replace(slot, moved);
             if moved.is_none() {
-                return;
+                return None;
             }
         }
+        moved
     }
 
     fn slot_of(&self, mark: u64) -> usize {

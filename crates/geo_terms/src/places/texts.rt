@@ -11,9 +11,8 @@ use std::alloc::Global;
 /// The texts and the places of one source so far: one that came before is given again, and takes no
 /// bytes.
 ///
-/// Which texts it holds changes what memory is taken, and never what a text says. A look-up is at
-/// most four, whatever strangers write: of those whose marks lead to one group of slots four are
-/// shared.
+/// Which texts it holds changes what memory is taken, and never what a text says. Each that came is
+/// shared, and a look-up is at most four and one way down an ordered set, whatever strangers write.
 #[derive(Drop)]
 pub struct Texts {
     pub(crate) alloc: Global,
@@ -44,6 +43,11 @@ impl Texts {
             }
         }
         let text = Text::of(self.alloc, text)?;
+        if let Some(found) = self.texts.other(mark, &text) {
+            if *found == text {
+                return found.copied();
+            }
+        }
         let copy = text.copied()?;
         self.texts.keep(self.alloc, mark, copy)?;
         Ok(text)
@@ -90,12 +94,17 @@ impl Texts {
         self.new_place(mark, texts)
     }
 
-    /// A new place of four texts, which from now on came before by this mark.
+    /// The place of four texts that no slot has by this mark, which from now on came before.
     pub(crate) fn new_place(&mut self, mark: u64, texts: JoinedTexts) -> Result<Place, Memory>
         requires { IsPlace texts }
         ensures { IfOk result (λ place. place ≡ texts) }
     {
         let place = Place::of(self.alloc, texts)?;
+        if let Some(found) = self.places.other(mark, &place) {
+            if *found == place {
+                return found.copied();
+            }
+        }
         let copy = place.copied()?;
         self.places.keep(self.alloc, mark, copy)?;
         Ok(place)
@@ -112,9 +121,9 @@ pub(crate) fn mark_of_four(country: &[u8], region: &[u8], city: &[u8], postal: &
 fn mark_of(text: &[u8]) -> u64 {
     let mut mark = text.len() as u64;
     let mut left = text;
-    while left.len() >= 8 {
-        mark = mixed(mark ^ first_word(left));
-        left = &left[8..];
+    while let [a, b, c, d, e, f, g, h, rest @ ..] = left {
+        mark = mixed(mark ^ u64::from_le_bytes([*a, *b, *c, *d, *e, *f, *g, *h]));
+        left = rest;
     }
     mixed(mark ^ short_word(left))
 }
@@ -125,14 +134,6 @@ fn mark_of(text: &[u8]) -> u64 {
 pub fn mixed(mark: u64) -> u64 {
     let product = u128::from(mark) * 0x9e37_79b9_7f4a_7c15;
     (product & 0xffff_ffff_ffff_ffff) as u64 ^ (product >> 64) as u64
-}
-
-// The number that the first eight bytes spell, the lowest first; 0 where there are fewer.
-fn first_word(bytes: &[u8]) -> u64 {
-    let [a, b, c, d, e, f, g, h, ..] = bytes else {
-        return 0;
-    };
-    u64::from_le_bytes([*a, *b, *c, *d, *e, *f, *g, *h])
 }
 
 // A number that the bytes spell, of which the last eight count.
