@@ -9,7 +9,8 @@
 // places  places of one mark, whose cities begin with the same 24 letters
 // texts   cities of one mark, so that their places have one too
 // packed  cities whose spellings in a data section have one hash
-// cache   six cities in turn, of one mark and with tails of one slot: each is made again
+// cache   six cities in turn, of one mark and with tails of one slot: more than have slots
+// quoted  the same cities in quotes, so that no line is told by its tail
 // words   what is searched for feeds of so many lines, for where nothing can be compiled
 #include <cstdint>
 #include <cstdio>
@@ -137,7 +138,7 @@ static string of_one_mark() {
     }
 }
 
-// As many such texts, whose lines have tails that lead to one of 16,384 slots: more than are kept.
+// As many such texts, whose lines have tails that lead to one of 16,384 slots: more than have slots.
 static const unsigned TURNS = 6;
 
 static strings crowded_turns() {
@@ -156,8 +157,9 @@ static void put_ranges(u64 count, bool honest) {
         printf("%s:1:%x:%x:1/128,DE,,Berlin,\n", front, n >> 16, n & 0xffff);
 }
 
-static void put_city(unsigned n, const string &city) {
-    printf("11.%u.%u.%u/32,DE,,%s,\n", n >> 16, n >> 8 & 255, n & 255, city.c_str());
+static void put_city(unsigned n, const string &city, const char *quote = "") {
+    printf("11.%u.%u.%u/32,DE,,%s%s%s,\n", n >> 16, n >> 8 & 255, n & 255, quote,
+           city.c_str(), quote);
 }
 
 static void put_words(unsigned count) {
@@ -178,10 +180,11 @@ int main(int count_of_words, char **words) {
     strings turns;
     if (!honest && family == "places") front = trap();
     if (!honest && family == "packed") front = packed_trap();
-    if (family == "cache" && !honest) turns = crowded_turns();
-    while (family == "cache" && turns.size() < TURNS) turns.push_back(letters(16));
+    bool in_turn = family == "cache" || family == "quoted";
+    if (in_turn && !honest) turns = crowded_turns();
+    while (in_turn && turns.size() < TURNS) turns.push_back(letters(16));
     for (unsigned n = 0; n < count; n++) {
-        if (!turns.empty()) put_city(n, turns[n % TURNS]);
+        if (in_turn) put_city(n, turns[n % TURNS], family == "quoted" ? "\"" : "");
         else if (honest) put_city(n, letters(length));
         else if (!front.empty()) put_city(n, front + letters(8));
         else if (family == "texts") put_city(n, of_one_mark());

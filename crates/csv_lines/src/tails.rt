@@ -6,6 +6,7 @@ ghost use Rattle.csv_lines.specs.Tails.{IsCut, IsTail, SaysBare, is_word};
 use geo_addr::{Memory, trim_blanks};
 use geo_terms::{Place, mixed};
 use std::alloc::Global;
+use std::collections::BTreeMap;
 use std::marker::Model;
 use std::mem;
 
@@ -116,11 +117,16 @@ const TAIL_BYTES: usize = 32;
 /// Tails of one file, and the places that they say.
 ///
 /// Which tails it holds changes no answer: a line whose tail is not held is read by its fields.
-/// A tail has two slots, that of its mark and the one beside it.
+/// A tail has two slots, that of its mark and the one beside it, and the older ones of those whose
+/// slots others have are in an ordered map. Once as many came as there are slots, all are let go: so
+/// what a file costs follows from how many different tails it has, and not from their marks.
 #[derive(Drop)]
 pub struct Tails<'a> {
     slots: Vec<Option<Tail<'a>>>,
+    others: BTreeMap<&'a [u8], Tail<'a>>,
     last: u64,
+    // How many came since the last time that all were let go.
+    held: usize,
 }
 
 impl<'a> Tails<'a> {
@@ -134,32 +140,38 @@ impl<'a> Tails<'a> {
         }
         Ok(Tails {
             slots,
+            others: BTreeMap::new(alloc),
             last: u64::from(last),
+            held: 0,
         })
     }
 
     /// The place that a line says by its tail, where that is held.
-    pub fn known(&self, cut: &LineCut) -> Option<&Place>
+    pub fn known(&self, cut: &LineCut<'a>) -> Option<&Place>
         ensures { IfSome result (λ place. IsTail cut.now.tail place.now) }
     {
+        // A tail's own slot is taken before the one beside it, and both before the map has one.
         let slot = (cut.mark & self.last) as usize;
-        match self.held(slot, cut) {
-            Some(place) => Some(place),
-            None => self.held(slot ^ 1, cut),
+        let first = self.in_slot(slot)?;
+        if let Some(place) = first.place_of(cut) {
+            return Some(place);
         }
+        let second = self.in_slot(slot ^ 1)?;
+        if let Some(place) = second.place_of(cut) {
+            return Some(place);
+        }
+        self.others.get(&cut.tail)?.place_of(cut)
     }
 
-    // The place that a line says by its tail, where this slot has it.
-    fn held(&self, slot: usize, cut: &LineCut) -> Option<&Place>
-        ensures { IfSome result (λ place. IsTail cut.now.tail place.now) }
-    {
+    // The tail that has this slot.
+    fn in_slot(&self, slot: usize) -> Option<&Tail<'a>> {
         match self.slots.get(slot) {
-            Some(Some(tail)) => tail.place_of(cut),
+            Some(Some(tail)) => Some(tail),
             _ => None,
         }
     }
 
-    /// Holds the tail of a line that says this place; an older one may have to go for it.
+    /// Holds the tail of a line that says this place.
     pub fn keep(&mut self, cut: &LineCut<'a>, place: &Place) -> Result<(), Memory>
         requires { (line : List ℕ)
             × IsCut line cut.now.first cut.now.tail × SaysBare line place.now }
@@ -169,21 +181,40 @@ impl<'a> Tails<'a> {
             text: cut.tail,
             place,
         };
-        self.put((cut.mark & self.last) as usize, tail);
-        Ok(())
+        if self.held >= self.slots.len() {
+            self.begin_anew();
+        }
+        self.held = self.held.saturating_add(1);
+        match self.put((cut.mark & self.last) as usize, tail) {
+            Some(oldest) => self.put_other(oldest),
+            None => Ok(()),
+        }
     }
 
-    // Puts a tail into a slot, and what was there into the one beside it.
-    fn put(&mut self, slot: usize, tail: Tail<'a>) {
-        let Some(first) = self.slots.get_mut(slot) else {
-            return;
-        };
-        let before = mem::replace(first, Some(tail));
-        if before.is_none() {
-            return;
+    // Lets all tails go.
+    fn begin_anew(&mut self) {
+        for slot in self.slots.iter_mut() {
+            *slot = None;
         }
-        if let Some(second) = self.slots.get_mut(slot ^ 1) {
-            *second = before;
+        self.others = BTreeMap::new(*self.slots.allocator());
+        self.held = 0;
+    }
+
+    // Puts a tail into a slot, and what was there into the one beside it; gives what was there.
+    fn put(&mut self, slot: usize, tail: Tail<'a>) -> Option<Tail<'a>> {
+        let first = self.slots.get_mut(slot)?;
+        let before = mem::replace(first, Some(tail))?;
+        match self.slots.get_mut(slot ^ 1) {
+            Some(second) => mem::replace(second, Some(before)),
+            None => Some(before),
+        }
+    }
+
+    // Puts a tail that has no slot into the map.
+    fn put_other(&mut self, tail: Tail<'a>) -> Result<(), Memory> {
+        match self.others.insert(tail.text, tail) {
+            Ok(_) => Ok(()),
+            Err(_) => Err(Memory),
         }
     }
 }
