@@ -56,7 +56,10 @@ pub(crate) fn read_line<'a>(
 }
 
 // What a line says whose tail came before, and which hands nothing over.
-fn known_outcome(cut: &Option<LineCut>, tails: &Tails) -> Result<Option<LineOutcome>, Memory>
+fn known_outcome<'a>(
+    cut: &Option<LineCut<'a>>,
+    tails: &Tails<'a>,
+) -> Result<Option<LineOutcome>, Memory>
     ensures { (line : List ℕ) → IfSome cut.now (λ c. IsCut line c.first c.tail) → IfOk result
         (λ found. IfSome found (λ said. (said ≡ outcome line) × (handed line ≡ []))) }
 {
@@ -66,7 +69,7 @@ fn known_outcome(cut: &Option<LineCut>, tails: &Tails) -> Result<Option<LineOutc
     }
 }
 
-fn cut_outcome(cut: &LineCut, tails: &Tails) -> Result<Option<LineOutcome>, Memory>
+fn cut_outcome<'a>(cut: &LineCut<'a>, tails: &Tails<'a>) -> Result<Option<LineOutcome>, Memory>
     ensures { (line : List ℕ) → IsCut line cut.now.first cut.now.tail → IfOk result
         (λ found. IfSome found (λ said. (said ≡ outcome line) × (handed line ≡ []))) }
 {
