@@ -76,7 +76,7 @@ MOST_TAILS 16384 csv_lines/src/tails.rt
 LONGEST 1024 geo_terms/src/places/fields.rt
 FIRST_SLOTS 64 geo_terms/src/places.rt
 FIRST 64 geo_terms/src/places/slots.rt
-MOST 1048576 geo_terms/src/places/slots.rt
+MOST 4194304 geo_terms/src/places/slots.rt
 FIRST_SLOTS 1024 trie_core/src/others.rt
 MOST_PIECES 64 fan_work/src/forks.rt
 MOST_TOGETHER 16 job_run/src/course.rt
