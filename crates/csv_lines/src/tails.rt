@@ -118,8 +118,8 @@ const TAIL_BYTES: usize = 32;
 ///
 /// Which tails it holds changes no answer: a line whose tail is not held is read by its fields.
 /// A tail has two slots, that of its mark and the one beside it, and the older ones of those whose
-/// slots others have are in an ordered map. Once as many came as there are slots, all are let go: so
-/// what a file costs follows from how many different tails it has, and not from their marks.
+/// slots others have are in an ordered map. Once as many came as there are slots, all are let go:
+/// so what a file costs follows from how many different tails it has, and not from their marks.
 #[derive(Drop)]
 pub struct Tails<'a> {
     slots: Vec<Option<Tail<'a>>>,

@@ -41,7 +41,7 @@ impl<T: Ord + Drop> Slots<T> {
         }
     }
 
-    /// What equals this value among those that have no slot, where all slots of its group are taken.
+    /// What equals this value among those without a slot, where all of its group are taken.
     pub(crate) fn other(&self, mark: u64, value: &T) -> Option<&T> {
         let own = self.slot_of(mark);
         for beside in 0..TOGETHER {
