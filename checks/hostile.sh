@@ -2,8 +2,8 @@
 # Feeds made to crowd the tables in which equal texts, places, ranges and values are found, beside
 # honest ones of as many lines and texts of the same lengths: they take no more than three times as
 # much time of the processor, which leaves room for a busy machine, nor half as much memory again.
-# With g++ they have 100,000 lines, or as many as LINES says, which checks/hostile/hostile.cpp makes;
-# without it 10,000, of which the searched words stand in checks/hostile/words.gz.
+# With g++ they have 100,000 lines, or as many as LINES says, which checks/hostile/hostile.cpp
+# makes; without it 10,000, of which the searched words stand in checks/hostile/words.gz.
 set -u
 cd "$(dirname "${BASH_SOURCE[0]}")/.." || exit 1
 maker=$PWD/checks/hostile

@@ -138,7 +138,7 @@ static string of_one_mark() {
     }
 }
 
-// As many such texts, whose lines have tails that lead to one of 16,384 slots: more than have slots.
+// As many such texts, whose lines have tails that lead to one of 16,384 slots: too many for it.
 static const unsigned TURNS = 6;
 
 static strings crowded_turns() {
