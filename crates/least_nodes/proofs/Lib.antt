@@ -2,7 +2,7 @@ pub mod CompactLemmas
 pub mod Elements
 pub mod LaidLemmas
 pub mod ListedLemmas
-pub mod NodeSetLemmas
+pub mod NumberSetLemmas
 pub mod Positions
 pub mod RenameLemmas
 pub mod TogetherLemmas

@@ -11,7 +11,7 @@ use Rattle.trie_core.specs.declared.node.Pair.{Pair}
 use Rattle.trie_core.specs.contracts.node.NodeIdPartialEq.TheImpl as id_impl
 use Rattle.trie_core.specs.Tree.{Tree, node, height, IsReduced, tree_eq}
 use Rattle.trie_core.specs.Laws.{IsEquality}
-use Rattle.trie_core.specs.Store.{meaning, IsOf, IsSound}
+use Rattle.trie_core.specs.Store.{meaning, node_number, IsOf, IsSound}
 use Rattle.trie_core.proofs.StoreLemmas.{IsReduced-meaning, same_from_meaning}
 use Rattle.trie_core.proofs.TreeLemmas.{nat_equality}
 use Rattle.least_nodes.specs.Layout.{each_once, preorder, leaves, inner, is_place, place_order}
@@ -38,6 +38,10 @@ id_equality a b = (
 
 pub same_node_equality : IsEquality same_node
 same_node_equality a b = id_equality a b
+
+-- no two nodes have one number
+pub node_numbers_differ : (a b : NodeId) → node_number a ≡ node_number b → a ≡ b
+node_numbers_differ a b number = λ i. record { 0 = number i }
 
 pub tree_equality : IsEquality (tree_eq nat_eq)
 tree_equality = IsEquality-tree_eq nat_eq nat_equality

@@ -1,6 +1,6 @@
 pub mod Laws
 pub mod Layout
 pub mod NodeList
-pub mod NodeSet
+pub mod NumberSet
 pub mod Order
 pub mod Together

@@ -7,11 +7,11 @@ ghost use Rattle.least_nodes.specs.Laws.{IsFewest};
 ghost use Rattle.least_nodes.specs.Order.{trees_of, AreOf, nodes_after, places_after, IsDoneBelow};
 
 use crate::node_set::NodeSet;
+use crate::place_set::PlaceSet;
 use crate::seen::Seen;
 use geo_addr::Memory;
-use indexmap::IndexSet;
 use std::alloc::Global;
-use trie_core::{Near, Rec, Root, Store};
+use trie_core::{Rec, Root, Store};
 
 /// The different nodes under a root, and the numbers of the different places among their leaves,
 /// each in the order in which a walk first comes to them that takes a node before its children and
@@ -19,21 +19,21 @@ use trie_core::{Near, Rec, Root, Store};
 #[derive(Drop)]
 pub struct Layout {
     pub nodes: NodeSet,
-    pub leaves: IndexSet<u32, Near>,
+    pub leaves: PlaceSet,
     /// How many records the walk was called on.
     pub calls: u64,
 }
 
 /// The layout of the tree that the root means. A root that is a leaf has no nodes. The walk goes
 /// through the nodes under the root alone, and takes four bytes for each node of the store up to
-/// the root's.
+/// the root's, and for each number of a place up to the highest.
 pub fn order(alloc: Global, store: &Store, root: Root) -> Result<Layout, Memory>
     requires { IsRootOf store.now root }
     ensures nodes { IfOk result
         (λ layout. trees_of store.now layout.nodes ≡ inner nat_eq (tree_of store.now root)) }
     ensures of { IfOk result (λ layout. AreOf store.now layout.nodes) }
     ensures leaves { IfOk result
-        (λ layout. layout.leaves.keys ≡ place_order (tree_of store.now root)) }
+        (λ layout. layout.leaves ≡ place_order (tree_of store.now root)) }
 
     // No list of nodes that answers as the tree does is shorter.
     ensures least { IfOk result
@@ -59,12 +59,12 @@ fn visit(store: &Store, rec: Rec, seen: &mut Seen) -> Result<u64, Memory>
     requires of { IsOf store.now rec }
     requires known { AreOf store.now seen.old.nodes }
     requires done { IsDoneBelow (height (meaning store.now rec))
-        (trees_of store.now seen.old.nodes) seen.old.places.keys }
+        (trees_of store.now seen.old.nodes) seen.old.places }
     ensures known { IfOk result (λ _. AreOf store.now seen.new.nodes) }
     ensures nodes { IfOk result (λ _. trees_of store.now seen.new.nodes
         ≡ nodes_after (trees_of store.now seen.old.nodes) (meaning store.now rec)) }
-    ensures places { IfOk result (λ _. seen.new.places.keys
-        ≡ places_after seen.old.places.keys (meaning store.now rec)) }
+    ensures places { IfOk result (λ _. seen.new.places
+        ≡ places_after seen.old.places (meaning store.now rec)) }
     ensures calls { IfOk result (λ calls. calls + 2 * length seen.old.nodes
         ≡ 2 * length seen.new.nodes + 1) }
 {

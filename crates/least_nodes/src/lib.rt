@@ -5,7 +5,9 @@
 pub mod laws;
 mod layout;
 mod node_set;
+mod place_set;
 mod seen;
 
 pub use layout::{Layout, order};
 pub use node_set::NodeSet;
+pub use place_set::PlaceSet;

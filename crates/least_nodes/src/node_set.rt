@@ -23,13 +23,14 @@ pub struct NodeSet {
 impl Model for NodeSet {
     ghost use Rattle.std.specs.Prelude.{List};
     ghost use Rattle.trie_core.specs.declared.node.NodeId.{NodeId};
-    ghost use Rattle.least_nodes.specs.NodeSet.{IsFoundBy};
+    ghost use Rattle.trie_core.specs.Store.{node_number};
+    ghost use Rattle.least_nodes.specs.NumberSet.{IsFoundBy};
 
     ghost Value = { List NodeId };
 
     ghost view = { λ s. s.ids.items };
 
-    ghost invariant = { λ s. IsFoundBy s.ids.items s.next.items };
+    ghost invariant = { λ s. IsFoundBy node_number s.ids.items s.next.items };
 }
 
 impl NodeSet {
@@ -85,8 +86,8 @@ impl NodeSet {
     }
 }
 
-// Puts zeros behind the list until it holds this number.
-fn make_room(next: &mut Vec<u32>, number: u32) -> Result<(), Memory>
+/// Puts zeros behind the list until it holds this number.
+pub(crate) fn make_room(next: &mut Vec<u32>, number: u32) -> Result<(), Memory>
     ensures zeros { next.new.items
         ≡ next.old.items ++ replicate (length next.new.items - length next.old.items) 0 }
     ensures within { OnOk result (number < length next.new.items) }

@@ -4,34 +4,34 @@ ghost use Rattle.trie_core.specs.Tree.{leaf};
 ghost use Rattle.least_nodes.specs.Order.{places_after, IsNoted};
 
 use crate::node_set::NodeSet;
+use crate::place_set::PlaceSet;
 use geo_addr::Memory;
-use indexmap::IndexSet;
 use std::alloc::Global;
-use trie_core::{Near, NodeId};
+use trie_core::NodeId;
 
 /// The nodes and the places that a walk has come to, each once, in the order of the first visits.
 #[derive(Drop)]
 pub(crate) struct Seen {
     pub(crate) nodes: NodeSet,
-    pub(crate) places: IndexSet<u32, Near>,
+    pub(crate) places: PlaceSet,
 }
 
 impl Seen {
     /// A walk that has not begun; it takes no memory.
     pub(crate) fn new(alloc: Global) -> Seen
         ensures nodes { result.nodes ≡ [] }
-        ensures places { result.places.keys ≡ [] }
+        ensures places { result.places ≡ [] }
     {
         Seen {
             nodes: NodeSet::new(alloc),
-            places: IndexSet::with_hasher(alloc, Near::new()),
+            places: PlaceSet::new(alloc),
         }
     }
 
     /// Notes a node, and says whether it is new.
     pub(crate) fn note_node(&mut self, id: NodeId) -> Result<bool, Memory>
         ensures noted { IfOk result (IsNoted self.old.nodes self.new.nodes id) }
-        ensures places { self.new.places.keys ≡ self.old.places.keys }
+        ensures places { self.new.places ≡ self.old.places }
     {
         self.nodes.insert(id)
     }
@@ -39,7 +39,7 @@ impl Seen {
     /// Notes the place that a leaf is. Leaf 0 is no place.
     pub(crate) fn note_leaf(&mut self, number: u32) -> Result<(), Memory>
         ensures places { OnOk result
-            (self.new.places.keys ≡ places_after self.old.places.keys (leaf number)) }
+            (self.new.places ≡ places_after self.old.places (leaf number)) }
         ensures nodes { self.new.nodes ≡ self.old.nodes }
     {
         if number != 0 {

@@ -34,7 +34,7 @@ record_number count ids places starts (Node id) = position_or_len (same_id id) i
 -- the number for a record, by what a writer holds
 abbrev pub number_of : Numbers → Rec → ℕ
 number_of numbers =
-    record_number numbers.count numbers.nodes numbers.places.keys numbers.starts.items
+    record_number numbers.count numbers.nodes numbers.places numbers.starts.items
 
 -- the two numbers of a node, from those of its children
 abbrev pub node_numbers : List Pair → (Rec → ℕ) → NodeId → ℕ × ℕ

@@ -2,9 +2,8 @@
 ghost use Rattle.std.specs.Prelude.{◌≡◌, ◌+◌, ◌^◌, ◌<◌, ◌≤◌, ℕ, [], length, slice_index, IfOk};
 ghost use Rattle.mmdb_file.specs.Writing.{record_number};
 
-use indexmap::IndexSet;
-use least_nodes::NodeSet;
-use trie_core::{Near, NodeId, Rec};
+use least_nodes::{NodeSet, PlaceSet};
+use trie_core::{NodeId, Rec};
 
 /// The bytes between the search tree and the data section.
 pub(crate) const GAP: u64 = 16;
@@ -14,7 +13,7 @@ pub(crate) const GAP: u64 = 16;
 pub(crate) struct Numbers {
     pub(crate) count: u32,
     pub(crate) nodes: NodeSet,
-    pub(crate) places: IndexSet<u32, Near>,
+    pub(crate) places: PlaceSet,
     pub(crate) starts: Vec<u64>,
 }
 
@@ -24,7 +23,7 @@ impl Numbers {
         requires few { length self.now.nodes < 2 ^ 32 }
         requires low { (k : ℕ)
             → self.now.count + 16 + slice_index self.now.starts.items k < 2 ^ 32 }
-        ensures { result ≡ record_number self.now.count self.now.nodes self.now.places.keys
+        ensures { result ≡ record_number self.now.count self.now.nodes self.now.places
             self.now.starts.items rec }
     {
         match rec {
@@ -36,10 +35,10 @@ impl Numbers {
     fn leaf(&self, number: u32) -> u32
         requires low { (k : ℕ)
             → self.now.count + 16 + slice_index self.now.starts.items k < 2 ^ 32 }
-        ensures { result ≡ record_number self.now.count self.now.nodes self.now.places.keys
+        ensures { result ≡ record_number self.now.count self.now.nodes self.now.places
             self.now.starts.items (Rec.Leaf number) }
     {
-        match self.places.get_index_of(&number) {
+        match self.places.index_of(number) {
             Some(index) => (u64::from(self.count) + GAP + start_at(&self.starts, index)) as u32,
             None => self.count,
         }
@@ -47,7 +46,7 @@ impl Numbers {
 
     fn node(&self, id: NodeId) -> u32
         requires few { length self.now.nodes < 2 ^ 32 }
-        ensures { result ≡ record_number self.now.count self.now.nodes self.now.places.keys
+        ensures { result ≡ record_number self.now.count self.now.nodes self.now.places
             self.now.starts.items (Rec.Node id) }
     {
         match self.nodes.index_of(id) {

@@ -147,7 +147,7 @@ pub fn numbers_to_places(store: &Store, root: Root, places: &Places)
 fn numbers_of(count: u32, layout: Layout, starts: Vec<u64>) -> Numbers
     ensures count { result.count ≡ count }
     ensures nodes { result.nodes ≡ layout.nodes }
-    ensures places { result.places.keys ≡ layout.leaves.keys }
+    ensures places { result.places ≡ layout.leaves }
     ensures starts { result.starts.items ≡ starts.items }
 {
     Numbers {

@@ -11,7 +11,7 @@ visit-requires t c =
     let pairs = c.args.store.now in
     let ids = c.args.seen.now.nodes in
     let grown = c.note_node.new.self.nodes in
-    let places = c.args.seen.now.places.keys in
+    let places = c.args.seen.now.places in
     let l = meaning pairs c.children-left.result.0 in
     let r = meaning pairs c.children-left.result.1 in
     let on =
@@ -28,7 +28,7 @@ visit-requires-in-Node t c =
     let pairs = c.args.store.now in
     let ids = c.args.seen.now.nodes in
     let grown = c.note_node.new.self.nodes in
-    let places = c.args.seen.now.places.keys in
+    let places = c.args.seen.now.places in
     let l = meaning pairs c.children-left.result.0 in
     let r = meaning pairs c.children-left.result.1 in
     let on =
@@ -57,14 +57,14 @@ returns-in_ok-note_leaf-in-Leaf-clause-places t c =
     let pairs = c.args.store.now in
     let tree = ap (meaning pairs) c.in-Leaf.is ∙ meaning-leaf pairs c.in-Leaf.number in
     c.in_ok-note_leaf-in-Leaf.ensures.places
-    ∙ ap (places_after c.args.seen.now.places.keys) (sym tree)
+    ∙ ap (places_after c.args.seen.now.places) (sym tree)
 
 pub returns-in_ok-more-in-Node-clause-nodes : goal.returns-in_ok-more-in-Node-clause-nodes
 returns-in_ok-more-in-Node-clause-nodes t c =
     let pairs = c.args.store.now in
     let ids = c.args.seen.now.nodes in
     let grown = c.note_node.new.self.nodes in
-    let places = c.args.seen.now.places.keys in
+    let places = c.args.seen.now.places in
     let l = meaning pairs c.children-left.result.0 in
     let r = meaning pairs c.children-left.result.1 in
     let on =
@@ -80,7 +80,7 @@ returns-in_ok-more-in-Node-clause-places t c =
     let pairs = c.args.store.now in
     let ids = c.args.seen.now.nodes in
     let grown = c.note_node.new.self.nodes in
-    let places = c.args.seen.now.places.keys in
+    let places = c.args.seen.now.places in
     let l = meaning pairs c.children-left.result.0 in
     let r = meaning pairs c.children-left.result.1 in
     let on =

@@ -10,7 +10,7 @@ returns-clause-nodes c =
     let whole =
     IsLayoutOf-from_walk c.args.store.now c.rec_of-rec.result (record_of c.args.root)
     c.new-seen.result.nodes c.visit.new.seen.nodes
-    c.new-seen.result.places.keys c.visit.new.seen.places.keys
+    c.new-seen.result.places c.visit.new.seen.places
     rec.sound rec.of rec.same new.nodes new.places walk.known walk.nodes walk.places in
     whole.nodes
 
@@ -22,7 +22,7 @@ returns-clause-of c =
     let whole =
     IsLayoutOf-from_walk c.args.store.now c.rec_of-rec.result (record_of c.args.root)
     c.new-seen.result.nodes c.visit.new.seen.nodes
-    c.new-seen.result.places.keys c.visit.new.seen.places.keys
+    c.new-seen.result.places c.visit.new.seen.places
     rec.sound rec.of rec.same new.nodes new.places walk.known walk.nodes walk.places in
     whole.of
 
@@ -34,7 +34,7 @@ returns-clause-leaves c =
     let whole =
     IsLayoutOf-from_walk c.args.store.now c.rec_of-rec.result (record_of c.args.root)
     c.new-seen.result.nodes c.visit.new.seen.nodes
-    c.new-seen.result.places.keys c.visit.new.seen.places.keys
+    c.new-seen.result.places c.visit.new.seen.places
     rec.sound rec.of rec.same new.nodes new.places walk.known walk.nodes walk.places in
     whole.leaves
 
@@ -46,7 +46,7 @@ returns-clause-least c =
     let whole =
     IsLayoutOf-from_walk c.args.store.now c.rec_of-rec.result (record_of c.args.root)
     c.new-seen.result.nodes c.visit.new.seen.nodes
-    c.new-seen.result.places.keys c.visit.new.seen.places.keys
+    c.new-seen.result.places c.visit.new.seen.places
     rec.sound rec.of rec.same new.nodes new.places walk.known walk.nodes walk.places in
     whole.least
 
@@ -58,6 +58,6 @@ returns-clause-few c =
     let whole =
     IsLayoutOf-from_walk c.args.store.now c.rec_of-rec.result (record_of c.args.root)
     c.new-seen.result.nodes c.visit.new.seen.nodes
-    c.new-seen.result.places.keys c.visit.new.seen.places.keys
+    c.new-seen.result.places c.visit.new.seen.places
     rec.sound rec.of rec.same new.nodes new.places walk.known walk.nodes walk.places in
     whole.few

@@ -75,7 +75,7 @@ count_is c = omega (
 -- the places are in the order of the tree
 leaves_are : (c : In_ok-bytes)
     → c.as_slice-leaves.result.now ≡ place_order (tree_of c.args.store.now c.args.root)
-leaves_are c = c.as_slice-leaves.ensures.keys ∙ c.in_ok-layout.ensures.leaves
+leaves_are c = c.as_slice-leaves.ensures ∙ c.in_ok-layout.ensures.leaves
 
 -- so their values make the section that the definitions say, which holds them
 section_laid : (places : List PlaceParts) (t : Tree ℕ) (numbers : List ℕ)
@@ -143,7 +143,7 @@ nodes_laid c =
     let starts : List ℕ = (section_for c.args.places.now t).starts in
     nodes_equal c.args.store.now c.numbers_of-numbers.result.count c.max-count.result
     c.numbers_of-numbers.result.nodes c.as_slice-ids.result.now c.in_ok-layout.layout.nodes
-    c.numbers_of-numbers.result.places.keys (place_order t)
+    c.numbers_of-numbers.result.places (place_order t)
     c.numbers_of-numbers.result.starts.items starts
     c.rec_of-tree.result (record_of c.args.root)
     c.numbers_of-numbers.ensures.count
@@ -211,7 +211,7 @@ returns-clause-bytes c =
     ∙ written_is c.in-Some.bits c.args.store.now c.args.meta.now.epoch c.args.meta.now.name
     c.in_ok-bytes.bytes.items c.numbers_of-numbers.result.count c.max-count.result
     c.numbers_of-numbers.result.nodes c.as_slice-ids.result.now c.in_ok-layout.layout.nodes
-    c.numbers_of-numbers.result.places.keys (place_order t)
+    c.numbers_of-numbers.result.places (place_order t)
     c.numbers_of-numbers.result.starts.items section.starts
     c.bytes-packed.result.now section.bytes c.rec_of-tree.result root
     c.numbers_of-numbers.ensures.count
@@ -245,7 +245,7 @@ pub returns-in_default-clause-too_large : goal.returns-in_default-clause-too_lar
 returns-in_default-clause-too_large c = λ _.
     let t : Tree ℕ = tree_of c.args.store.now c.args.root in
     let leaves : c.as_slice-leaves.result.now ≡ place_order t =
-    c.as_slice-leaves.ensures.keys ∙ c.in_ok-layout.ensures.leaves in
+    c.as_slice-leaves.ensures ∙ c.in_ok-layout.ensures.leaves in
     let section : length c.in_ok-section.field-0.section.bytes
     ≡ length (section_for c.args.places.now t).bytes =
     ap length (c.in_ok-section.ensures.section

@@ -31,7 +31,7 @@ file_bytes-requires-clause-fits c =
     (nodes_fit c.args.bits c.args.store.now
     (number_of c.args.numbers.now) c.args.root c.args.ids.now
     (λ rec. record_number-lt c.args.numbers.now.count (limit c.args.bits) c.args.numbers.now.nodes
-    c.args.numbers.now.places.keys c.args.numbers.now.starts.items rec
+    c.args.numbers.now.places c.args.numbers.now.starts.items rec
     (omega (arith, c.requires.keys, c.requires.low 0))
     (omega (arith, c.requires.low 0)) c.requires.low))
 
@@ -39,7 +39,7 @@ pub returns-clause-fits : goal.returns-clause-fits
 returns-clause-fits c =
     nodes_fit c.args.bits c.args.store.now (number_of c.args.numbers.now) c.args.root c.args.ids.now
     (λ rec. record_number-lt c.args.numbers.now.count (limit c.args.bits) c.args.numbers.now.nodes
-    c.args.numbers.now.places.keys c.args.numbers.now.starts.items rec
+    c.args.numbers.now.places c.args.numbers.now.starts.items rec
     (omega (arith, c.requires.keys, c.requires.low 0))
     (omega (arith, c.requires.low 0)) c.requires.low)
 
@@ -47,6 +47,6 @@ pub returns-in_err-nodes-clause-fits : goal.returns-in_err-nodes-clause-fits
 returns-in_err-nodes-clause-fits c =
     nodes_fit c.args.bits c.args.store.now (number_of c.args.numbers.now) c.args.root c.args.ids.now
     (λ rec. record_number-lt c.args.numbers.now.count (limit c.args.bits) c.args.numbers.now.nodes
-    c.args.numbers.now.places.keys c.args.numbers.now.starts.items rec
+    c.args.numbers.now.places c.args.numbers.now.starts.items rec
     (omega (arith, c.requires.keys, c.requires.low 0))
     (omega (arith, c.requires.low 0)) c.requires.low)

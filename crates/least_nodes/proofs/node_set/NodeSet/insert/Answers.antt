@@ -1,52 +1,62 @@
 use Rattle.std.proofs.Common.{◌≡◌, ◌+◌, ◌∙◌, sym, ap, subst, arith}
 use Rattle.std.proofs.Common.{List, ◌++◌, ◌∷◌, [], Contains, length, set}
 use Rattle.trie_core.specs.declared.node.NodeId.{NodeId}
-use Rattle.least_nodes.specs.NodeSet.{IsFoundBy}
-use Rattle.least_nodes.proofs.NodeSetLemmas.{IsFoundBy-zeros, IsFoundBy-put}
-use Rattle.least_nodes.proofs.NodeSetLemmas.{Contains-from_read, absent_from_read}
+use Rattle.trie_core.specs.Store.{node_number}
+use Rattle.least_nodes.specs.Order.{same_node}
+use Rattle.least_nodes.proofs.WalkLemmas.{same_node_equality, node_numbers_differ}
+use Rattle.least_nodes.specs.NumberSet.{IsFoundBy}
+use Rattle.least_nodes.proofs.NumberSetLemmas.{IsFoundBy-zeros, IsFoundBy-put}
+use Rattle.least_nodes.proofs.NumberSetLemmas.{Contains-from_read, absent_from_read}
 use Rattle.least_nodes.proofs.node_set.NodeSet.insert.Goals as goal
 
 pub invariant_of-self-then-index-ne0 : goal.invariant_of-self-then-index-ne0
 invariant_of-self-then-index-ne0 c =
     let ids = c.self.inside.ids.items in
     let next = c.self.inside.next.items in
-    IsFoundBy-zeros ids next c.self.invariant _ _ c.make_room.ensures.zeros
+    IsFoundBy-zeros node_number same_node same_node_equality node_numbers_differ
+    ids next c.self.invariant _ _ c.make_room.ensures.zeros
 
 pub returns-then-index-ne0-clause-noted : goal.returns-then-index-ne0-clause-noted
 returns-then-index-ne0-clause-noted c =
     let ids = c.self.inside.ids.items in
     let next = c.self.inside.next.items in
     let longer = c.make_room.new.next.items in
-    let found = IsFoundBy-zeros ids next c.self.invariant _ _ c.make_room.ensures.zeros in
+    let found = IsFoundBy-zeros node_number same_node same_node_equality node_numbers_differ
+    ids next c.self.invariant _ _ c.make_room.ensures.zeros in
     let n = c.number-number.result in
     let number = c.number-number.ensures in
     let within = c.in_ok-make_room.ensures.within in
     let v = c.index.result.now in
     let read = c.index.ensures in
     let some = c.if-index-ne0.true in
-    let has = Contains-from_read ids longer found c.args.id n v number within read some in
+    let has = Contains-from_read node_number same_node same_node_equality node_numbers_differ
+    ids longer found c.args.id n v number within read some in
     (subst (λ (xs : List NodeId). Contains xs c.args.id) c.self.view_is has, c.self.view_is)
 
 pub invariant_of-self-in_default : goal.invariant_of-self-in_default
 invariant_of-self-in_default c =
     let ids = c.self.inside.ids.items in
     let next = c.self.inside.next.items in
-    IsFoundBy-zeros ids next c.self.invariant _ _ c.make_room.ensures.zeros
+    IsFoundBy-zeros node_number same_node same_node_equality node_numbers_differ
+    ids next c.self.invariant _ _ c.make_room.ensures.zeros
 
 pub invariant_of-self-in_err-push : goal.invariant_of-self-in_err-push
 invariant_of-self-in_err-push c =
     let ids = c.self.inside.ids.items in
     let next = c.self.inside.next.items in
     let longer = c.make_room.new.next.items in
-    let found = IsFoundBy-zeros ids next c.self.invariant _ _ c.make_room.ensures.zeros in
-    subst (λ (xs : List NodeId). IsFoundBy xs longer) (sym c.in_err-push.ensures.items) found
+    let found = IsFoundBy-zeros node_number same_node same_node_equality node_numbers_differ
+    ids next c.self.invariant _ _ c.make_room.ensures.zeros in
+    subst (λ (xs : List NodeId). IsFoundBy node_number xs longer)
+    (sym c.in_err-push.ensures.items) found
 
 pub invariant_of-self-2 : goal.invariant_of-self-2
 invariant_of-self-2 c =
     let ids = c.self.inside.ids.items in
     let next = c.self.inside.next.items in
     let longer = c.make_room.new.next.items in
-    let found = IsFoundBy-zeros ids next c.self.invariant _ _ c.make_room.ensures.zeros in
+    let found = IsFoundBy-zeros node_number same_node same_node_equality node_numbers_differ
+    ids next c.self.invariant _ _ c.make_room.ensures.zeros in
     let n = c.number-number.result in
     let number = c.number-number.ensures in
     let within = c.in_ok-make_room.ensures.within in
@@ -54,24 +64,27 @@ invariant_of-self-2 c =
     let read = c.index.ensures in
     let none = c.if-index-ne0.false in
     let last : c.in-Ok.next ≡ length ids + 1 = omega (arith, c.in-Ok.ensures, c.len.ensures) in
-    let is = IsFoundBy-put ids longer found c.args.id n v number within read none in
+    let is = IsFoundBy-put node_number same_node same_node_equality node_numbers_differ
+    ids longer found c.args.id n v number within read none in
     let put = is c.in-Ok.next last (omega (arith, c.in-Ok.ensures)) in
     let items = sym c.in_ok-push.ensures.items in
-    subst (λ (xs : List NodeId). IsFoundBy xs (set longer n c.in-Ok.next)) items put
+    subst (λ (xs : List NodeId). IsFoundBy node_number xs (set longer n c.in-Ok.next)) items put
 
 pub returns-clause-noted : goal.returns-clause-noted
 returns-clause-noted c =
     let ids = c.self.inside.ids.items in
     let next = c.self.inside.next.items in
     let longer = c.make_room.new.next.items in
-    let found = IsFoundBy-zeros ids next c.self.invariant _ _ c.make_room.ensures.zeros in
+    let found = IsFoundBy-zeros node_number same_node same_node_equality node_numbers_differ
+    ids next c.self.invariant _ _ c.make_room.ensures.zeros in
     let n = c.number-number.result in
     let number = c.number-number.ensures in
     let within = c.in_ok-make_room.ensures.within in
     let v = c.index.result.now in
     let read = c.index.ensures in
     let none = c.if-index-ne0.false in
-    let new = absent_from_read ids longer found c.args.id n v number within read none in
+    let new = absent_from_read node_number same_node same_node_equality node_numbers_differ
+    ids longer found c.args.id n v number within read none in
     let grown = ap (λ (xs : List NodeId). xs ++ c.args.id ∷ []) c.self.view_is in
     let missing = subst (λ (xs : List NodeId). Contains xs c.args.id → ⊥) c.self.view_is new in
     (missing, c.in_ok-push.ensures.items ∙ grown)
