@@ -2,12 +2,14 @@
 use Rattle.std.proofs.Common.{◌≡◌, ℕ, zero, suc, ◌+◌, ◌*◌, ◌<◌, ◌≤◌, not, Bool, true, false, List}
 use Rattle.std.proofs.Common.{[], ◌∷◌, ◌++◌, length, take, drop, get_or, Some, None, refl, sym, ap}
 use Rattle.std.proofs.Common.{◌∙◌, arith, append_assoc, append-nil, length-append, length-take, inl}
-use Rattle.std.proofs.Common.{inr, subst, All, add-one}
+use Rattle.std.proofs.Common.{inr, subst, All, add-one, cond, true≢false, ◌||◌}
 use Rattle.std.proofs.Common.{map as map_list}
 use Rattle.mmdb_data.specs.ValueTree.{ValueTree, map, most, CanBeSpelled}
 use Rattle.mmdb_data.specs.Packing.{Packed, in_full, all_in_full, offsets_in}
 use Rattle.std.specs.List.{position, position_or_len, list_any}
-use Rattle.std.proofs.lemmas.Bool.{cases_lt, lt-ltb}
+use Rattle.std.proofs.lemmas.Bool.{cases_lt, lt-ltb, false_from_ne_true}
+use Rattle.std.proofs.lemmas.List.Folds.{list_any_at}
+use Rattle.std.proofs.lemmas.List.Quantifiers.{position-Some}
 use Rattle.std.proofs.lemmas.List.{take_more, take_at, take_all}
 use Rattle.std.proofs.lemmas.List.Elements.{All-push}
 use Rattle.std.proofs.Math.Seq.{drop-cons}
@@ -37,6 +39,42 @@ none_is_len p xs none =
           rw (lt-ltb (position_or_len p xs) (length xs) a) refl in cc)
       | inr a ↦ omega (arith, prefix_len-le-length (λ x. not (p x)) xs)
     ]
+
+-- where an element passes a test, the first is within the list
+any_within : {X : Type 0} (p : X → Bool) (xs : List X) → list_any p xs ≡ true
+    → position_or_len p xs < length xs
+any_within p [] is = absurd (true≢false (sym is))
+any_within p (x ∷ xs) is =
+    elim (p x) as (λ b. (b || list_any p xs) ≡ true
+    → cond (not b) (1 + position_or_len p xs) 0 < length (x ∷ xs)) [
+      | true ↦ λ _. omega arith
+      | false ↦ λ rest. omega (arith, any_within p xs rest)
+    ] is
+
+pub none_found : {X : Type 0} (p : X → Bool) (xs : List X) → position p xs ≡ None
+    → list_any p xs ≡ false
+none_found p xs none =
+    false_from_ne_true (list_any p xs) (λ is.
+    let less = any_within p xs is in
+    let same = none_is_len p xs none in
+    omega (arith, less, same))
+
+pub some_found : {X : Type 0} (p : X → Bool) (xs : List X) (i : ℕ) → position p xs ≡ Some i
+    → (list_any p xs ≡ true) × (position_or_len p xs ≡ i)
+some_found p [] i some = absurd (cc)
+some_found p (x ∷ xs) i some =
+    let at = position-Some p (x ∷ xs) i x some in (
+      list_any_at p (x ∷ xs) i x at.0 at.1,
+      elim (cases_lt (position_or_len p (x ∷ xs)) (length (x ∷ xs))) [
+        | inl a ↦
+            let found : position p (x ∷ xs) ≡ Some (position_or_len p (x ∷ xs)) =
+            rw (lt-ltb (position_or_len p (x ∷ xs)) (length (x ∷ xs)) a) refl in
+            let both : Some (position_or_len p (x ∷ xs)) ≡ Some i = sym found ∙ some in cc
+        | inr a ↦
+            let within = any_within p (x ∷ xs) (list_any_at p (x ∷ xs) i x at.0 at.1) in
+            absurd (omega (arith, a, within))
+      ],
+    )
 
 pub tree_bytes-append : (bits : Bits) (xs ys : List (ℕ × ℕ))
     → tree_bytes bits (xs ++ ys) ≡ tree_bytes bits xs ++ tree_bytes bits ys
