@@ -13,7 +13,7 @@ use Rattle.geo_terms.specs.SourceForm.{FeedParts}
 use Rattle.geo_terms.specs.declared.note.Rule.TheVariants.{P08, P09}
 use Rattle.geo_terms.specs.declared.statement.Entry.{Entry}
 use Rattle.geo_terms.specs.declared.statement.Reference.{Reference}
-use Rattle.inetnum_index.specs.Answers.{AnswerAlike}
+use Rattle.first_index.specs.Answers.{AnswerAlike}
 use Rattle.authority.proofs.Ordered.{alike_append, alike_from_permutation, alike_kept}
 use Rattle.authority.specs.Members.{HaveAlike, weight}
 use Rattle.authority.specs.Ranked.{joint_in, note_on, outranked_in, unfed_in}

@@ -6,7 +6,7 @@ use Rattle.geo_terms.specs.SlotOrder.{AreInOrder}
 use Rattle.geo_terms.specs.SourceForm.{DumpParts, FeedParts}
 use Rattle.geo_terms.specs.Sources.{InForce}
 use Rattle.geo_terms.specs.declared.statement.Reference.{Reference}
-use Rattle.inetnum_index.specs.Answers.{AnswerAlike}
+use Rattle.first_index.specs.Answers.{AnswerAlike}
 use Rattle.source_changes.specs.CutPoints.{AreCutsOf}
 use Rattle.authority.specs.declared.speakers.Speakers.{Speakers}
 

@@ -15,7 +15,7 @@ ghost use Rattle.authority.specs.Ranked.{outranked_in, ranked_cmp, uncovered_not
 use crate::ready::ReadyFeed;
 use geo_addr::{Block, Memory};
 use geo_terms::{Feed, Note, Origin, Reference, Rule, Statement};
-use inetnum_index::Index;
+use first_index::inetnums::Index;
 use source_changes::{push_borrows, shelf};
 use std::alloc::Global;
 use std::cmp::Ordering;

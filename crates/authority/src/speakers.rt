@@ -13,7 +13,7 @@ ghost use Rattle.authority.specs.Held.{AreSpeakers, references_in};
 use first_index::plain;
 use geo_addr::{Addr, Block, Memory, Range, range_of};
 use geo_terms::{Dump, Reference, Statement};
-use inetnum_index::Index;
+use first_index::inetnums::Index;
 use split_core::cuts;
 use std::alloc::Global;
 use std::sync::Arc;

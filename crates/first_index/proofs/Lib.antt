@@ -1,7 +1,10 @@
 pub mod BoundaryLemmas
 pub mod ColumnLemmas
+pub mod CoverLemmas
+pub mod FirstOf
 pub mod IndexLemmas
 pub mod NearLemmas
 pub mod NestedLemmas
 pub mod RankLemmas
+pub mod ShelfLemmas
 pub mod StandLemmas

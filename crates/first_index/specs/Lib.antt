@@ -1,6 +1,9 @@
 pub mod AllSources
+pub mod Answers
 pub mod Boundaries
 pub mod Columns
 pub mod Edges
 pub mod FirstIndex
+pub mod Links
 pub mod Nested
+pub mod Shelf

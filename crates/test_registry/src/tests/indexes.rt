@@ -3,7 +3,7 @@
 use first_index::plain::first_at;
 use geo_addr::{Addr, Range, Text, parse_block};
 use geo_terms::Reference;
-use inetnum_index::Index;
+use first_index::inetnums::Index;
 use std::alloc::Global;
 use std::test::Fail;
 

@@ -1,3 +1,0 @@
-pub mod FirstOf
-pub mod ShelfLemmas
-pub mod CoverLemmas
