@@ -1,22 +1,21 @@
 #!/usr/bin/env bash
 # Work that no result tells of: done twice, done anew for each line, each feed or each emit, one
 # step at a time where halving serves, or for nothing; and bytes that are kept for longer than they
-# are read. It is counted and not timed, so a busy machine changes no verdict: instructions
-# (valgrind), also those of the second program; allocations and the bytes that they ask for
-# (checks/counted.cpp); and the most memory. A bound is a multiple of what is counted in the same
-# run, or stands a little above what was counted when it was set: then a change of the code that
-# moves the number moves the bound with it.
+# are read. It is counted and not timed, so a busy machine changes no verdict: allocations and the
+# bytes that they ask for (checks/counted.cpp), the most memory, and thousands of instructions
+# (valgrind). A bound is a multiple of what is counted in the same run, or stands a little above
+# what was counted when it was set: then a change of the code that moves the number moves the bound
+# with it.
 set -u
 cd "$(dirname "${BASH_SOURCE[0]}")/.." || exit 1
 counted=$PWD/checks/counted.cpp
-second=$PWD/checks/second/second.cpp
 random6=$PWD/bench/random6.awk
 # shellcheck disable=SC2034
 in_memory=300000
 . checks/with_program.bash
 needs g++ g++ || skip "what a run asks for cannot be counted"
-g++ -O1 -shared -fPIC -o counted.so "$counted" && g++ -O2 -std=c++17 -o second "$second" \
-    || { fail "checks/counted.cpp or the second program is not compiled"; verdict; }
+g++ -O1 -shared -fPIC -o counted.so "$counted" \
+    || { fail "checks/counted.cpp is not compiled"; verdict; }
 url=https://made.example/
 
 # counts WORDS..: the allocations of a command, and the bytes that they ask for.
@@ -26,10 +25,10 @@ counts() {
     od -An -tu8 -N16 count
 }
 
-# instructions PROGRAM WORDS..: how many thousands of them a command takes.
+# instructions WORDS..: how many thousands of them a command takes.
 instructions() {
-    valgrind --tool=cachegrind --cache-sim=no --cachegrind-out-file=/dev/null --log-file=log "$@" \
-        > printed 2> told || fail "'$*' ends otherwise: $(cat printed told)"
+    valgrind --tool=cachegrind --cache-sim=no --cachegrind-out-file=/dev/null --log-file=log \
+        "$program" "$@" > printed 2> told || fail "'$*' ends otherwise: $(cat printed told)"
     sed -n 's/.* I *refs: *//p' log | tr -d , | awk '{ print int($1 / 1000) }'
 }
 
@@ -112,6 +111,19 @@ stats overrides overrides
 rpsl feeds feed ${url}a
 END
 
+# An emit behind a change of up to a fifth of all: bytes for each line that changed.
+source_of stats 20000
+for lines in 2000 4000; do
+    job "$sets" 'emit out.mmdb' 'overrides over'
+    awk -v lines="$lines" 'BEGIN {
+        for (n = 0; n < lines; n++) print "10." int(n / 256) "." n % 256 ".0/24,set,FR" }' > over
+    read -r _ before < <(counts build job)
+    echo 'emit out.mmdb' >> job
+    read -r _ all < <(counts build job)
+    [ "$lines" -eq 4000 ] || few=$((all - before))
+done
+bound $(((all - before - few) / 2000)) 228 'a later emit: bytes for each line that changed'
+
 # Nodes that each of many emits leaves behind: a layout takes four bytes for each node of the store,
 # so what all of them ask for grows by its square.
 read -r _ none < <(counts --version)
@@ -154,20 +166,18 @@ if needs valgrind valgrind; then
     # laid out.
     awk -v lines=2000 -f "$random6" > source
     job 'stats made source'
-    read=$(instructions "$program" build job)
-    painted=$(instructions "$program" publish job 10.0.0.0/8 own.csv)
-    printf 'epoch 1700000000\nstats made source\nemit out.mmdb\n' > job
-    beside=$(instructions ./second build job)
-    bound $(((painted - read) * 100 / beside)) 76 'a tree of few shared nodes, in hundredths'
+    read=$(instructions build job)
+    painted=$(instructions publish job 10.0.0.0/8 own.csv)
+    bound $((painted - read)) 69000 'a tree of 230,000 nodes'
 
     # A report looks for the feed of a reference by halving.
     source_of rpsl 4000
     echo '10.0.0.0/24,DE' > one
     job "$sets"
     for ((n = 0; n < 400; n++)); do echo "feed https://feeds.example/$n one"; done >> job
-    set=$(instructions "$program" build job)
+    set=$(instructions build job)
     echo report >> job
-    bound $(($(instructions "$program" build job) - set)) 20000 'a report over 400 feeds'
+    bound $(($(instructions build job) - set)) 20000 'a report over 400 feeds'
 
     # A check goes from a reference to the next that reaches farther, over all those between.
     awk -v url="$url" 'BEGIN {
@@ -178,8 +188,8 @@ if needs valgrind valgrind; then
             if (n % 2 == 0) print at ".0/28,DE" > "feed"
         } }' > dump
     job 'rpsl made dump' "feed ${url}a feed"
-    set=$(instructions "$program" build job)
-    bound $(($(instructions "$program" check job "${url}a") - set)) 100000 'a check of 4,000 lines'
+    set=$(instructions build job)
+    bound $(($(instructions check job "${url}a") - set)) 100000 'a check of 4,000 lines'
     [ "$(grep -c ' shadowed made 2$' printed)" -eq 4000 ] || fail "the lines are not shadowed"
 
     # References that nest take little more than those that lie apart.
@@ -192,10 +202,10 @@ if needs valgrind valgrind; then
                 print "10." int(n / 256) "." n % 256 ".0/28,DE" > "feed"
             } }'
         job 'rpsl made dump' "feed ${url}a feed"
-        set=$(instructions "$program" build job)
-        checked=$(($(instructions "$program" check job "${url}a") - set))
+        set=$(instructions build job)
+        checked=$(($(instructions check job "${url}a") - set))
         echo 'emit out.mmdb' >> job
-        emitted=$(($(instructions "$program" build job) - set))
+        emitted=$(($(instructions build job) - set))
         [ "$kind" = nest ] || apart=("$checked" "$emitted")
     done
     bound "$checked" $((apart[0] * 16 / 10)) 'a check of references that nest'
