@@ -148,6 +148,7 @@ if [ -x /usr/bin/time ]; then
             "$kind: most bytes for each of many lines"
         : > source && truncate -s 60000000 source && job "$sets"
         one=$(peak build job)
+        [ "$kind" != rpsl ] || bound "$one" 8000 'rpsl: most KiB with one file'
         printf '%s\n' 'mark m' "${sets/made/more}" >> job
         sed -i '$s/a source/b source/' job
         bound "$(peak build job)" $((one + one / 4)) "$kind: most KiB with two files"
