@@ -98,6 +98,31 @@ for source in m n m; do
 done
 rm -f f g h i out.mmdb
 
+# A second reading is of the file that has the name by then. Between two lines that set one source
+# the run waits at a pipe for who reads its report, which has more bytes than the pipe takes; so
+# when the first of it is read, the first file was read, and the second one is not yet.
+mkfifo slow
+while IFS='|' read -r line wrong; do
+    yes "$wrong" | head -n 9000 | tr '\\' '\n' > f
+    : > g
+    printf '%s\n' 'epoch 1700000000' "$line" report "$line" report > twice
+    timeout 60 "$program" build twice > slow 2> told &
+    writer=$!
+    exec 5< slow
+    read -r -u 5 note
+    mv g f
+    last=$(tail -n 1 <&5)
+    exec 5<&-
+    wait "$writer" && [ -n "$note" ] && [ "$last" = 'notes 0' ] \
+        || fail "a second '$line' is not of the file of that time: $note, and then $last"
+done << 'END'
+stats x f|here
+overrides f|here
+feed https://h.example/ f|here
+rpsl x f|inetnum: here\geofeed: https://h.example/\
+END
+rm -f f slow
+
 # Links: a put takes the place of the last name, and follows the others; a read follows all.
 mkdir below && ln -s below linked && echo secret > kept && chmod 600 kept
 ln -s ../kept below/out.mmdb
@@ -167,6 +192,22 @@ for limit in 0 1; do
         || fail "a limit of $limit blocks ends with $status and '$printed'"
     cmp -s out.mmdb first || fail "a limit of $limit blocks spoils the file"
 done
+left 0
+# To the byte: a file of as many bytes as may be is put, and none of a byte more.
+if needs prlimit util-linux; then
+    printf 'x|AT|ipv4|198.51.100.0|512||allocated\nx|CH|ipv6|2001:db8::|32||allocated\n' > t.txt
+    size=$(wc -c < second)
+    for more in 1 0 -1; do
+        cp first out.mmdb
+        prlimit --fsize=$((size + more)) "$program" build other > printed 2> told
+        status=$?
+        if [ "$more" -ge 0 ]; then
+            [ "$status" -eq 0 ] && cmp -s out.mmdb second
+        else
+            [ "$status" -eq 5 ] && told 'file too large' && cmp -s out.mmdb first
+        fi || fail "$size bytes under a limit of $((size + more)) end with $status: $(cat told)"
+    done
+fi
 left 0
 : > printed
 (ulimit -f 0 && exec "$program" --help >> printed)
