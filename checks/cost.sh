@@ -17,30 +17,33 @@ needs g++ g++ || skip "what a run asks for cannot be counted"
 g++ -O1 -shared -fPIC -o counted.so "$counted" \
     || { fail "checks/counted.cpp is not compiled"; verdict; }
 url=https://made.example/
+# How many bounds were looked at, and how many there are.
+looked=0 bounds=16
 
-# counts WORDS..: the allocations of a command, and the bytes that they ask for.
+# counts WORDS..: in `allocations` those of a command, and in `bytes` those that they ask for.
 counts() {
     COUNTED=count LD_PRELOAD=./counted.so "$program" "$@" > printed 2> told \
         || fail "'$*' ends otherwise: $(cat printed told)"
-    od -An -tu8 -N16 count
+    read -r allocations bytes < <(od -An -tu8 -N16 count)
 }
 
-# instructions WORDS..: how many thousands of them a command takes.
+# instructions WORDS..: in `taken` how many thousands of them a command takes.
 instructions() {
     valgrind --tool=cachegrind --cache-sim=no --cachegrind-out-file=/dev/null --log-file=log \
         "$program" "$@" > printed 2> told || fail "'$*' ends otherwise: $(cat printed told)"
-    sed -n 's/.* I *refs: *//p' log | tr -d , | awk '{ print int($1 / 1000) }'
+    taken=$(sed -n 's/.* I *refs: *//p' log | tr -d , | awk '{ print int($1 / 1000) }')
 }
 
-# peak WORDS..: the most KiB that a command has in memory.
+# peak WORDS..: in `most` the most KiB that a command has in memory.
 peak() {
     /usr/bin/time -f %M -o spent "$program" "$@" > printed 2> told \
         || fail "'$*' ends otherwise: $(cat printed told)"
-    cat spent
+    most=$(cat spent)
 }
 
 # bound FOUND MOST WHAT: there is some of it, and at most so much.
 bound() {
+    looked=$((looked + 1))
     echo "$check: $3: $1, at most $2"
     [ "$1" -gt 0 ] && [ "$1" -le "$2" ] || fail "$3: $1, and not at most $2"
 }
@@ -72,16 +75,17 @@ while read -r kind most most_read most_emit; do
     for lines in 8000 16000; do
         source_of "$kind" "$lines"
         job "$sets"
-        read -r texts read < <(counts build job)
+        counts build job
+        texts=$allocations read=$bytes
         echo 'emit out.mmdb' >> job
-        read -r _ all < <(counts build job)
+        counts build job
         if [ "$lines" -eq 8000 ]; then
-            less=("$texts" "$read" "$all")
+            less=("$texts" "$read" "$bytes")
         fi
     done
     bound $(((texts - less[0] + 7) / 8)) "$most" "$kind: allocations for a thousand lines"
     bound $(((read - less[1]) / 8000)) "$most_read" "$kind: bytes for a line that is set"
-    bound $(((all - read - less[2] + less[1]) / 8000)) "$most_emit" "$kind: bytes for its emit"
+    bound $(((bytes - read - less[2] + less[1]) / 8000)) "$most_emit" "$kind: bytes for its emit"
 done << 'END'
 stats 10 390 187
 feed 10 2225 110
@@ -95,17 +99,18 @@ while read -r kind name line; do
     for lines in 200 20000; do
         source_of "$kind" "$lines"
         job "$sets" 'emit out.mmdb'
-        read -r _ before < <(counts build job)
+        counts build job
+        before=$bytes
         for ((n = 0; n < 20; n++)); do
             says=FR,,,
             [ "$kind" = rpsl ] || says=set,FR
             echo "10.0.$n.0/24,$says" > "$n"
             printf '%s %s\nemit out.mmdb\n' "$line" "$n" >> job
         done
-        read -r _ all < <(counts build job)
-        [ "$lines" -eq 20000 ] || few=$((all - before))
+        counts build job
+        [ "$lines" -eq 20000 ] || few=$((bytes - before))
     done
-    bound $(((all - before) / 20)) $((few / 10)) "$name: bytes for each emit"
+    bound $(((bytes - before) / 20)) $((few / 10)) "$name: bytes for each emit"
 done << END
 stats overrides overrides
 rpsl feeds feed ${url}a
@@ -117,41 +122,47 @@ for lines in 2000 4000; do
     job "$sets" 'emit out.mmdb' 'overrides over'
     awk -v lines="$lines" 'BEGIN {
         for (n = 0; n < lines; n++) print "10." int(n / 256) "." n % 256 ".0/24,set,FR" }' > over
-    read -r _ before < <(counts build job)
+    counts build job
+    before=$bytes
     echo 'emit out.mmdb' >> job
-    read -r _ all < <(counts build job)
-    [ "$lines" -eq 4000 ] || few=$((all - before))
+    counts build job
+    [ "$lines" -eq 4000 ] || few=$((bytes - before))
 done
-bound $(((all - before - few) / 2000)) 228 'a later emit: bytes for each line that changed'
+bound $(((bytes - before - few) / 2000)) 228 'a later emit: bytes for each line that changed'
 
 # Nodes that each of many emits leaves behind: a layout takes four bytes for each node of the store,
 # so what all of them ask for grows by its square.
-read -r _ none < <(counts --version)
+counts --version
+none=$bytes
 for count in 150 600; do
     job
     for ((n = 0; n < count; n++)); do
         echo "11.0.$((n / 256)).$((n % 256))/32,set,FR" > "$n"
         printf 'overrides %s\nemit out.mmdb\n' "$n" >> job
     done
-    read -r _ all < <(counts build job)
-    [ "$count" -eq 600 ] || few=$((all - none))
+    counts build job
+    [ "$count" -eq 600 ] || few=$((bytes - none))
 done
-bound $(((all - none - 4 * few) / 135000 / 4)) 250 'nodes that an emit adds'
+bound $(((bytes - none - 4 * few) / 135000 / 4)) 250 'nodes that an emit adds'
 
 # What is kept while a source is set, and of a source that is set: a second long file of a kind
 # takes no more than the first, and of short lines the bytes are gone when their grounds are made.
 if [ -x /usr/bin/time ]; then
-    while read -r kind most; do
+    bounds=$((bounds + 9))
+    while read -r kind wanted; do
         source_of "$kind" 200000
         job "$sets"
-        bound $((($(peak build job) - $(peak --version)) * 1024 / 200000)) "$most" \
+        peak --version && none=$most
+        peak build job
+        bound $(((most - none) * 1024 / 200000)) "$wanted" \
             "$kind: most bytes for each of many lines"
         : > source && truncate -s 60000000 source && job "$sets"
-        one=$(peak build job)
+        peak build job && one=$most
         [ "$kind" != rpsl ] || bound "$one" 8000 'rpsl: most KiB with one file'
         printf '%s\n' 'mark m' "${sets/made/more}" >> job
         sed -i '$s/a source/b source/' job
-        bound "$(peak build job)" $((one + one / 4)) "$kind: most KiB with two files"
+        peak build job
+        bound "$most" $((one + one / 4)) "$kind: most KiB with two files"
     done << 'END'
 stats 120
 feed 270
@@ -163,12 +174,13 @@ else
 fi
 
 if needs valgrind valgrind; then
+    bounds=$((bounds + 5))
     # Pairs of nodes, most of them new. A feed is published of a block without any, so no tree is
     # laid out.
     awk -v lines=2000 -f "$random6" > source
     job 'stats made source'
-    read=$(instructions build job)
-    painted=$(instructions publish job 10.0.0.0/8 own.csv)
+    instructions build job && read=$taken
+    instructions publish job 10.0.0.0/8 own.csv && painted=$taken
     bound $((painted - read)) 67500 'a tree of 230,000 nodes'
 
     # A report looks for the feed of a reference by halving: the last of 400 takes little more than
@@ -184,9 +196,9 @@ if needs valgrind valgrind; then
         for ((n = 1000 - count; n < 1000; n++)); do
             echo "feed https://feeds.example/$n none"
         done >> job
-        set=$(instructions build job)
+        instructions build job && set=$taken
         echo report >> job
-        told=$(($(instructions build job) - set))
+        instructions build job && told=$((taken - set))
         [ "$count" -eq 400 ] || few=$told
     done
     bound "$told" $((3 * few)) 'a report over 400 feeds'
@@ -200,8 +212,9 @@ if needs valgrind valgrind; then
             if (n % 2 == 0) print at ".0/28,DE" > "feed"
         } }' > dump
     job 'rpsl made dump' "feed ${url}a feed"
-    set=$(instructions build job)
-    bound $(($(instructions check job "${url}a") - set)) 100000 'a check of 4,000 lines'
+    instructions build job && set=$taken
+    instructions check job "${url}a"
+    bound $((taken - set)) 100000 'a check of 4,000 lines'
     [ "$(grep -c ' shadowed made 2$' printed)" -eq 4000 ] || fail "the lines are not shadowed"
 
     # References that nest take little more than those that lie apart.
@@ -214,13 +227,14 @@ if needs valgrind valgrind; then
                 print "10." int(n / 256) "." n % 256 ".0/28,DE" > "feed"
             } }'
         job 'rpsl made dump' "feed ${url}a feed"
-        set=$(instructions build job)
-        checked=$(($(instructions check job "${url}a") - set))
+        instructions build job && set=$taken
+        instructions check job "${url}a" && checked=$((taken - set))
         echo 'emit out.mmdb' >> job
-        emitted=$(($(instructions build job) - set))
+        instructions build job && emitted=$((taken - set))
         [ "$kind" = nest ] || apart=("$checked" "$emitted")
     done
     bound "$checked" $((apart[0] * 2)) 'a check of references that nest'
     bound "$emitted" $((apart[1] * 2)) 'an emit of references that nest'
 fi
+counted "$bounds" "$looked" bounds
 verdict

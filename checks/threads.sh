@@ -11,20 +11,20 @@ needs g++ g++ || skip "the threads that a run begins cannot be counted"
 g++ -O1 -shared -fPIC -o counted.so "$counted" \
     || { fail "checks/counted.cpp is not compiled"; verdict; }
 
-# threads WORDS..: how many threads the command begins.
+# threads WORDS..: in `found` how many threads the command begins.
 threads() {
     COUNTED=count LD_PRELOAD=./counted.so "$program" "$@" > printed 2> told \
         || fail "'$*' ends otherwise: $(cat printed told)"
-    od -An -tu8 -j16 -N8 count | tr -d ' '
+    found=$(od -An -tu8 -j16 -N8 count | tr -d ' ')
 }
 
 # begins COUNT WHAT WORDS..: with four pieces the command begins so many, and with one piece none.
 begins() {
-    local wanted=$1 what=$2 pieces found
+    local wanted=$1 what=$2 pieces
     shift 2
     for pieces in 4 1; do
         sed -i "s/^pieces .*/pieces $pieces/" job
-        found=$(threads "$@")
+        threads "$@"
         [ "$found" -eq "$wanted" ] \
             || fail "$what in $pieces pieces begins $found threads, and not $wanted"
         wanted=0
@@ -56,6 +56,6 @@ begins 3 'a published feed' publish job 10.0.0.0/8 own.csv
 echo 'emit out.mmdb' >> job && begins 3 'an emit' build job
 # As many as there are pieces without a line: four.
 sed -i '/^pieces /d' job
-found=$(threads build job)
+threads build job
 [ "$found" -eq 3 ] || fail "an emit without a line for pieces begins $found threads"
 verdict
