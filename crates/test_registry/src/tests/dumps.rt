@@ -1,8 +1,9 @@
 //! What dumps say of feeds, however they are cut. What is wanted was told from the texts by hand.
-use crate::tests::references::{push_notes, push_reference};
+use crate::tests::references::{is_wanted, push_notes, push_reference};
 use feed_refs::DumpReader;
 use geo_terms::Dump;
 use std::alloc::Global;
+use std::mem::drop;
 
 // Pushes what a dump says: its references, and its notes as a report prints them.
 fn push_dump(alloc: Global, dump: &Dump, text: &mut String) -> Option<()> {
@@ -12,10 +13,10 @@ fn push_dump(alloc: Global, dump: &Dump, text: &mut String) -> Option<()> {
     push_notes(alloc, dump.notes.as_slice(), text)
 }
 
-fn says(alloc: Global, dump: &Dump, wanted: &str) -> Option<bool> {
+fn says(alloc: Global, dump: &Dump, wanted: &str) -> bool {
     let mut text = String::new(alloc);
-    push_dump(alloc, dump, &mut text)?;
-    Some(dump.slot.as_str() == "x" && text.as_str() == wanted)
+    let pushed = push_dump(alloc, dump, &mut text);
+    is_wanted(pushed, text, wanted) && dump.slot.as_str() == "x"
 }
 
 fn feed_bytes(reader: &mut DumpReader, text: &[u8]) -> Option<()> {
@@ -37,8 +38,13 @@ fn feed(reader: &mut DumpReader, text: &[u8], cut: Option<usize>) -> Option<()> 
 
 fn fed(alloc: Global, text: &[u8], cut: Option<usize>) -> Option<DumpReader> {
     let mut reader = DumpReader::new(alloc, "x").ok()?;
-    feed(&mut reader, text, cut)?;
-    Some(reader)
+    match feed(&mut reader, text, cut) {
+        Some(()) => Some(reader),
+        None => {
+            drop(reader);
+            None
+        }
+    }
 }
 
 fn read(alloc: Global, text: &[u8], cut: Option<usize>) -> Option<Dump> {
@@ -48,7 +54,11 @@ fn read(alloc: Global, text: &[u8], cut: Option<usize>) -> Option<Dump> {
 
 fn says_cut(alloc: Global, text: &[u8], cut: Option<usize>, wanted: &str) -> bool {
     match read(alloc, text, cut) {
-        Some(dump) => says(alloc, &dump, wanted) == Some(true),
+        Some(dump) => {
+            let says = says(alloc, &dump, wanted);
+            drop(dump);
+            says
+        }
         None => false,
     }
 }
@@ -103,7 +113,11 @@ static DUMPS: [(&[u8], &str); 5] = [
     ),
 ];
 
-const REALISTIC: &str = "% This is an extract.\n\n\
+fn dumps() -> &'static [(&'static [u8], &'static str)] {
+    &DUMPS
+}
+
+static REALISTIC: &[u8] = b"% This is an extract.\n\n\
     inetnum:        192.0.2.0 - 192.0.2.255\nnetname:        EXAMPLE-NET\n\
     country:        DE\nremarks:        Geofeed https://geo.example.net/a.csv\n\
     last-modified:  2023-05-04T10:11:12Z\nsource:         RIPE\n\n\
@@ -124,7 +138,11 @@ const REALISTIC: &str = "% This is an extract.\n\n\
     last-modified:  yesterday\nsource:         RIPE\n\n\
     aut-num:        AS64496\nsource:         RIPE\n";
 
-const REALISTIC_SAYS: &str =
+fn realistic() -> &'static [u8] {
+    REALISTIC
+}
+
+static REALISTIC_SAYS: &str =
     "6 192.0.2.0-192.0.2.255 20230504101112 https://geo.example.net/a.csv\n\
     12 192.0.0.0-192.0.255.255 20220101000000 https://geo.example.net/b.csv\n\
     19 2001:db8::-2001:db8:ffff:ffff:ffff:ffff:ffff:ffff 20240229235959 \
@@ -132,11 +150,15 @@ const REALISTIC_SAYS: &str =
     31 203.0.113.0-203.0.113.255 0 https://geo.example.org/d.csv\n\
     rpsl x 13 P10\nrpsl x 24 P04\nrpsl x 25 P04\nrpsl x 32 P07\n";
 
+fn realistic_says() -> &'static str {
+    REALISTIC_SAYS
+}
+
 #[test]
 fn what_dumps_say(rt: HostRuntime) {
-    for (text, wanted) in &DUMPS {
+    for (text, wanted) in dumps() {
         assert!(rt; says_however_cut(rt.alloc(), text, wanted));
     }
-    let text = REALISTIC.as_bytes();
-    assert!(rt; says_cut(rt.alloc(), text, Some(text.len() / 2), REALISTIC_SAYS));
+    let text = realistic();
+    assert!(rt; says_cut(rt.alloc(), text, Some(text.len() / 2), realistic_says()));
 }

@@ -1,10 +1,12 @@
 //! The index of references beside the plain look-up. The lines that are wanted of the worked
 //! references were told from their ranges and dates by hand.
+use super::if_done;
 use first_index::plain::first_at;
 use geo_addr::{Addr, Range, Text, parse_block};
 use geo_terms::Reference;
 use first_index::inetnums::Index;
 use std::alloc::Global;
+use std::mem::drop;
 use std::test::Fail;
 
 const TOP_V4: u128 = 0xFFFF_FFFF;
@@ -143,12 +145,17 @@ fn reference_rows() -> &'static [ReferenceRow] {
     &REFERENCES
 }
 
-fn references(alloc: Global) -> Result<Vec<Reference>, Fail> {
-    let mut refs = Vec::new(alloc);
+fn push_references(alloc: Global, refs: &mut Vec<Reference>) -> Result<(), Fail> {
     for row in reference_rows() {
         refs.push(reference(alloc, row)?)?;
     }
-    Ok(refs)
+    Ok(())
+}
+
+fn references(alloc: Global) -> Result<Vec<Reference>, Fail> {
+    let mut refs = Vec::new(alloc);
+    let pushed = push_references(alloc, &mut refs);
+    if_done(refs, pushed)
 }
 
 fn index(alloc: Global) -> Result<Index, Fail> {
@@ -242,8 +249,11 @@ fn first_wrong_block(index: &Index) -> Result<Option<usize>, Fail> {
 #[test]
 fn best_and_covering(rt: HostRuntime) -> Result<(), Fail> {
     let index = index(rt.alloc())?;
-    assert!(rt; first_wrong_address(&index).is_none());
-    assert!(rt; first_wrong_block(&index)?.is_none());
+    let wrong_address = first_wrong_address(&index);
+    let wrong_block = first_wrong_block(&index);
+    drop(index);
+    assert!(rt; wrong_address.is_none());
+    assert!(rt; wrong_block?.is_none());
     Ok(())
 }
 
@@ -253,28 +263,37 @@ fn next(number: &mut u64) -> u64 {
     *number
 }
 
-// Many references whose ranges nest, overlap and repeat, on both sides
-// of the border of the families.
-fn made(alloc: Global, count: u64) -> Result<Vec<Reference>, Fail> {
+// The next reference, on one of both sides of the border of the families.
+fn next_row(line: u64, number: &mut u64) -> ReferenceRow {
+    let low = u128::from(next(number) % 4096);
+    let first = (TOP_V4 - 0x800).wrapping_add(low);
+    let size = u128::from(next(number) % 64);
+    let last = first.saturating_add(size);
+    let modified = next(number) % 4;
+    ReferenceRow {
+        slot: "a",
+        line,
+        first,
+        last,
+        modified,
+        url: FEED,
+    }
+}
+
+fn push_made(alloc: Global, count: u64, refs: &mut Vec<Reference>) -> Result<(), Fail> {
     let mut number = 1;
-    let mut refs = Vec::new(alloc);
     for line in 0..count {
-        let low = u128::from(next(&mut number) % 4096);
-        let first = (TOP_V4 - 0x800).wrapping_add(low);
-        let size = u128::from(next(&mut number) % 64);
-        let last = first.saturating_add(size);
-        let modified = next(&mut number) % 4;
-        let row = ReferenceRow {
-            slot: "a",
-            line,
-            first,
-            last,
-            modified,
-            url: FEED,
-        };
+        let row = next_row(line, &mut number);
         refs.push(reference(alloc, &row)?)?;
     }
-    Ok(refs)
+    Ok(())
+}
+
+// Many references whose ranges nest, overlap and repeat.
+fn made(alloc: Global, count: u64) -> Result<Vec<Reference>, Fail> {
+    let mut refs = Vec::new(alloc);
+    let pushed = push_made(alloc, count, &mut refs);
+    if_done(refs, pushed)
 }
 
 fn plain_line(refs: &[Reference], number: u128) -> u64 {
@@ -291,10 +310,23 @@ fn first_unlike(index: &Index, refs: &[Reference]) -> Option<u32> {
     None
 }
 
+fn index_of_made(alloc: Global) -> Result<Index, Fail> {
+    Ok(Index::build(alloc, made(alloc, 2000)?)?)
+}
+
+// The first step at which an index of the same references answers otherwise.
+fn first_unlike_made(alloc: Global, refs: &[Reference]) -> Result<Option<u32>, Fail> {
+    let index = index_of_made(alloc)?;
+    let unlike = first_unlike(&index, refs);
+    drop(index);
+    Ok(unlike)
+}
+
 #[test]
 fn as_the_plain_look_up(rt: HostRuntime) -> Result<(), Fail> {
     let refs = made(rt.alloc(), 2000)?;
-    let index = Index::build(rt.alloc(), made(rt.alloc(), 2000)?)?;
-    assert!(rt; first_unlike(&index, refs.as_slice()).is_none());
+    let unlike = first_unlike_made(rt.alloc(), refs.as_slice());
+    drop(refs);
+    assert!(rt; unlike?.is_none());
     Ok(())
 }

@@ -1,7 +1,9 @@
 //! Objects of dumps, read whole and in pieces. What is wanted was told from the texts by hand.
-use geo_addr::Text;
+use super::if_done;
+use geo_addr::{Memory, Text};
 use rpsl_reader::{Attribute, Item, Reader, Selection};
 use std::alloc::Global;
+use std::mem::drop;
 use std::test::Fail;
 
 // An attribute: its line, its name and its value.
@@ -86,16 +88,39 @@ fn feed_bytes(reader: &mut Reader, text: &[u8], items: &mut Vec<Item>) -> Result
     Ok(())
 }
 
+fn feed_all(
+    reader: &mut Reader,
+    text: &[u8],
+    cut: Option<usize>,
+    items: &mut Vec<Item>,
+) -> Result<(), Fail> {
+    match cut {
+        Some(at) => feed_cut(reader, text, at, items),
+        None => feed_bytes(reader, text, items),
+    }
+}
+
+fn finish(reader: Reader, items: &mut Vec<Item>) -> Result<(), Memory> {
+    reader.finish(items)
+}
+
+fn push_items(
+    alloc: Global,
+    text: &[u8],
+    cut: Option<usize>,
+    items: &mut Vec<Item>,
+) -> Result<(), Fail> {
+    let mut reader = Reader::new(alloc);
+    let fed = feed_all(&mut reader, text, cut, items);
+    let reader = if_done(reader, fed)?;
+    Ok(finish(reader, items)?)
+}
+
 // The items of a text that is cut there, or read byte by byte.
 fn items_of(alloc: Global, text: &[u8], cut: Option<usize>) -> Result<Vec<Item>, Fail> {
-    let mut reader = Reader::new(alloc);
     let mut items = Vec::new(alloc);
-    match cut {
-        Some(at) => feed_cut(&mut reader, text, at, &mut items)?,
-        None => feed_bytes(&mut reader, text, &mut items)?,
-    }
-    reader.finish(&mut items)?;
-    Ok(items)
+    let pushed = push_items(alloc, text, cut, &mut items);
+    if_done(items, pushed)
 }
 
 // A text and its items.
@@ -197,7 +222,10 @@ fn text_rows() -> &'static [TextRow] {
 }
 
 fn gives(alloc: Global, row: &TextRow, cut: Option<usize>) -> Result<bool, Fail> {
-    Ok(are_items(items_of(alloc, row.0, cut)?.as_slice(), row.1))
+    let items = items_of(alloc, row.0, cut)?;
+    let gives = are_items(items.as_slice(), row.1);
+    drop(items);
+    Ok(gives)
 }
 
 // Whether a text gives its items byte by byte, and cut at every place.
@@ -330,11 +358,24 @@ fn are_counted(items: &[Item], count: usize, noted: bool) -> bool {
     items.len() == count && found == noted
 }
 
-fn gives_long(alloc: Global, row: &LongRow) -> Result<bool, Fail> {
+fn long_text(alloc: Global, row: &LongRow) -> Result<Vec<u8>, Fail> {
     let mut text = Vec::new(alloc);
-    push_long(alloc, row, &mut text)?;
-    let items = items_of(alloc, text.as_slice(), Some(row.cut))?;
-    Ok(are_counted(items.as_slice(), row.items, row.noted))
+    let pushed = push_long(alloc, row, &mut text);
+    if_done(text, pushed)
+}
+
+fn gives_counted(alloc: Global, text: &[u8], row: &LongRow) -> Result<bool, Fail> {
+    let items = items_of(alloc, text, Some(row.cut))?;
+    let gives = are_counted(items.as_slice(), row.items, row.noted);
+    drop(items);
+    Ok(gives)
+}
+
+fn gives_long(alloc: Global, row: &LongRow) -> Result<bool, Fail> {
+    let text = long_text(alloc, row)?;
+    let gives = gives_counted(alloc, text.as_slice(), row);
+    drop(text);
+    gives
 }
 
 #[test]
@@ -351,6 +392,12 @@ fn select(alloc: Global, selection: &mut Selection) -> Result<(), Fail> {
     Ok(())
 }
 
+fn selected(alloc: Global) -> Result<Selection, Fail> {
+    let mut selection = Selection::new(alloc);
+    let done = select(alloc, &mut selection);
+    if_done(selection, done)
+}
+
 // Whether a reader gives these items of a text, which is accepted.
 fn gives_wanted(reader: &mut Reader, row: &TextRow, selection: &Selection) -> Result<bool, Fail> {
     if reader.fed() >= 10_000_000 || row.0.len() >= 10_000_000 {
@@ -362,8 +409,11 @@ fn gives_wanted(reader: &mut Reader, row: &TextRow, selection: &Selection) -> Re
     Ok(same)
 }
 
-fn gives_at_end(reader: &Reader, selection: &Selection, wanted: &[Wanted]) -> Result<bool, Fail> {
-    Ok(are_items(reader.read_end(selection)?.as_slice(), wanted))
+fn gives_at_end(reader: &Reader, selection: &Selection, wanted: &[Wanted]) -> Result<bool, Memory> {
+    let items = reader.read_end(selection)?;
+    let gives = are_items(items.as_slice(), wanted);
+    drop(items);
+    Ok(gives)
 }
 
 static WANTED: TextRow = (
@@ -388,14 +438,17 @@ fn wanted_at_end() -> &'static [Wanted] {
 // Whether a reader gives what a selection wants, at once and at the end.
 fn gives_selected(alloc: Global, selection: &Selection) -> Result<bool, Fail> {
     let mut reader = Reader::new(alloc);
-    let is_given = gives_wanted(&mut reader, wanted_row(), selection)?;
-    Ok(is_given && gives_at_end(&reader, selection, wanted_at_end())?)
+    let is_given = gives_wanted(&mut reader, wanted_row(), selection);
+    let is_given_at_end = gives_at_end(&reader, selection, wanted_at_end());
+    drop(reader);
+    Ok(is_given? && is_given_at_end?)
 }
 
 #[test]
 fn what_is_wanted(rt: HostRuntime) -> Result<(), Fail> {
-    let mut selection = Selection::new(rt.alloc());
-    select(rt.alloc(), &mut selection)?;
-    assert!(rt; gives_selected(rt.alloc(), &selection)?);
+    let selection = selected(rt.alloc())?;
+    let gives = gives_selected(rt.alloc(), &selection);
+    drop(selection);
+    assert!(rt; gives?);
     Ok(())
 }

@@ -1,29 +1,47 @@
 //! What objects of dumps say of feeds, and their URLs. What is wanted was told from the texts by
 //! hand; the host that is not ASCII is that of RFC 3492's way of writing it.
-use feed_refs::{UrlRead, What, read_url, reference_of};
+use feed_refs::{FoundRef, UrlRead, What, read_url, reference_of};
 use geo_addr::{Bytes, List, Text, range_text};
 use geo_terms::{LineNote, Reference};
 use rpsl_reader::{Attribute, Object};
 use std::alloc::Global;
+use std::mem::drop;
+
+// Pushes a text, which goes.
+fn push_text(made: String, text: &mut String) -> Option<()> {
+    let pushed = text.push_str(made.as_str()).ok();
+    drop(made);
+    pushed
+}
+
+fn push_fields(alloc: Global, reference: &Reference, range: &str, text: &mut String) -> Option<()> {
+    let line = reference.line;
+    let modified = reference.modified;
+    let url = reference.url.as_str();
+    push_text(
+        format!(in alloc; "{line} {range} {modified} {url}\n").ok()?,
+        text,
+    )
+}
 
 /// Pushes a reference, as a line of its fields but the slot.
 pub fn push_reference(alloc: Global, reference: &Reference, text: &mut String) -> Option<()> {
     let range = range_text(alloc, reference.range).ok()?;
-    let range = range.as_str();
-    let line = reference.line;
-    let modified = reference.modified;
-    let url = reference.url.as_str();
-    let line = format!(in alloc; "{line} {range} {modified} {url}\n").ok()?;
-    text.push_str(line.as_str()).ok()
+    let pushed = push_fields(alloc, reference, range.as_str(), text);
+    drop(range);
+    pushed
+}
+
+fn push_note(alloc: Global, note: &LineNote, text: &mut String) -> Option<()> {
+    let line = note.line;
+    let code = note.rule.code();
+    push_text(format!(in alloc; "rpsl x {line} {code}\n").ok()?, text)
 }
 
 /// Pushes notes of the dump in slot `x` as a report prints them.
 pub fn push_notes(alloc: Global, notes: &[LineNote], text: &mut String) -> Option<()> {
     for note in notes {
-        let line = note.line;
-        let code = note.rule.code();
-        let line = format!(in alloc; "rpsl x {line} {code}\n").ok()?;
-        text.push_str(line.as_str()).ok()?;
+        push_note(alloc, note, text)?;
     }
     Some(())
 }
@@ -49,11 +67,16 @@ fn push_attributes(alloc: Global, text: &str, parts: &mut Vec<Attribute>) -> Opt
 // An object with these attributes, a line each, on lines from 1.
 fn object(alloc: Global, text: &str) -> Option<Object> {
     let mut parts = Vec::new(alloc);
-    push_attributes(alloc, text, &mut parts)?;
-    Some(Object {
-        line: 1,
-        parts: List::of(parts),
-    })
+    match push_attributes(alloc, text, &mut parts) {
+        Some(()) => Some(Object {
+            line: 1,
+            parts: List::of(parts),
+        }),
+        None => {
+            drop(parts);
+            None
+        }
+    }
 }
 
 fn push_what(alloc: Global, what: &What, text: &mut String) -> Option<()> {
@@ -65,17 +88,30 @@ fn push_what(alloc: Global, what: &What, text: &mut String) -> Option<()> {
     }
 }
 
-// Pushes what an object says, and the notes on it as a report prints them.
-fn push_said(alloc: Global, object: &Object, text: &mut String) -> Option<()> {
-    let found = reference_of(alloc, "x", object).ok()?;
+fn push_found(alloc: Global, found: &FoundRef, text: &mut String) -> Option<()> {
     push_what(alloc, &found.what, text)?;
     push_notes(alloc, found.notes.as_slice(), text)
 }
 
-fn says(alloc: Global, object: &Object, wanted: &str) -> Option<bool> {
+// Pushes what an object says, and the notes on it as a report prints them.
+fn push_said(alloc: Global, object: &Object, text: &mut String) -> Option<()> {
+    let found = reference_of(alloc, "x", object).ok()?;
+    let pushed = push_found(alloc, &found, text);
+    drop(found);
+    pushed
+}
+
+/// Whether all was pushed to a text, which goes, and it is the one that is wanted.
+pub fn is_wanted(pushed: Option<()>, text: String, wanted: &str) -> bool {
+    let is_wanted = pushed.is_some() && text.as_str() == wanted;
+    drop(text);
+    is_wanted
+}
+
+fn says(alloc: Global, object: &Object, wanted: &str) -> bool {
     let mut text = String::new(alloc);
-    push_said(alloc, object, &mut text)?;
-    Some(text.as_str() == wanted)
+    let pushed = push_said(alloc, object, &mut text);
+    is_wanted(pushed, text, wanted)
 }
 
 /// An object, and what it says with the notes on it.
@@ -84,19 +120,27 @@ type Row = (&'static str, &'static str);
 // The object whose attributes stand in two texts, one behind the other.
 fn object_of(alloc: Global, front: &str, behind: &str) -> Option<Object> {
     let text = format!(in alloc; "{front}{behind}").ok()?;
-    object(alloc, text.as_str())
+    let object = object(alloc, text.as_str());
+    drop(text);
+    object
 }
 
-fn says_as(alloc: Global, front: &str, row: &Row) -> Option<bool> {
-    let object = object_of(alloc, front, row.0)?;
-    says(alloc, &object, row.1)
+fn says_as(alloc: Global, front: &str, row: &Row) -> bool {
+    match object_of(alloc, front, row.0) {
+        Some(object) => {
+            let says = says(alloc, &object, row.1);
+            drop(object);
+            says
+        }
+        None => false,
+    }
 }
 
 // The number of the first row that comes out wrong, or how many there are. The attributes of a row
 // stand behind those that come first in each.
 fn first_wrong(alloc: Global, front: &str, rows: &[Row]) -> usize {
     for (at, row) in rows.iter().enumerate() {
-        if says_as(alloc, front, row) != Some(true) {
+        if !says_as(alloc, front, row) {
             return at;
         }
     }
@@ -271,6 +315,10 @@ static URLS: [(&[u8], &str); 12] = [
     (b"e.example/f.csv", "-"),
 ];
 
+fn urls_read() -> &'static [(&'static [u8], &'static str)] {
+    &URLS
+}
+
 fn is_read_as(alloc: Global, text: &[u8], wanted: &str) -> bool {
     match read_url(alloc, text) {
         Ok(UrlRead::Https(url)) => url.as_str() == wanted,
@@ -282,7 +330,7 @@ fn is_read_as(alloc: Global, text: &[u8], wanted: &str) -> bool {
 
 #[test]
 fn urls(rt: HostRuntime) {
-    for (text, wanted) in &URLS {
+    for (text, wanted) in urls_read() {
         assert!(rt; is_read_as(rt.alloc(), text, wanted));
     }
 }

@@ -7,7 +7,10 @@ use geo_outside::OpenGate;
 use geo_terms::{Delegation, LineNote, Stats};
 use nro_stats::{read_stats, read_stats_by_parts};
 use std::alloc::Global;
+use std::marker::Sync;
+use std::mem::drop;
 use std::test::Fail;
+use std::thread::Threads;
 
 // A file, the line of its only delegation, and the ends of the range.
 struct DelegationRow {
@@ -116,7 +119,9 @@ fn are_one(rows: &[Delegation], row: &DelegationRow) -> bool {
 
 fn says_one(alloc: Global, row: &DelegationRow) -> Result<bool, Fail> {
     let stats = read_stats(alloc, "x", row.file)?;
-    Ok(are_one(stats.rows.as_slice(), row) && stats.notes.as_slice().is_empty())
+    let is_one = are_one(stats.rows.as_slice(), row) && stats.notes.as_slice().is_empty();
+    drop(stats);
+    Ok(is_one)
 }
 
 #[test]
@@ -172,7 +177,9 @@ fn are_noted(notes: &[LineNote], row: &RuleRow) -> bool {
 
 fn notes_one(alloc: Global, row: &RuleRow) -> Result<bool, Fail> {
     let stats = read_stats(alloc, "x", row.0)?;
-    Ok(are_noted(stats.notes.as_slice(), row))
+    let is_noted = are_noted(stats.notes.as_slice(), row);
+    drop(stats);
+    Ok(is_noted)
 }
 
 #[test]
@@ -214,7 +221,9 @@ fn decide_as_nested(stats: &[Stats]) -> bool {
 #[test]
 fn a_delegation_decides(rt: HostRuntime) -> Result<(), Fail> {
     let stats = [read_stats(rt.alloc(), "x", nested())?];
-    assert!(rt; decide_as_nested(&stats));
+    let decide = decide_as_nested(&stats);
+    drop(stats);
+    assert!(rt; decide);
     Ok(())
 }
 
@@ -249,17 +258,35 @@ fn count_of_notes(notes: &[LineNote]) -> (usize, u64) {
     }
 }
 
-#[test]
-fn a_file_by_parts(rt: HostRuntime) -> Result<(), Fail> {
-    let file = made_lines(rt.alloc(), 20_000)?;
+fn read_by_parts<R: Threads + Sync>(rt: &R, alloc: Global, file: &[u8]) -> Result<Stats, Fail> {
     let forks = Forks {
-        rt: &rt,
-        alloc: rt.alloc(),
+        rt,
+        alloc,
         gate: &OpenGate,
         pieces: 4,
     };
-    let stats = read_stats_by_parts(&forks, "x", file.as_slice())?;
-    assert_eq!(rt; count_of_rows(stats.rows.as_slice()), (20_000, 39_999));
-    assert_eq!(rt; count_of_notes(stats.notes.as_slice()), (20_000, 40_000));
+    Ok(read_stats_by_parts(&forks, "x", file)?)
+}
+
+// Of 20,000 times two lines, which is cut into parts, the counts of delegations and of notes.
+fn counts_by_parts<R: Threads + Sync>(
+    rt: &R,
+    alloc: Global,
+) -> Result<((usize, u64), (usize, u64)), Fail> {
+    let file = made_lines(alloc, 20_000)?;
+    let read = read_by_parts(rt, alloc, file.as_slice());
+    drop(file);
+    let stats = read?;
+    let rows = count_of_rows(stats.rows.as_slice());
+    let notes = count_of_notes(stats.notes.as_slice());
+    drop(stats);
+    Ok((rows, notes))
+}
+
+#[test]
+fn a_file_by_parts(rt: HostRuntime) -> Result<(), Fail> {
+    let (rows, notes) = counts_by_parts(&rt, rt.alloc())?;
+    assert_eq!(rt; rows, (20_000, 39_999));
+    assert_eq!(rt; notes, (20_000, 40_000));
     Ok(())
 }
