@@ -1,6 +1,6 @@
 -- How a command's answer follows from where it stopped.
-use Rattle.std.proofs.Common.{◌≡◌, ℕ, ◌+◌, ◌≤◌, ◌<◌, Bool, true, false, nat_lt, inl, inr, List, []}
-use Rattle.std.proofs.Common.{length, refl, sym, ◌∙◌, ap, subst, arith, rules}
+use Rattle.std.proofs.Common.{◌≡◌, ℕ, ◌+◌, ◌≤◌, ◌<◌, ◌⊎◌, Bool, true, false, nat_lt, inl, inr, List}
+use Rattle.std.proofs.Common.{[], length, refl, sym, ◌∙◌, ap, subst, arith, rules}
 use Rattle.std.specs.Prelude.{Option, Some, None, Err, IsSomeAnd, if◌then◌else◌}
 use Rattle.std.specs.Str.{is_utf8}
 use Rattle.geo_addr.specs.Lines.{numbered_lines}
@@ -28,13 +28,15 @@ use Rattle.job_run.proofs.RunLemmas.{named_move}
 use Rattle.geofeed_cmd.specs.declared.status.Status.{Status}
 use Rattle.geofeed_cmd.specs.declared.status.Status.TheVariants as statuses
 use Rattle.geofeed_cmd.specs.Run.Answers.{ComesTo, IsDone, Leaves, Comes, read, write, memory}
-use Rattle.geofeed_cmd.specs.Run.Answers.{spent, IsAnswer}
-use Rattle.geofeed_cmd.specs.Run.Closes.{Closes, EndsWith}
+use Rattle.geofeed_cmd.specs.Run.Answers.{spent, IsAnswer, IsUnchanged}
+use Rattle.geofeed_cmd.specs.Run.Closes.{EndsWith}
 use Rattle.geofeed_cmd.specs.Run.Ending.{ending, ending_by, ending_of}
 use Rattle.geofeed_cmd.specs.Run.Lines.{status_of, cause_status, stop_line}
 use Rattle.geofeed_cmd.specs.Run.Plans.{Reaches, accepted, file_first, held_job, is_command}
 use Rattle.geofeed_cmd.specs.Run.Plans.{job_plan, plan_of, planned, refused}
-use Rattle.geofeed_cmd.proofs.CloseLemmas.{append-nil, leaves, no-line, prints-nothing}
+use Rattle.geofeed_cmd.specs.Run.Stopped.{ClosesAt, IsStopped}
+use Rattle.geofeed_cmd.proofs.CloseLemmas.{append-nil, fails_as, hindered_as, leaves, no-line}
+use Rattle.geofeed_cmd.proofs.CloseLemmas.{prints-nothing, put_as, sink_as}
 
 -- an answer that comes to the ending
 comes-ended : (cause : Cause) (command : Option Command) (first : Told) (old new : Seen)
@@ -245,33 +247,38 @@ move-line (does other) step its =
 move-line (shows last) step its = absurd (cc)
 
 -- one of the steps of a job was not done, and a line was printed behind
-pub comes_stop : (command : Option Command) (first : Told) (list : List Step)
+pub comes_stop : (command : Option Command) (first : Told) (result : Status) (list : List Step)
     (moves all : List Move) (start : World)
     (old mid : Seen) (written : Option (List ℕ)) (faults : ℕ)
     → plan_of first command ≡ planned all start → start.session.spent ≡ 0
     → ((count : ℕ) (move : Move) (world : World) → IsAt moves start count move world
     → IsAt all start count move world)
     → (why : Stop) (at : ℕ) (stop : StopsAt why at moves list start old mid)
-    → Closes mid.written written mid.print_faults faults []
-    (stop_line why stop.step.line (file_named stop.step.act)) → old.print_faults ≤ mid.print_faults
+    → IsStopped why result mid.written written mid.print_faults faults
+    stop.step.line (file_named stop.step.act) → old.print_faults ≤ mid.print_faults
     → (puts puts_now : ℕ) → (why ≡ stops.PutFailed → Rose puts puts_now)
     → (why ≡ stops.SinkFailed → Rose old.print_faults faults)
-    → Comes (status_of why) command first old (seen mid.told written faults mid.steps) puts puts_now
-comes_stop command first list moves all start old mid written faults plan unspent lift why at stop
-    closed rises puts puts_now put sink =
-    let line = stop_line why stop.step.line (file_named stop.step.act) in
-    let is : line ≡ stop_line why (line_of stop.move) (effect stop.move stop.world).name =
-    ap (λ n. stop_line why n (file_named stop.step.act)) (move-line stop.move stop.step stop.its)
-    ∙ ap (stop_line why (line_of stop.move))
+    → Comes result command first old (seen mid.told written faults mid.steps) puts puts_now
+comes_stop command first result list moves all start old mid written faults plan unspent lift why at
+    stop closed rises puts puts_now put sink =
+    let out = closed.out in
+    let line = stop_line out stop.step.line (file_named stop.step.act) in
+    let is : line ≡ stop_line out (line_of stop.move) (effect stop.move stop.world).name =
+    ap (λ n. stop_line out n (file_named stop.step.act)) (move-line stop.move stop.step stop.its)
+    ∙ ap (stop_line out (line_of stop.move))
     (sym (named_move stop.move stop.step stop.world stop.its)) in
     let steps : mid.steps ≤ old.steps + (effect stop.move stop.world).session.spent =
     let paid = stop.spent in omega (arith, unspent, paid) in
-    by_cause command first all start old
-    (seen mid.told written faults mid.steps) puts puts_now plan why stop.count stop.move stop.world
-    (lift stop.count stop.move stop.world stop.there) stop.fails.files
-    (leaves why stop.move stop.world old (seen mid.told written faults mid.steps) mid.written
-    mid.print_faults line is stop.fails.printed closed rises)
-    steps put sink
+    let now = seen mid.told written faults mid.steps in
+    let fails =
+    fails_as why out closed.comes stop.move stop.world stop.world.text old mid stop.fails in
+    subst (λ s. Comes s command first old now puts puts_now) (sym closed.same)
+    (by_cause command first all start old now puts puts_now plan out stop.count stop.move stop.world
+    (lift stop.count stop.move stop.world stop.there) fails.files
+    (leaves out stop.move stop.world old now mid.written mid.print_faults line is fails.printed
+    closed.closes rises)
+    steps (λ failed. put (put_as why out closed.comes failed))
+    (λ failed. sink (sink_as why out closed.comes failed)))
 
 -- a command that is refused before its first move
 comes-refused : (command : Option Command) (first : Told) (cause : Cause) (name : List ℕ)
@@ -287,18 +294,32 @@ comes-refused command first cause name old new plan files closed steps =
       steps = let e : new.steps ≤ old.steps + 0 = omega arith in e;
     })
 
--- a command that stops before its first move
-pub comes_hindered : (known : Command) (name : List ℕ) (first : Told) (old new : Seen)
-    (puts puts_now : ℕ) → file_first known ≡ Some name
-    → (why : Stop) → IsHindered why (λ cause. plan_of first (Some known) ≡ refused cause name)
+-- nothing was done, and no line was printed
+unchanged-unsaid : (first : Told) (line : ℕ) (name : List ℕ) (old new : Seen)
     → new.told ≡ Some first
-    → EndsWith old new [] (stop_line why 0 name) → new.steps ≤ old.steps
-    → Comes (status_of why) (Some known) first old new puts puts_now
-comes_hindered known name first old new puts puts_now named
+    → EndsWith old new [] (stop_line stops.Memory line name) → new.steps ≤ old.steps
+    → IsUnchanged first old new
+unchanged-unsaid first line name old new files closed steps = record {
+  files = files;
+  printed =
+      prints-nothing old.written new.written old.print_faults new.print_faults []
+      (subst (EndsWith old new []) (no-line line name).1 closed);
+  steps = steps;
+}
+
+-- a command that stops before its first move
+comes-hindered : (known : Command) (name : List ℕ) (first : Told) (old new : Seen)
+    (puts puts_now : ℕ) → file_first known ≡ Some name
+    → (out : Stop) → IsHindered out (λ cause. plan_of first (Some known) ≡ refused cause name)
+    → new.told ≡ Some first
+    → ClosesAt out old.written new.written old.print_faults new.print_faults (stop_line out 0 name)
+    → new.steps ≤ old.steps
+    → Comes (status_of out) (Some known) first old new puts puts_now
+comes-hindered known name first old new puts puts_now named
     (stops.Blocked cause) stop files closed steps =
     comes-ended cause (Some known) first old new puts puts_now
     (comes-refused (Some known) first cause name old new stop files closed steps)
-comes_hindered known name first old new puts puts_now named stops.ReadFailed stop files
+comes-hindered known name first old new puts puts_now named stops.ReadFailed stop files
     closed steps =
     inl (record {
       known = known;
@@ -309,18 +330,25 @@ comes_hindered known name first old new puts puts_now named stops.ReadFailed sto
       printed = closed;
       steps = steps;
     })
-comes_hindered known name first old new puts puts_now named stops.PutFailed stop files closed
+comes-hindered known name first old new puts puts_now named stops.PutFailed stop files closed
     steps = absurd stop
-comes_hindered known name first old new puts puts_now named stops.SinkFailed stop files closed
+comes-hindered known name first old new puts puts_now named stops.SinkFailed stop files closed
     steps = absurd stop
-comes_hindered known name first old new puts puts_now named stops.Memory stop files closed steps =
-    inl (record {
-      files = files;
-      printed =
-          prints-nothing old.written new.written old.print_faults new.print_faults []
-          (subst (EndsWith old new []) (no-line 0 name).1 closed);
-      steps = steps;
-    })
+comes-hindered known name first old new puts puts_now named stops.Memory stop files closed steps =
+    inl (unchanged-unsaid first 0 name old new files closed steps)
+
+pub comes_hindered : (known : Command) (name : List ℕ) (first : Told) (result : Status)
+    (old new : Seen) (puts puts_now : ℕ) → file_first known ≡ Some name
+    → (why : Stop) → IsHindered why (λ cause. plan_of first (Some known) ≡ refused cause name)
+    → new.told ≡ Some first
+    → IsStopped why result old.written new.written old.print_faults new.print_faults 0 name
+    → new.steps ≤ old.steps
+    → Comes result (Some known) first old new puts puts_now
+comes_hindered known name first result old new puts puts_now named why stop files closed steps =
+    subst (λ s. Comes s (Some known) first old new puts puts_now) (sym closed.same)
+    (comes-hindered known name first old new puts puts_now named closed.out
+    (hindered_as why closed.out closed.comes
+    (λ cause. plan_of first (Some known) ≡ refused cause name) stop) files closed.closes steps)
 
 -- nothing was done for want of memory
 pub comes_unchanged : (command : Option Command) (first : Told) (old new : Seen) (puts puts_now : ℕ)
@@ -344,13 +372,31 @@ no-plan (Some (commands.publish name block file)) first none = absurd (cc)
 no-plan (Some (commands.check name url)) first none = absurd (cc)
 no-plan (Some (commands.census name)) first none = absurd (cc)
 
-pub comes_words : (command : Option Command) (first : Told) (old new : Seen) (puts puts_now : ℕ)
-    → is_command command ≡ false → new.told ≡ Some first
-    → EndsWith old new [] (stop_line (stops.Blocked causes.Words) 0 []) → new.steps ≤ old.steps
-    → Comes statuses.Words command first old new puts puts_now
-comes_words command first old new puts puts_now none files closed steps =
-    comes-refused command first causes.Words [] old new
-    (no-plan command first none) files closed steps
+comes-words : (command : Option Command) (first : Told) (old new : Seen) (puts puts_now : ℕ)
+    → is_command command ≡ false → new.told ≡ Some first → new.steps ≤ old.steps → (out : Stop)
+    → (out ≡ stops.Blocked causes.Words) ⊎ (out ≡ stops.Memory)
+    → ClosesAt out old.written new.written old.print_faults new.print_faults (stop_line out 0 [])
+    → Comes (status_of out) command first old new puts puts_now
+comes-words command first old new puts puts_now none files steps out its = elim its [
+  | inl same ↦ subst (λ w. ClosesAt w old.written new.written old.print_faults new.print_faults
+      (stop_line w 0 []) → Comes (status_of w) command first old new puts puts_now) (sym same)
+      (λ closed. comes-refused command first causes.Words [] old new
+      (no-plan command first none) files closed steps)
+  | inr lacking ↦ subst (λ w. ClosesAt w old.written new.written old.print_faults new.print_faults
+      (stop_line w 0 []) → Comes (status_of w) command first old new puts puts_now) (sym lacking)
+      (λ closed. inl (unchanged-unsaid first 0 [] old new files closed steps))
+]
+
+pub comes_words : (command : Option Command) (first : Told) (result : Status) (old new : Seen)
+    (puts puts_now : ℕ) → is_command command ≡ false → new.told ≡ Some first
+    → IsStopped (stops.Blocked causes.Words) result old.written new.written
+    old.print_faults new.print_faults 0 []
+    → new.steps ≤ old.steps
+    → Comes result command first old new puts puts_now
+comes_words command first result old new puts puts_now none files closed steps =
+    subst (λ s. Comes s command first old new puts puts_now) (sym closed.same)
+    (comes-words command first old new puts puts_now none files steps closed.out closed.comes
+    closed.closes)
 
 if-true : {A : Type 0} (b : Bool) (x y : A) → b ≡ true → (if b then x else y) ≡ x
 if-true true x y h = refl

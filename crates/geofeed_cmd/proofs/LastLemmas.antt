@@ -23,11 +23,12 @@ use Rattle.job_run.specs.Stops.{Does, DoesAll, Fails, Halts, IsIn, IsPaid, Tail}
 use Rattle.job_run.specs.World.{World, printing}
 use Rattle.job_run.proofs.CourseLemmas.{course-append}
 use Rattle.geofeed_cmd.specs.Run.Answers.{Comes, IsDone}
-use Rattle.geofeed_cmd.specs.Run.Closes.{Closes}
-use Rattle.geofeed_cmd.specs.Run.Lines.{status_of, stop_line}
+use Rattle.geofeed_cmd.specs.declared.status.Status.{Status}
+use Rattle.geofeed_cmd.specs.Run.Lines.{stop_line}
 use Rattle.geofeed_cmd.specs.Run.Plans.{plan_of, planned}
+use Rattle.geofeed_cmd.specs.Run.Stopped.{IsStopped}
 use Rattle.geofeed_cmd.proofs.AnswerLemmas.{at_planned, by_cause}
-use Rattle.geofeed_cmd.proofs.CloseLemmas.{append-nil, leaves}
+use Rattle.geofeed_cmd.proofs.CloseLemmas.{append-nil, fails_as, leaves, put_as, sink_as}
 
 -- a move of a list is one of the list with more behind it
 pub at_longer : (moves more : List Move) (start : World) (count : ℕ) (move : Move) (world : World)
@@ -126,29 +127,36 @@ module _ (command : Option Command) (first : Told) (moves : List Move) (last : M
   }
 
   -- the last move was not made, and a line was printed behind
-  pub comes_unmade : (why : Stop) (new : Seen) (written : Option (List ℕ)) (faults : ℕ)
-      (line : List ℕ)
-      → line ≡ stop_line why (line_of last) (effect last all.world).name
+  pub comes_unmade : (why : Stop) (result : Status) (new : Seen) (written : Option (List ℕ))
+      (faults : ℕ) (name : List ℕ) → line_of last ≡ 0 → name ≡ (effect last all.world).name
       → IsPaid (effect last all.world) all.world mid.steps new.steps
       → Fails why last all.world [] mid new
-      → Closes new.written written new.print_faults faults [] line
+      → IsStopped why result new.written written new.print_faults faults 0 name
       → old.print_faults ≤ new.print_faults
       → (puts puts_now : ℕ) → (why ≡ stops.PutFailed → Rose puts puts_now)
       → (why ≡ stops.SinkFailed → Rose old.print_faults faults)
-      → Comes (status_of why) command first old
+      → Comes result command first old
       (seen new.told written faults new.steps) puts puts_now
-  comes_unmade why new written faults line is paid fails closed rises puts puts_now put sink =
+  comes_unmade why result new written faults name lineless named paid fails closed rises puts
+      puts_now put sink =
       let now = seen new.told written faults new.steps in
+      let out = closed.out in
+      let is : stop_line out 0 name ≡ stop_line out (line_of last) (effect last all.world).name =
+      ap (λ n. stop_line out n name) (sym lineless) ∙ ap (stop_line out (line_of last)) named in
+      let stop = fails_as why out closed.comes last all.world [] mid new fails in
       let printed =
-      tail_more why old.written mid.written new.written all.world.text (effect last all.world).text
-      all.printed fails.printed in
+      tail_more out old.written mid.written new.written all.world.text (effect last all.world).text
+      all.printed stop.printed in
       let steps : now.steps ≤ old.steps + (effect last all.world).session.spent =
       let p = all.steps in omega (arith, p, paid, unspent) in
-      by_cause command first (moves ++ last ∷ []) start old now puts puts_now plan why
+      subst (λ s. Comes s command first old now puts puts_now) (sym closed.same)
+      (by_cause command first (moves ++ last ∷ []) start old now puts puts_now plan out
       (length moves) last all.world
-      (at_last moves last start all.world all.done) fails.files
-      (leaves why last all.world old now new.written new.print_faults line is printed closed rises)
-      steps put sink
+      (at_last moves last start all.world all.done) stop.files
+      (leaves out last all.world old now new.written new.print_faults (stop_line out 0 name) is
+      printed closed.closes rises)
+      steps (λ failed. put (put_as why out closed.comes failed))
+      (λ failed. sink (sink_as why out closed.comes failed)))
 
 -- a last move that only prints
 module _ (text : World → List ℕ) (world : World) (session : Held) (old new : Seen)

@@ -1,5 +1,6 @@
 -- Which stop has a status.
-use Rattle.std.proofs.Common.{◌≡◌, ◌≢◌, ◌⊎◌, inl, inr, refl, ap}
+use Rattle.std.proofs.Common.{◌≡◌, ◌≢◌, ◌⊎◌, ◌∙◌, inl, inr, refl, sym, ap}
+use Rattle.geofeed_cmd.specs.declared.status.Status.{Status}
 use Rattle.geofeed_cmd.specs.declared.status.Status.TheVariants as statuses
 use Rattle.job_run.specs.declared.stop.Cause.TheVariants.{Words, Missing, Job, TooLong, TooMany}
 use Rattle.job_run.specs.declared.stop.Cause.TheVariants.{NotThere, NoMark, NoFeed, TooLarge, File}
@@ -7,6 +8,7 @@ use Rattle.job_run.specs.declared.stop.Stop.{Stop}
 use Rattle.job_run.specs.declared.stop.Stop.TheVariants.{Blocked, ReadFailed, PutFailed, SinkFailed}
 use Rattle.job_run.specs.declared.stop.Stop.TheVariants.{Memory}
 use Rattle.geofeed_cmd.specs.Run.Lines.{status_of}
+use Rattle.geofeed_cmd.specs.Run.Stopped.{ComesAs, IsStatusOf}
 
 pub read_status : (why : Stop) → status_of why ≡ statuses.ReadFault → why ≡ ReadFailed
 read_status (Blocked Words) is = cc
@@ -90,4 +92,63 @@ not_done PutFailed is = cc
 not_done SinkFailed is = cc
 not_done Memory is = cc
 
-pub ruleset status_causes = (read_status, missing_status, words_status, write_status)
+-- the status of what a stop comes out as
+pub status_as : (why out : Stop) (status : Status) → ComesAs why out → status ≡ status_of out
+    → IsStatusOf why status
+status_as (Blocked cause) out status comes same = elim comes [
+  | inl itself ↦ inl (same ∙ ap status_of itself)
+  | inr memory ↦ inr (same ∙ ap status_of memory)
+]
+status_as ReadFailed out status comes same = elim comes [
+  | inl itself ↦ inl (same ∙ ap status_of itself)
+  | inr memory ↦ inr (same ∙ ap status_of memory)
+]
+status_as PutFailed out status comes same = inl (same ∙ ap status_of comes)
+status_as SinkFailed out status comes same = inl (same ∙ ap status_of comes)
+status_as Memory out status comes same = inl (same ∙ ap status_of comes)
+
+-- the same of an answer to a stop, which may be `Memory` in its place
+pub read_answer : (why : Stop) (status : Status) → IsStatusOf why status
+    → status ≡ statuses.ReadFault → why ≡ ReadFailed
+read_answer why status its is = elim its [
+  | inl same ↦ read_status why (sym same ∙ is)
+  | inr memory ↦ absurd (let a = memory in let b = is in cc)
+]
+
+pub missing_answer : (why : Stop) (status : Status) → IsStatusOf why status
+    → status ≡ statuses.Missing → why ≡ Blocked Missing
+missing_answer why status its is = elim its [
+  | inl same ↦ missing_status why (sym same ∙ is)
+  | inr memory ↦ absurd (let a = memory in let b = is in cc)
+]
+
+pub words_answer : (why : Stop) (status : Status) → IsStatusOf why status
+    → status ≡ statuses.Words → why ≡ Blocked Words
+words_answer why status its is = elim its [
+  | inl same ↦ words_status why (sym same ∙ is)
+  | inr memory ↦ absurd (let a = memory in let b = is in cc)
+]
+
+pub write_answer : (why : Stop) (status : Status) → IsStatusOf why status
+    → status ≡ statuses.WriteFault → (why ≡ PutFailed) ⊎ (why ≡ SinkFailed)
+write_answer why status its is = elim its [
+  | inl same ↦ write_status why (sym same ∙ is)
+  | inr memory ↦ absurd (let a = memory in let b = is in cc)
+]
+
+pub done_answer : (why : Stop) (status : Status) → IsStatusOf why status → status ≢ statuses.Done
+done_answer why status its is = elim its [
+  | inl same ↦ not_done why (sym same ∙ is)
+  | inr memory ↦ (let a = memory in let b = is in cc)
+]
+
+pub ruleset status_causes = (
+  read_status,
+  missing_status,
+  words_status,
+  write_status,
+  read_answer,
+  missing_answer,
+  words_answer,
+  write_answer,
+)

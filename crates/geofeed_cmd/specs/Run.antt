@@ -10,3 +10,4 @@ pub mod Lines
 pub mod LookupEnds
 pub mod Pieces
 pub mod Plans
+pub mod Stopped

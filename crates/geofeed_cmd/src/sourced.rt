@@ -13,9 +13,8 @@ ghost use Rattle.job_run.specs.Sources.{file_named};
 ghost use Rattle.job_run.specs.Stops.{DoesAll};
 ghost use Rattle.job_lines.specs.Commands.{Command};
 ghost use Rattle.geofeed_cmd.specs.Run.Answers.{Comes};
-ghost use Rattle.geofeed_cmd.specs.Run.Closes.{Closes};
-ghost use Rattle.geofeed_cmd.specs.Run.Lines.{status_of, stop_line};
 ghost use Rattle.geofeed_cmd.specs.Run.Plans.{plan_of, planned, start_of};
+ghost use Rattle.geofeed_cmd.specs.Run.Stopped.{IsStatusOf, IsStopped};
 
 use crate::status::Status;
 use crate::stop::stop_at;
@@ -123,10 +122,10 @@ pub(crate) fn stop_in<O: Sink>(
     journal: &mut Journal,
 ) -> Status
     requires { stop.at < length list.now }
-    ensures status { result ≡ status_of stop.why }
-    ensures closed { (step : steps_of.Step) → slice_get list.now stop.at ≡ Some step
-        → Closes (O.written out.old) (O.written out.new) (O.faults out.old) (O.faults out.new) []
-        (stop_line stop.why step.line (file_named step.act)) }
+    ensures status { IsStatusOf stop.why result }
+    ensures stopped { (step : steps_of.Step) → slice_get list.now stop.at ≡ Some step
+        → IsStopped stop.why result (O.written out.old) (O.written out.new) (O.faults out.old)
+        (O.faults out.new) step.line (file_named step.act) }
     ensures faults { O.faults out.old ≤ O.faults out.new }
 {
     let step = &list[stop.at];

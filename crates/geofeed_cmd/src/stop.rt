@@ -1,14 +1,15 @@
 //! Why a command stops, its status then, and the line that is printed.
-ghost use Rattle.std.specs.Prelude.{◌≡◌, ◌≤◌, ◌++◌, ℕ, List, [], IfOk, codes, decimal};
+ghost use Rattle.std.specs.Prelude.{◌≡◌, ◌⊎◌, ◌≤◌, ◌++◌, [], IfOk, OnErr, OnOk, codes, decimal};
 ghost use Rattle.geofeed_cmd.specs.Run.Lines.{job_line, status_of, stop_line};
 ghost use Rattle.geofeed_cmd.specs.Run.Closes.{Closes};
+ghost use Rattle.geofeed_cmd.specs.Run.Stopped.{ClosesAt, ComesAs, IsStatusOf, IsStopped};
 ghost use Rattle.job_run.specs.declared.stop.Cause.TheVariants as causes;
 ghost use Rattle.job_run.specs.declared.stop.Stop.TheVariants as stops;
 
 use crate::status::Status;
 use file_lookup::file_line;
 use geo_addr::{Memory, Text};
-use geo_outside::Sink;
+use geo_outside::{OutErr, Sink};
 use job_lines::JobFault;
 use job_run::{Cause, Journal, Stop};
 use std::alloc::Global;
@@ -89,8 +90,8 @@ fn numbered_line(alloc: Global, before: &str, line: u64, after: &str) -> Result<
     Ok(text)
 }
 
-/// Prints the line of a stop, and says its status. Where the line does not go out,
-/// the status stays.
+/// Prints the line of a stop, and says its status. Where the sink fails in the line, the status
+/// stays; where there is no memory for the line, want of memory is what stopped the command.
 pub(crate) fn stop_at<O: Sink>(
     alloc: Global,
     why: Stop,
@@ -99,45 +100,83 @@ pub(crate) fn stop_at<O: Sink>(
     out: &mut O,
     journal: &mut Journal,
 ) -> Status
-    ensures status { result ≡ status_of why }
-    ensures closed { Closes (O.written out.old) (O.written out.new) (O.faults out.old)
-        (O.faults out.new) [] (stop_line why line name.now) }
+    ensures status { IsStatusOf why result }
+    ensures stopped { IsStopped why result (O.written out.old) (O.written out.new)
+        (O.faults out.old) (O.faults out.new) line name.now }
     ensures faults { O.faults out.old ≤ O.faults out.new }
 {
-    journal.end_at(alloc, why, name);
-    print_line(out, stop_line(alloc, why, line, name));
-    status_of(why)
+    let end = print_stop(alloc, why, line, name, out);
+    journal.end_at(alloc, end, name);
+    status_of(end)
 }
 
 /// What is done at words that are no command.
 pub(crate) fn no_command<O: Sink>(alloc: Global, out: &mut O, journal: &mut Journal) -> Status
-    ensures status { result ≡ Status.Words }
-    ensures closed { Closes (O.written out.old) (O.written out.new) (O.faults out.old)
-        (O.faults out.new) [] (stop_line (stops.Blocked causes.Words) 0 []) }
+    ensures status { (result ≡ Status.Words) ⊎ (result ≡ Status.Memory) }
+    ensures stopped { IsStopped (stops.Blocked causes.Words) result (O.written out.old)
+        (O.written out.new) (O.faults out.old) (O.faults out.new) 0 [] }
     ensures faults { O.faults out.old ≤ O.faults out.new }
 {
     stop_at(alloc, Stop::Blocked(Cause::Words), 0, "", out, journal)
 }
 
-// An empty line is not written, so nothing follows a sink that failed.
-fn print_line<O: Sink>(out: &mut O, line: Result<Text, Memory>)
-    ensures closed { (wanted : List ℕ) → IfOk line (λ text. text ≡ wanted)
-        → Closes (O.written out.old) (O.written out.new) (O.faults out.old)
-        (O.faults out.new) [] wanted }
+// Prints the line of a stop, and says what it comes out as.
+fn print_stop<O: Sink>(alloc: Global, why: Stop, line: u64, name: &str, out: &mut O) -> Stop
+    ensures comes { ComesAs why result }
+    ensures closes { ClosesAt result (O.written out.old) (O.written out.new)
+        (O.faults out.old) (O.faults out.new) (stop_line result line name.now) }
     ensures faults { O.faults out.old ≤ O.faults out.new }
 {
-    match line {
-        Ok(text) => print_text(out, text.as_str()),
-        Err(_) => {}
+    match print_line(alloc, why, line, name, out) {
+        Ok(()) => why,
+        Err(Memory) => without_line(why),
     }
 }
 
-fn print_text<O: Sink>(out: &mut O, text: &str)
-    ensures closed { Closes (O.written out.old) (O.written out.new) (O.faults out.old)
-        (O.faults out.new) [] text.now }
+// What a stop comes out as where there is no memory for its line: what a put or a print that failed
+// left is no answer of `Memory`.
+fn without_line(why: Stop) -> Stop
+    ensures comes { ComesAs why result }
+    ensures silent { (result ≡ Stop.PutFailed)
+        ⊎ ((result ≡ Stop.SinkFailed) ⊎ (result ≡ Stop.Memory)) }
+{
+    match why {
+        Stop::PutFailed => Stop::PutFailed,
+        Stop::SinkFailed => Stop::SinkFailed,
+        Stop::Blocked(_) | Stop::ReadFailed | Stop::Memory => Stop::Memory,
+    }
+}
+
+// Is refused where there was no memory for the line.
+fn print_line<O: Sink>(
+    alloc: Global,
+    why: Stop,
+    line: u64,
+    name: &str,
+    out: &mut O,
+) -> Result<(), Memory>
+    ensures printed { OnOk result (Closes (O.written out.old) (O.written out.new)
+        (O.faults out.old) (O.faults out.new) [] (stop_line why line name.now)) }
+    ensures unprinted { OnErr result (O.written out.new ≡ O.written out.old) }
     ensures faults { O.faults out.old ≤ O.faults out.new }
 {
-    if !text.is_empty() {
-        let _ = out.write_all(text.as_bytes());
+    let text = stop_line(alloc, why, line, name)?;
+    print_text(out, text.as_str())
+}
+
+// An empty line is not written, so nothing follows a sink that failed.
+fn print_text<O: Sink>(out: &mut O, text: &str) -> Result<(), Memory>
+    ensures printed { OnOk result (Closes (O.written out.old) (O.written out.new)
+        (O.faults out.old) (O.faults out.new) [] text.now) }
+    ensures unprinted { OnErr result (O.written out.new ≡ O.written out.old) }
+    ensures faults { O.faults out.old ≤ O.faults out.new }
+{
+    if text.is_empty() {
+        return Ok(());
+    }
+    match out.write_all(text.as_bytes()) {
+        Ok(()) => Ok(()),
+        Err(OutErr::Failed) => Ok(()),
+        Err(OutErr::Memory) => Err(Memory),
     }
 }

@@ -10,7 +10,7 @@ use Rattle.job_run.specs.declared.stop.Stop.TheVariants as stops
 use Rattle.job_lines.specs.Commands.{Command}
 use Rattle.job_run.specs.Acts.{Move, effect, line_of}
 use Rattle.job_run.specs.Course.{course, ended}
-use Rattle.geofeed_cmd.specs.Run.Closes.{EndsWith}
+use Rattle.geofeed_cmd.specs.Run.Closes.{EndsWith, MayEndWith}
 use Rattle.geofeed_cmd.specs.Run.Ending.{Ending, ending}
 use Rattle.geofeed_cmd.specs.Run.Plans.{Reaches, file_first, plan_of, planned}
 use Rattle.geofeed_cmd.specs.Run.Lines.{stop_line}
@@ -39,8 +39,8 @@ pub record IsDone (command : Option Command) (first : Told) (old new : Seen) : T
   pub published : (move : Move) (world : World) → Reaches command first move world
       → Publishes move world.session.state
 
--- what was printed at a stop in a move: the text before it, and then the stop line,
--- or a part of the move's own text where the sink failed
+-- what was printed at a stop in a move: the text before it, and then the stop line, which may be
+-- left out behind a put that failed; or a part of the move's own text where the sink failed
 abbrev pub Leaves : Stop → Move → World → (old new : Seen) → Type 0
 Leaves (stops.Blocked why) move world old new =
     EndsWith old new world.text
@@ -48,7 +48,8 @@ Leaves (stops.Blocked why) move world old new =
 Leaves stops.ReadFailed move world old new =
     EndsWith old new world.text (stop_line stops.ReadFailed (line_of move) (effect move world).name)
 Leaves stops.PutFailed move world old new =
-    EndsWith old new world.text (stop_line stops.PutFailed (line_of move) (effect move world).name)
+    MayEndWith old new world.text
+    (stop_line stops.PutFailed (line_of move) (effect move world).name)
 Leaves stops.SinkFailed move world old new =
     PrintsPart old.written new.written world.text (effect move world).text
 Leaves stops.Memory move world old new = Prints old.written new.written world.text

@@ -22,5 +22,5 @@ returns-else-is_plain g c =
     record {
       leaves = concludes_words g.F.Folder g.O.Sink (named c.args.spoken) c.no_command.result
           c.args.folder.now c.args.out.now c.no_command.new.out c.args.steps.now none
-          c.no_command.ensures.status c.no_command.ensures.closed;
+          c.no_command.ensures.stopped;
     }

@@ -10,5 +10,5 @@ pub returns-in-Err : goal.returns-in-Err
 returns-in-Err g c = record {
   leaves = concludes_words g.F.Folder g.O.Sink (command_of (map string_bytes c.args.words.now))
       c.no_command.result c.args.folder.now c.args.out.now c.no_command.new.out c.args.steps.now
-      (ap is_command c.in-Err.ensures) c.no_command.ensures.status c.no_command.ensures.closed;
+      (ap is_command c.in-Err.ensures) c.no_command.ensures.stopped;
 }

@@ -1,17 +1,15 @@
 -- The answer of a command by its sources from that of its last move.
-use Rattle.std.proofs.Common.{inl, inr, refl, sym, ◌∙◌, ap, arith}
-use Rattle.std.specs.Prelude.{Err}
+use Rattle.std.proofs.Common.{inl, inr, refl, ◌∙◌, arith}
 use Rattle.geo_outside.specs.Count.{Rose}
 use Rattle.job_run.specs.Moves.{source_moves}
 use Rattle.job_run.specs.Seen.{seen}
-use Rattle.geofeed_cmd.specs.Commands.Last.{last_move, name_in}
-use Rattle.geofeed_cmd.specs.Run.Lines.{stop_line}
+use Rattle.geofeed_cmd.specs.Commands.Last.{last_move}
 use Rattle.geofeed_cmd.specs.Run.Plans.{start_of}
 use Rattle.geofeed_cmd.proofs.FeedLemmas.{leaves_last}
 use Rattle.geofeed_cmd.proofs.LastCommands.{last_named}
 use Rattle.geofeed_cmd.proofs.LastLemmas.{comes_last, comes_unmade}
-use Rattle.geofeed_cmd.proofs.StatusLemmas.{missing_status, not_done, read_status, words_status}
-use Rattle.geofeed_cmd.proofs.StatusLemmas.{write_status}
+use Rattle.geofeed_cmd.proofs.StatusLemmas.{done_answer, missing_answer, read_answer, words_answer}
+use Rattle.geofeed_cmd.proofs.StatusLemmas.{write_answer}
 use Rattle.geofeed_cmd.proofs.last.by_job.Goals as goal
 
 pub returns-in-Ok-made-clause-comes : goal.returns-in-Ok-made-clause-comes
@@ -39,7 +37,7 @@ returns-in-Ok-made-clause-published g c =
 pub returns-in-Err-made-clause-published : goal.returns-in-Err-made-clause-published
 returns-in-Err-made-clause-published g c =
     λ first told name plan done.
-    absurd (not_done c.in-Err-made.why (sym c.stop_at.ensures.status ∙ done))
+    absurd (done_answer c.in-Err-made.why c.stop_at.result c.stop_at.ensures.status done)
 
 pub returns-in-Err-made-clause-comes : goal.returns-in-Err-made-clause-comes
 returns-in-Err-made-clause-comes g c =
@@ -55,20 +53,19 @@ returns-in-Err-made-clause-comes g c =
     let then = c.make_last-made.ensures.faults in
     let later = c.stop_at.ensures.faults in
     let named = c.name_of.ensures ∙ last_named last all.world in
-    rw c.stop_at.ensures.status
-    (comes_unmade command first (source_moves c.args.job.steps) (last_move last)
-    (start_of first c.args.job) plan refl _ _ _ all why
+    comes_unmade command first (source_moves c.args.job.steps) (last_move last)
+    (start_of first c.args.job) plan refl _ _ _ all why c.stop_at.result
     (seen (F.told after.folder) (O.written after.out) (O.faults after.out) after.steps)
     (O.written c.stop_at.new.out) (O.faults c.stop_at.new.out)
-    (stop_line why 0 c.name_of.result.now) (ap (stop_line why 0) named)
+    c.name_of.result.now refl named
     (c.make_last-made.ensures.paid all.world all.stands)
     (c.in-Err-made.ensures.failed all.world all.stands)
-    c.stop_at.ensures.closed (omega arith) _ _
+    c.stop_at.ensures.stopped (omega arith) _ _
     (λ put.
     let rose : Rose (F.put_faults c.sources_of.new.folder) (F.put_faults after.folder) =
     c.make_last-made.ensures.put_failed (cc) in omega arith)
     (λ sink. let rose : Rose (O.faults c.sources_of.new.out) (O.faults after.out) =
-    c.make_last-made.ensures.sink_failed (cc) in omega arith))
+    c.make_last-made.ensures.sink_failed (cc) in omega arith)
 
 pub returns-in-Err-made-clause-signs : goal.returns-in-Err-made-clause-signs
 returns-in-Err-made-clause-signs g c =
@@ -77,15 +74,16 @@ returns-in-Err-made-clause-signs g c =
     let after = c.make_last-made.new in
     let why = c.in-Err-made.why in
     let not = c.in-Err-made.ensures.reads_nothing in
-    let is = sym c.stop_at.ensures.status in
+    let is = c.stop_at.ensures.status in
+    let status = c.stop_at.result in
     let puts = c.sources_of.ensures.put_faults in
     let before = c.sources_of.ensures.faults in
     let later = c.stop_at.ensures.faults in
     record {
-      not_words = λ words. not.2 (words_status why (is ∙ words));
-      read = λ read. absurd (not.0 (read_status why (is ∙ read)));
-      missing = λ missing. absurd (not.1 (missing_status why (is ∙ missing)));
-      write = λ write. elim (write_status why (is ∙ write)) [
+      not_words = λ words. not.2 (words_answer why status is words);
+      read = λ read. absurd (not.0 (read_answer why status is read));
+      missing = λ missing. absurd (not.1 (missing_answer why status is missing));
+      write = λ write. elim (write_answer why status is write) [
         | inl put ↦ inl
             (let rose : Rose (F.put_faults c.sources_of.new.folder) (F.put_faults after.folder) =
             c.make_last-made.ensures.put_failed (cc) in omega arith)
@@ -107,7 +105,7 @@ returns-in-Err-made-clause-unput g c =
     let quiet = c.make_last-made.ensures.unput name none in (
       quiet.0 ∙ c.sources_of.ensures.unput,
       λ write.
-          elim (write_status why (sym c.stop_at.ensures.status ∙ write)) [
+          elim (write_answer why c.stop_at.result c.stop_at.ensures.status write) [
             | inl put ↦ absurd (quiet.1 (cc))
             | inr sink ↦
                 let rose : Rose (O.faults c.sources_of.new.out) (O.faults after.out) =

@@ -1,5 +1,5 @@
 -- The answer of a command by its sources from that of its parts.
-use Rattle.std.proofs.Common.{◌≡◌, ◌≤◌, ◌+◌, ◌∙◌, ap, arith, inl, inr, refl, rules, sym}
+use Rattle.std.proofs.Common.{◌≡◌, ◌≤◌, ◌+◌, ◌∙◌, ap, arith, inl, inr, refl, rules}
 use Rattle.std.specs.FinMap as map
 use Rattle.std.specs.Prelude.{Some}
 use Rattle.geo_outside.specs.Count.{Rose}
@@ -8,7 +8,7 @@ use Rattle.geofeed_cmd.specs.Commands.Last.{ending_with}
 use Rattle.geofeed_cmd.specs.Run.Plans.{held_job, job_room, room_of}
 use Rattle.geofeed_cmd.proofs.AnswerLemmas.{comes_earlier, comes_hindered}
 use Rattle.geofeed_cmd.proofs.LastCommands.{last_hindered, last_planned, least_room, of_job}
-use Rattle.geofeed_cmd.proofs.StatusLemmas.{not_done, status_causes}
+use Rattle.geofeed_cmd.proofs.StatusLemmas.{done_answer, status_causes}
 use Rattle.geofeed_cmd.proofs.last.by_sources.Goals as goal
 
 pub returns-in-Ok : goal.returns-in-Ok
@@ -70,12 +70,11 @@ returns-in-Err g c =
       leaves = record {
         comes = λ first told.
             let steps : c.args.steps.now ≤ c.args.steps.now = omega arith in
-            rw c.stop_at.ensures.status
-            (comes_hindered (ending_with name last) name first _ _ _ _ its.first c.in-Err.why
+            comes_hindered (ending_with name last) name first _ _ _ _ _ its.first c.in-Err.why
             (last_hindered name last first c.in-Err.why (c.in-Err.ensures.none first told))
-            (c.job_in.ensures.same ∙ told) c.stop_at.ensures.closed steps);
+            (c.job_in.ensures.same ∙ told) c.stop_at.ensures.stopped steps;
         published = λ first told done.
-            absurd (not_done c.in-Err.why (sym c.stop_at.ensures.status ∙ done));
+            absurd (done_answer c.in-Err.why c.stop_at.result c.stop_at.ensures.status done);
         ends = record {
           words = search (rules, status_causes);
           none = λ none. let is = its.is in absurd (cc);

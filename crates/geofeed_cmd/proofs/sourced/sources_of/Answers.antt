@@ -7,7 +7,7 @@ use Rattle.geofeed_cmd.specs.Run.Plans.{start_of, planned}
 use Rattle.geofeed_cmd.specs.declared.status.Status.TheVariants as statuses
 use Rattle.geofeed_cmd.proofs.AnswerLemmas.{comes_stop}
 use Rattle.geofeed_cmd.proofs.LastLemmas.{at_longer}
-use Rattle.geofeed_cmd.proofs.StatusLemmas.{not_done, status_causes}
+use Rattle.geofeed_cmd.proofs.StatusLemmas.{done_answer, status_causes}
 use Rattle.geofeed_cmd.proofs.sourced.sources_of.Goals as goal
 
 pub returns-in-Ok-do_steps-clause-ok : goal.returns-in-Ok-do_steps-clause-ok
@@ -40,20 +40,19 @@ returns-clause-err g c =
       stands = begun;
     }) refl in
     let later = c.stop_in.ensures.faults in
-    rw c.stop_in.ensures.status
-    (comes_stop command first list (source_moves list)
+    comes_stop command first c.stop_in.result list (source_moves list)
     (source_moves list ++ last ∷ []) start _ _ _ _ planned_here refl
     (at_longer (source_moves list) (last ∷ []) start) c.in-Err-do_steps.stop.why
     c.in-Err-do_steps.stop.at stop
-    (c.stop_in.ensures.closed stop.step stop.named) c.do_steps.ensures.faults _ _
+    (c.stop_in.ensures.stopped stop.step stop.named) c.do_steps.ensures.faults _ _
     c.in-Err-do_steps.ensures.put_failed
     (λ sink. let rose : Rose (g.O.Sink.faults c.args.out.now) (g.O.Sink.faults c.do_steps.new.out) =
-    c.in-Err-do_steps.ensures.sink_failed sink in omega arith))
+    c.in-Err-do_steps.ensures.sink_failed sink in omega arith)
 
 pub returns-clause-not_done : goal.returns-clause-not_done
 returns-clause-not_done g c is =
     let done : c.stop_in.result ≡ statuses.Done = cc in
-    absurd (not_done c.in-Err-do_steps.stop.why (sym c.stop_in.ensures.status ∙ done))
+    absurd (done_answer c.in-Err-do_steps.stop.why c.stop_in.result c.stop_in.ensures.status done)
 
 pub returns-clause-not_words : goal.returns-clause-not_words
 returns-clause-not_words g c = grind (arith, status_causes)

@@ -1,9 +1,9 @@
 -- The answer of a job from what its steps left.
-use Rattle.std.proofs.Common.{inl, inr, sym, ◌∙◌, arith}
+use Rattle.std.proofs.Common.{inl, inr, arith}
 use Rattle.geo_outside.specs.Count.{Rose}
 use Rattle.job_run.specs.Moves.{moves_of}
 use Rattle.geofeed_cmd.proofs.AnswerLemmas.{comes_done, comes_stop}
-use Rattle.geofeed_cmd.proofs.StatusLemmas.{missing_status}
+use Rattle.geofeed_cmd.proofs.StatusLemmas.{missing_answer}
 use Rattle.geofeed_cmd.proofs.whole.do_whole.Goals as goal
 
 pub returns-in-Ok-clause-comes : goal.returns-in-Ok-clause-comes
@@ -19,20 +19,19 @@ returns-in-Err-clause-comes g c =
     let moves = moves_of c.args.list.now in
     let stop = c.in-Err.ensures.stopped start here blank in
     let later = c.stop_in.ensures.faults in
-    rw c.stop_in.ensures.status
-    (comes_stop command first c.args.list.now moves moves start _ _ _ _ plan unspent
+    comes_stop command first c.stop_in.result c.args.list.now moves moves start _ _ _ _ plan unspent
     (λ count move world there. there)
     c.in-Err.stop.why c.in-Err.stop.at stop
-    (c.stop_in.ensures.closed stop.step stop.named) c.do_steps.ensures.faults _ _
+    (c.stop_in.ensures.stopped stop.step stop.named) c.do_steps.ensures.faults _ _
     c.in-Err.ensures.put_failed
     (λ sink. let rose : Rose (g.O.Sink.faults c.args.out.now) (g.O.Sink.faults c.do_steps.new.out) =
-    c.in-Err.ensures.sink_failed sink in omega arith))
+    c.in-Err.ensures.sink_failed sink in omega arith)
 
 pub returns-in-Err-clause-missing_apart : goal.returns-in-Err-clause-missing_apart
 returns-in-Err-clause-missing_apart g c =
     λ gone.
     elim (c.in-Err.ensures.missing_apart
-    (missing_status c.in-Err.stop.why (sym c.stop_in.ensures.status ∙ gone))) [
+    (missing_answer c.in-Err.stop.why c.stop_in.result c.stop_in.ensures.status gone)) [
       | inl rose ↦ inl rose
       | inr lacks ↦ inr (c.in-Err.stop.at, lacks)
     ]

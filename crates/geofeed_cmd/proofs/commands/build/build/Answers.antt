@@ -31,11 +31,10 @@ returns-in-Err g c =
       leaves = record {
         comes = λ first told.
             let steps : c.args.steps.now ≤ c.args.steps.now = omega arith in
-            rw c.stop_at.ensures.status
-            (comes_hindered known c.args.name.now first _ _ _ _ refl c.in-Err.why
+            comes_hindered known c.args.name.now first _ _ _ _ _ refl c.in-Err.why
             (hindered_job known first c.args.name.now c.in-Err.why
             (map.get first.held c.args.name.now) (c.in-Err.ensures.none first told))
-            (c.job_in.ensures.same ∙ told) c.stop_at.ensures.closed steps);
+            (c.job_in.ensures.same ∙ told) c.stop_at.ensures.stopped steps;
         published = λ first told done. tt;
         ends = search (rules, status_causes);
       };

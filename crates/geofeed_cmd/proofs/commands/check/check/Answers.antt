@@ -18,5 +18,5 @@ returns-in-Ok-None g c =
       leaves = concludes_words g.F.Folder g.O.Sink (check_key name (feed_key word))
           c.no_command.result c.args.folder.now c.args.out.now c.no_command.new.out
           c.args.steps.now (ap (λ key. is_command (check_key name key)) none)
-          c.no_command.ensures.status c.no_command.ensures.closed;
+          c.no_command.ensures.stopped;
     }

@@ -56,14 +56,13 @@ pub returns : goal.returns
 returns g c = record {
   leaves = λ steps. record {
     comes = λ first told.
-        rw c.stop_at.ensures.status
-        (comes_hindered (lookup c.args.name.now c.args.at.0) c.args.name.now first
+        comes_hindered (lookup c.args.name.now c.args.at.0) c.args.name.now first c.stop_at.result
         (seen (g.F.Folder.told c.args.folder.now) (g.O.Sink.written c.args.out.now)
         (g.O.Sink.faults c.args.out.now) steps)
         (seen (g.F.Folder.told c.answer_in.new.folder) (g.O.Sink.written c.stop_at.new.out)
         (g.O.Sink.faults c.stop_at.new.out) steps)
         _ _ refl c.in-Err.why (c.in-Err.ensures.none first told)
-        (c.answer_in.ensures.same ∙ told) c.stop_at.ensures.closed (omega arith));
+        (c.answer_in.ensures.same ∙ told) c.stop_at.ensures.stopped (omega arith);
     published = λ first told done. tt;
     ends = search (rules, status_causes);
   };
