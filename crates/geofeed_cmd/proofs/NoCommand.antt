@@ -15,6 +15,7 @@ use Rattle.geofeed_cmd.specs.Run.Ends.{Concludes, around}
 use Rattle.geofeed_cmd.specs.Run.Lines.{stop_line}
 use Rattle.geofeed_cmd.specs.Run.Plans.{is_command}
 use Rattle.geofeed_cmd.proofs.AnswerLemmas.{comes_words}
+use Rattle.geofeed_cmd.proofs.GenEndLemmas.{no_words_generated}
 
 -- the stop line was printed, and nothing else was done
 pub concludes_words : {F O : Type 0} (f : folders.Ghosts F) (o : sinks.Ghosts O)
@@ -33,6 +34,7 @@ concludes_words f o command result folder out out' steps none words closed =
           subst (λ (s : Status). Comes s command first old new puts puts) (sym words)
           (comes_words command first old new puts puts none told closed same);
       published = λ first told done. absurd (cc);
+      generates = no_words_generated _ _ _ _ none;
       ends = record {
         words = λ is. none;
         none = λ not. inl words;
