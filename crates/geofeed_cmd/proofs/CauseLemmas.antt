@@ -35,7 +35,7 @@ use Rattle.geofeed_cmd.specs.Run.Plans.{held_job, is_command, job_of, job_plan, 
 use Rattle.geofeed_cmd.specs.Run.Plans.{lookup_plan, moves_for, plan_of, plan_on, planned, start_of}
 use Rattle.geofeed_cmd.specs.Run.Plans.{unless_unreadable}
 use Rattle.geofeed_cmd.proofs.FitLemmas.{AreFit, AreOfMove, IsOfMove, fit_at, fit_for, fit_moves}
-use Rattle.geofeed_cmd.proofs.FitLemmas.{fit_shown}
+use Rattle.geofeed_cmd.proofs.FitLemmas.{fit_generated, fit_shown}
 
 -- where a run stopped
 record StoppedAt (moves : List Move) (start : World) (move : Move) (why : Cause)
