@@ -1,19 +1,16 @@
--- No move of the generated job is blocked: what it writes is never too large either, and there are
--- numbers for all nodes.
-use Rattle.std.proofs.Common.{◌≡◌, ℕ, zero, suc, ◌+◌, ◌-◌, ◌*◌, ◌^◌, ◌<◌, ◌≤◌, ◌⊎◌, inl, inr, Bool}
-use Rattle.std.proofs.Common.{true, false, nat_le, List, [], ◌∷◌, ◌++◌, length, map, take, refl}
-use Rattle.std.proofs.Common.{sym, ap, subst, ◌∙◌, arith, lit≤, lit<, length-append}
+-- What the generated job writes is never too large, and there are numbers for all nodes.
+use Rattle.std.proofs.Common.{◌≡◌, ℕ, suc, ◌+◌, ◌-◌, ◌*◌, ◌^◌, ◌<◌, ◌≤◌, ◌⊎◌, inl, inr, Bool, true}
+use Rattle.std.proofs.Common.{false, nat_le, List, [], ◌∷◌, ◌++◌, length, map, refl, sym, ap, subst}
+use Rattle.std.proofs.Common.{◌∙◌, arith, lit≤, lit<, length-append}
 use Rattle.std.proofs.Math.Nat.{mul-le-mul_right}
 use Rattle.std.proofs.lemmas.Bool.{lt-leb}
 use Rattle.std.proofs.lemmas.List.{length-map}
-use Rattle.std.specs.Prelude.{if◌then◌else◌, Option, Some, None, codes}
+use Rattle.std.specs.Prelude.{if◌then◌else◌, None, OnOk, Result, Ok, Err, codes}
 use Rattle.geo_addr.specs.Lines.{numbered_lines}
 use Rattle.geo_addr.specs.Ranges.{range_of_block}
-use Rattle.geo_outside.specs.Files.{Told}
 use Rattle.geo_terms.specs.Cuts.{statement_ranges}
 use Rattle.geo_terms.specs.DelegationForm.{DelegationParts}
 use Rattle.geo_terms.specs.PlaceForm.{PlaceParts}
-use Rattle.geo_terms.specs.SourceForm.{DumpParts, FeedParts, StatsParts}
 use Rattle.geo_terms.specs.Sources.{InForce, delegations, entries, no_sources, override_rows}
 use Rattle.geo_terms.specs.Sources.{references}
 use Rattle.geo_terms.specs.declared.statement.Entry.{Entry}
@@ -25,11 +22,9 @@ use Rattle.source_changes.specs.Changes.{Change, SetDump, SetFeed, SetStats, aft
 use Rattle.source_changes.specs.Changes.{changes}
 use Rattle.source_changes.specs.SameStatement.{same_delegation, same_entry, same_reference}
 use Rattle.source_changes.specs.Touched.{ground_of}
-use Rattle.feed_refs.specs.Dumps.{dump_parts}
 use Rattle.feed_csv.specs.File.{accepted, entries as entries_of_file, entry_line, entry_of}
-use Rattle.feed_csv.specs.File.{entry_range, entry_said, feed as feed_parts}
+use Rattle.feed_csv.specs.File.{entry_range, entry_said}
 use Rattle.csv_lines.specs.Repeats.{fate, is_kept_by}
-use Rattle.nro_stats.specs.File.{stats as stats_parts}
 use Rattle.mmdb_data.specs.Spelling.{spelling}
 use Rattle.mmdb_file.specs.FileImage.{file_nodes, file_section, record_tree}
 use Rattle.mmdb_file.specs.PlaceValue.{place_value}
@@ -39,21 +34,10 @@ use Rattle.update_session.specs.Touch.{bound}
 use Rattle.update_session.proofs.TouchLemmas.{bound_by_statements}
 use Rattle.generated.specs.Feeds.{feed}
 use Rattle.generated.proofs.SizeLemmas.{feed_has, few_lines}
-use Rattle.job_run.specs.declared.stop.Cause.{Cause}
-use Rattle.job_run.specs.declared.stop.Cause.TheVariants.{TooLarge}
-use Rattle.job_run.specs.Acts.{Move, after, blocked, counts, does, effect, looks}
-use Rattle.job_run.specs.Course.{ended, unless, course, IsAt}
-use Rattle.job_run.specs.Moves.{moves_of}
-use Rattle.job_run.specs.Sources.{change_by, dump_change, sourced}
-use Rattle.job_run.specs.Stops.{IsSpent}
-use Rattle.job_run.specs.World.{World, file_in}
-use Rattle.generated_job.specs.Job.{dump_file, dump_step, emit_step, first_step, gen_files}
-use Rattle.generated_job.specs.Job.{gen_start, gen_steps, second_step, stats_file}
-use Rattle.generated_job.specs.Job.{stats_step}
-use Rattle.generated_job.proofs.FitLemmas.{dump_free, dump_held, dump_is, few_dump, first_counted}
-use Rattle.generated_job.proofs.FitLemmas.{first_held, first_read, second_counted, second_held}
-use Rattle.generated_job.proofs.FitLemmas.{second_read, set_free, stats_few, stats_free}
-use Rattle.generated_job.proofs.FitLemmas.{stats_held, taken}
+use Rattle.generated_job.specs.Job.{begun, first_set, second_set, stats_text, the_dump, the_feed}
+use Rattle.generated_job.specs.Job.{the_stats}
+use Rattle.generated_job.specs.Laws.{IsEmittable}
+use Rattle.generated_job.proofs.FitLemmas.{few_dump, stats_few, taken}
 use Rattle.generated_job.proofs.PlaceSizes.{place_takes}
 use Rattle.generated_job.proofs.RecordPeers.{few_peers, peers}
 use Rattle.generated_job.proofs.ShortPlaces.{entries_short, kept_few}
@@ -129,15 +113,6 @@ emit_stage w sources p n m r stage few =
     }
 
 -- ---- the sources of the generated job
-
-abbrev the_dump : DumpParts
-the_dump = dump_parts (codes "gen") dump_file.bytes
-
-abbrev the_stats : StatsParts
-the_stats = stats_parts (codes "gen") stats_file.bytes
-
-abbrev the_feed : Bool → ℕ → FeedParts
-the_feed second lines = feed_parts (codes "https://gen.example/feed.csv") (feed second lines)
 
 abbrev with_dump : InForce
 with_dump = record { dumps = the_dump ∷ []; feeds = []; stats = []; overrides = None }
@@ -219,7 +194,7 @@ short_here second lines p there =
     let text = feed second lines in
     let short = peers_short (with_feed second lines)
     (λ e at. entries_short text e (only e (entries_of_file text) at))
-    (λ d at. rows_short (codes "gen") (numbered_lines stats_file.bytes) d
+    (λ d at. rows_short (codes "gen") (numbered_lines stats_text) d
     (only d the_stats.rows at)) p there in
     let a = short.country in
     let b = short.region in
@@ -257,95 +232,40 @@ fits second lines few state same =
     ∙ lt-leb (2 ^ 32) (file_nodes (record_tree (with_feed second lines)) + 16 + length
     (file_section (record_tree (with_feed second lines)))) (small second lines few)
 
--- ---- moves that can all be made
+-- ---- where the session stands, one after another
 
--- each of these moves can be made from this world on, and there are numbers for what it makes
-abbrev AllFree : List Move → World → Type 0
-AllFree [] world = Unit {0}
-AllFree (move ∷ moves) world =
-    ((blocked move world ≡ None) × (IsSpent move world → ⊥)) × AllFree moves (after move world)
+abbrev registered : Standing
+registered = changed (SetStats the_stats) (changed (SetDump the_dump) begun)
 
-free_at : (moves : List Move) (start : World) → AllFree moves start
-    → (count : ℕ) (move : Move) (world : World) → IsAt moves start count move world
-    → (blocked move world ≡ None) × (IsSpent move world → ⊥)
-free_at [] start free count move world there = absurd (let next = there.next in cc)
-free_at (first ∷ moves) start free zero move world there =
-    let same : first ≡ move = let next = there.next in cc in
-    let now : start ≡ world = let done = there.done in cc in
-    subst (λ (m : Move). (blocked m world ≡ None) × (IsSpent m world → ⊥)) same
-    (subst (λ (w : World). (blocked first w ≡ None) × (IsSpent first w → ⊥)) now free.0)
-free_at (first ∷ moves) start free (suc count) move world there =
-    let led : course (take count moves) (after first start) ≡ ended world =
-    subst (λ (b : Option Cause).
-    unless b first start (course (take count moves) (after first start)) ≡ ended world) free.0.0
-    there.done in
-    free_at moves (after first start) free.1 count move world
-    (record { done = led; next = there.next })
-
--- ---- the worlds of the run, one after another
-
-module _ (lines : ℕ) (few : lines ≤ 1000000) (file : List ℕ) where
-  -- these sources are in force, so many grounds wait for an emit, and the emits so far made so many
-  -- nodes and numbers at most; the job's files stand apart
-  abbrev Here : InForce → (pending nodes numbered : ℕ) → World → Type 0
-  Here sources pending nodes numbered world =
-      Stage world.session sources pending nodes numbered × (world.apart ≡ gen_files lines)
-
-  -- what a move makes of them
-  dumps : (world : World) → Here no_sources 0 0 0 world
-      → Here with_dump 10 0 0 (after (does dump_step) world)
-  unfolding dump_step
-  dumps world here =
-      let change : change_by dump_step.act (file_in world (codes "gen.db"))
-      ≡ Some (SetDump the_dump) =
-      ap (change_by dump_step.act) (dump_held lines few world here.1)
-      ∙ ap dump_change (dump_is (codes "gen")) in
-      let moved : (after (does dump_step) world).session
-      ≡ changed (SetDump the_dump) world.session = ap (λ c. sourced c world.session) change in
+module _ (lines : ℕ) (few : lines ≤ 1000000) where
+  dump_stage : Stage (changed (SetDump the_dump) begun) with_dump 10 0 0
+  dump_stage =
+      let at : Stage begun no_sources 0 0 0 =
+      record { same = refl; waiting = lit≤ tt; made = lit≤ tt; counted = lit≤ tt } in
       let fresh : length (changes (SetDump the_dump) no_sources) ≤ 10 =
       omega (
         arith,
-        length-map (changed_list same_reference [] the_dump.refs)
-            (λ r. ground_of r.range),
+        length-map (changed_list same_reference [] the_dump.refs) (λ r. ground_of r.range),
         changed_few same_reference [] the_dump.refs,
         few_dump (codes "gen"),
-      ) in (
-        subst (λ (w : Standing). Stage w with_dump 10 0 0) (sym moved)
-            (set_stage (SetDump the_dump) world.session no_sources 0 0 0 10 here.0 fresh),
-        here.1,
-      )
+      ) in
+      set_stage (SetDump the_dump) begun no_sources 0 0 0 10 at fresh
 
-  counts_rows : (world : World) → Here with_dump 10 0 0 world
-      → Here with_stats 12 0 0 (after (does stats_step) world)
-  unfolding stats_step
-  counts_rows world here =
-      let change : change_by stats_step.act (file_in world (codes "gen.txt"))
-      ≡ Some (SetStats the_stats) =
-      ap (change_by stats_step.act) (stats_held lines few world here.1) in
-      let moved : (after (does stats_step) world).session
-      ≡ changed (SetStats the_stats) world.session = ap (λ c. sourced c world.session) change in
+  stats_stage : Stage registered with_stats 12 0 0
+  stats_stage =
       let fresh : length (changes (SetStats the_stats) with_dump) ≤ 2 =
       omega (
         arith,
-        length-map (changed_list same_delegation [] the_stats.rows)
-            (λ d. ground_of d.range),
+        length-map (changed_list same_delegation [] the_stats.rows) (λ d. ground_of d.range),
         changed_few same_delegation [] the_stats.rows,
         stats_few (codes "gen"),
-      ) in (
-        subst (λ (w : Standing). Stage w with_stats 12 0 0) (sym moved)
-            (set_stage (SetStats the_stats) world.session with_dump 10 0 0 2 here.0 fresh),
-        here.1,
-      )
+      ) in
+      set_stage (SetStats the_stats) (changed (SetDump the_dump) begun) with_dump 10 0 0 2
+      dump_stage fresh
 
-  sets_first : (world : World) → Here with_stats 12 0 0 world
-      → Here (with_feed false lines) 1000013 0 0 (after (does first_step) world)
-  unfolding first_step
-  sets_first world here =
+  first_stage : Stage (first_set lines) (with_feed false lines) 1000013 0 0
+  first_stage =
       let f = the_feed false lines in
-      let change : change_by first_step.act (file_in world (codes "first.csv")) ≡ Some (SetFeed f) =
-      ap (change_by first_step.act) (first_held lines few world here.1) in
-      let moved : (after (does first_step) world).session ≡ changed (SetFeed f) world.session =
-      ap (λ c. sourced c world.session) change in
       let fresh : length (changes (SetFeed f) with_stats) ≤ 1000001 =
       omega (
         arith,
@@ -353,23 +273,18 @@ module _ (lines : ℕ) (few : lines ≤ 1000000) (file : List ℕ) where
             (λ e. ground_of (range_of_block e.block)),
         changed_few same_entry [] f.entries,
         entries_count false lines few,
-      ) in (
-        subst (λ (w : Standing). Stage w (with_feed false lines) 1000013 0 0) (sym moved)
-            (set_stage (SetFeed f) world.session with_stats 12 0 0 1000001 here.0 fresh),
-        here.1,
-      )
+      ) in
+      set_stage (SetFeed f) registered with_stats 12 0 0 1000001 stats_stage fresh
 
-  sets_second : (world : World) → Here (with_feed false lines) 0 768010240 3000040 world
-      → Here (with_feed true lines) 2000002 768010240 3000040 (after (does second_step) world)
-  unfolding second_step
-  sets_second world here =
+  wrote_stage : Stage (emitted (first_set lines)) (with_feed false lines) 0 768010240 3000040
+  wrote_stage =
+      emit_stage (first_set lines) (with_feed false lines) 1000013 0 0 1000013 first_stage
+      (few_ranges false lines few)
+
+  second_stage : Stage (second_set lines) (with_feed true lines) 2000002 768010240 3000040
+  second_stage =
       let f = the_feed true lines in
       let old = the_feed false lines in
-      let change : change_by second_step.act (file_in world (codes "second.csv"))
-      ≡ Some (SetFeed f) =
-      ap (change_by second_step.act) (second_held lines few world here.1) in
-      let moved : (after (does second_step) world).session ≡ changed (SetFeed f) world.session =
-      ap (λ c. sourced c world.session) change in
       let fresh : length (changes (SetFeed f) (with_feed false lines)) ≤ 2000002 =
       omega (
         arith,
@@ -378,97 +293,40 @@ module _ (lines : ℕ) (few : lines ≤ 1000000) (file : List ℕ) where
         changed_few same_entry old.entries f.entries,
         entries_count false lines few,
         entries_count true lines few,
-      ) in (
-        subst (λ (w : Standing). Stage w (with_feed true lines) 2000002 768010240 3000040)
-            (sym moved)
-            (set_stage (SetFeed f) world.session (with_feed false lines) 0 768010240 3000040 2000002
-            here.0 fresh),
-        here.1,
-      )
+      ) in
+      set_stage (SetFeed f) (emitted (first_set lines)) (with_feed false lines) 0 768010240 3000040
+      2000002 wrote_stage fresh
 
-  writes : (second : Bool) (line p n m : ℕ) (world : World)
-      → Here (with_feed second lines) p n m world
-      → Here (with_feed second lines) 0 (n + 256 * (p + 2 * 1000013 + 1))
-      (m + (p + 2 * 1000013 + 1)) (after (does (emit_step line file)) world)
-  writes second line p n m world here = (
-    emit_stage world.session (with_feed second lines) p n m 1000013 here.0
-        (few_ranges second lines few),
-    here.1,
-  )
+  too_many : (nodes numbered : ℕ) → nodes < 2 ^ 32 - 1 → numbered < 2 ^ 32 - 1 → (w : Standing)
+      → w.nodes ≤ nodes → w.numbered ≤ numbered
+      → (2 ^ 32 - 1 ≤ w.nodes) ⊎ (2 ^ 32 - 1 ≤ w.numbered) → ⊥
+  too_many nodes numbered few_nodes few_numbers w made counted (inl many) = omega arith
+  too_many nodes numbered few_nodes few_numbers w made counted (inr many) = omega arith
 
-  emit_free : (second : Bool) (line : ℕ) (world : World)
-      → world.session.state.sources ≡ with_feed second lines
-      → blocked (does (emit_step line file)) world ≡ None
-  emit_free second line world same =
-      ap (λ (b : Bool). if b then Some TooLarge else None)
-      (fits second lines few world.session.state same)
-
-  -- where a session stands so, these moves can all be made
-  record FreeFrom (sources : InForce) (pending nodes numbered : ℕ)
-      (moves : List Move) : Type 0 where
-    free : (world : World) → Here sources pending nodes numbered world → AllFree moves world
-
-  -- and so they can behind a move that can be made and leads there
-  on : (before after_it : InForce) (p n m q k l : ℕ) (move : Move) (moves : List Move)
-      → k < 2 ^ 32 - 1 → l < 2 ^ 32 - 1
-      → ((world : World) → Here before p n m world → blocked move world ≡ None)
-      → ((world : World) → Here before p n m world → Here after_it q k l (after move world))
-      → FreeFrom after_it q k l moves → FreeFrom before p n m (move ∷ moves)
-  on before after_it p n m q k l move moves few_nodes few_numbers free leads later = record {
-    free = λ world here.
-        let next = leads world here in (
-          (free world here, λ spent. go world next.0.made next.0.counted spent),
-          later.free (after move world) next,
-        );
+  first_emits : IsEmittable (first_set lines)
+  first_emits = record {
+    fits = fits false lines few (first_set lines).state first_stage.same;
+    numbered = λ many.
+        too_many 768010240 3000040 (lit< tt) (lit< tt) (emitted (first_set lines)) wrote_stage.made
+        wrote_stage.counted many;
   }
-    where
-      many : (world : World) → (after move world).session.nodes ≤ k
-          → (after move world).session.numbered ≤ l
-          → (2 ^ 32 - 1 ≤ (effect move world).session.nodes)
-          ⊎ (2 ^ 32 - 1 ≤ (effect move world).session.numbered) → ⊥
-      many world made counted (inl nodes) = omega arith
-      many world made counted (inr numbers) = omega arith
 
-      go : (world : World) → (after move world).session.nodes ≤ k
-          → (after move world).session.numbered ≤ l → IsSpent move world → ⊥
-      go world made counted spent = many world made counted spent.many
+  second_emits : IsEmittable (second_set lines)
+  second_emits =
+      let stage = emit_stage (second_set lines) (with_feed true lines) 2000002 768010240 3000040
+      1000013 second_stage (few_ranges true lines few) in
+      record {
+        fits = fits true lines few (second_set lines).state second_stage.same;
+        numbered = λ many.
+            too_many 1792017664 7000069 (lit< tt) (lit< tt) (emitted (second_set lines)) stage.made
+            stage.counted many;
+      }
 
-  all_free : FreeFrom no_sources 0 0 0 (moves_of (gen_steps file))
-  unfolding gen_steps dump_step stats_step first_step second_step
-  all_free =
-      on no_sources with_dump 0 0 0 10 0 0 (does dump_step) _ (lit< tt) (lit< tt)
-      (λ world here. dump_free lines few world here.1) dumps
-      (on with_dump with_stats 10 0 0 12 0 0 (does stats_step) _ (lit< tt) (lit< tt)
-      (λ world here. stats_free lines few world here.1) counts_rows
-      (on with_stats with_stats 12 0 0 12 0 0 (looks first_step) _ (lit< tt) (lit< tt)
-      (λ world here. first_read lines few world here.1) (λ world here. here)
-      (on with_stats with_stats 12 0 0 12 0 0 (counts first_step) _ (lit< tt) (lit< tt)
-      (λ world here. first_counted lines few world here.1) (λ world here. here)
-      (on with_stats (with_feed false lines) 12 0 0 1000013 0 0 (does first_step) _
-      (lit< tt) (lit< tt) (λ world here. set_free lines few world here.1 false) sets_first
-      (on (with_feed false lines) (with_feed false lines) 1000013 0 0 0 768010240 3000040
-      (does (emit_step 5 file)) _ (lit< tt) (lit< tt)
-      (λ world here. emit_free false 5 world here.0.same) (writes false 5 1000013 0 0)
-      (on (with_feed false lines) (with_feed false lines) 0 768010240 3000040 0 768010240 3000040
-      (looks second_step) _ (lit< tt) (lit< tt)
-      (λ world here. second_read lines few world here.1) (λ world here. here)
-      (on (with_feed false lines) (with_feed false lines) 0 768010240 3000040 0 768010240 3000040
-      (counts second_step) _ (lit< tt) (lit< tt)
-      (λ world here. second_counted lines few world here.1) (λ world here. here)
-      (on (with_feed false lines) (with_feed true lines) 0 768010240 3000040 2000002 768010240
-      3000040 (does second_step) _ (lit< tt) (lit< tt)
-      (λ world here. set_free lines few world here.1 true) sets_second
-      (on (with_feed true lines) (with_feed true lines) 2000002 768010240 3000040 0 1792017664
-      7000069 (does (emit_step 7 file)) _ (lit< tt) (lit< tt)
-      (λ world here. emit_free true 7 world here.0.same) (writes true 7 2000002 768010240 3000040)
-      (record { free = λ world here. tt }))))))))))
+  pub emits_freely : IsEmittable (first_set lines) × IsEmittable (second_set lines)
+  emits_freely = (first_emits, second_emits)
 
-  begun : (first : Told) → Here no_sources 0 0 0 (gen_start lines first)
-  begun first = (record { same = refl; waiting = lit≤ tt; made = lit≤ tt; counted = lit≤ tt }, refl)
-
-  pub runs_freely : (first : Told) (count : ℕ) (move : Move) (world : World)
-      → IsAt (moves_of (gen_steps file)) (gen_start lines first) count move world
-      → (blocked move world ≡ None) × (IsSpent move world → ⊥)
-  runs_freely first count move world there =
-      free_at (moves_of (gen_steps file)) (gen_start lines first)
-      (all_free.free (gen_start lines first) (begun first)) count move world there
+-- what holds where a call ends well
+pub for_ok : {X E : Type 0} (result : Result X E) (P Q : Type 0) → OnOk result P → (P → Q)
+    → OnOk result Q
+for_ok (Ok done) P Q holds give = give holds
+for_ok (Err why) P Q holds give = tt

@@ -7,5 +7,4 @@ pub mod RecordPeers
 pub mod ShortPlaces
 pub mod ShortRows
 pub mod SpotSizes
-pub mod ThereLemmas
 pub mod TreeSizes

@@ -1,66 +1,47 @@
--- The generated job of the command `gen N FILE`, over files that stand apart from the folder.
-use Rattle.std.specs.Prelude.{ℕ, true, false, List, [], ◌∷◌, codes}
-use Rattle.geo_outside.specs.Files.{Told}
-use Rattle.update_session.specs.Standing.{begun_standing}
-use Rattle.job_lines.specs.declared.act.Act.TheVariants.{Rpsl, Stats, Feed, Emit}
-use Rattle.job_lines.specs.declared.job.Step.{Step}
-use Rattle.job_lines.specs.Job.{default_name}
-use Rattle.job_run.specs.declared.apart.Apart.{Apart}
-use Rattle.job_run.specs.World.{World}
+-- The generated job of the command `gen N FILE`: its sources, which stand in no file.
+use Rattle.std.specs.Prelude.{ℕ, Bool, true, false, List, codes}
+use Rattle.geo_terms.specs.SourceForm.{DumpParts, FeedParts, StatsParts}
+use Rattle.feed_refs.specs.Dumps.{dump_parts}
+use Rattle.feed_csv.specs.File.{feed as feed_parts}
+use Rattle.nro_stats.specs.File.{stats as stats_parts}
+use Rattle.source_changes.specs.Changes.{SetDump, SetFeed, SetStats}
+use Rattle.update_session.specs.Standing.{Standing, begun_standing, changed, emitted}
 use Rattle.generated.specs.Feeds.{feed}
 
--- the files that are read: one object that refers to the feed, one delegation of its range, and two
--- feeds, of which the second is the first but for the country of its first line
-unfoldable pub dump_file : Apart
-dump_file = record {
-  name = codes "gen.db";
-  bytes = codes "inetnum: 10.0.0.0 - 10.255.255.255\ngeofeed: https://gen.example/feed.csv\n";
-}
+-- one object that refers to the feed, one delegation of its range, and two feeds, of which the
+-- second is the first but for the country of its first line
+unfoldable pub dump_text : List ℕ
+dump_text =
+    codes "inetnum: 10.0.0.0 - 10.255.255.255\ngeofeed: https://gen.example/feed.csv\n"
 
-unfoldable pub stats_file : Apart
-stats_file = record {
-  name = codes "gen.txt";
-  bytes = codes "gen|US|ipv4|10.0.0.0|16777216|20200101|allocated\n";
-}
+unfoldable pub stats_text : List ℕ
+stats_text = codes "gen|US|ipv4|10.0.0.0|16777216|20200101|allocated\n"
 
-unfoldable pub first_file : (lines : ℕ) → Apart
-first_file lines = record { name = codes "first.csv"; bytes = feed false lines }
+abbrev pub the_dump : DumpParts
+the_dump = dump_parts (codes "gen") dump_text
 
-unfoldable pub second_file : (lines : ℕ) → Apart
-second_file lines = record { name = codes "second.csv"; bytes = feed true lines }
+abbrev pub the_stats : StatsParts
+the_stats = stats_parts (codes "gen") stats_text
 
-unfoldable pub gen_files : (lines : ℕ) → List Apart
-gen_files lines = dump_file ∷ stats_file ∷ first_file lines ∷ second_file lines ∷ []
+abbrev pub the_feed : (second : Bool) → (lines : ℕ) → FeedParts
+the_feed second lines = feed_parts (codes "https://gen.example/feed.csv") (feed second lines)
 
--- its lines
-unfoldable pub dump_step : Step
-dump_step = record { line = 2; act = Rpsl (codes "gen") (codes "gen.db") }
+-- the build epoch and the database type of its files
+abbrev pub gen_epoch : ℕ
+gen_epoch = 1700000000
 
-unfoldable pub stats_step : Step
-stats_step = record { line = 3; act = Stats (codes "gen") (codes "gen.txt") }
+abbrev pub gen_name : List ℕ
+gen_name = codes "Geofeed-City"
 
-unfoldable pub first_step : Step
-first_step =
-    record { line = 4; act = Feed (codes "https://gen.example/feed.csv") (codes "first.csv") }
+-- where the session stands before anything was set; before the file is written, with the first
+-- feed; and before it is written again, with the second one
+abbrev pub begun : Standing
+begun = begun_standing gen_epoch gen_name
 
-unfoldable pub second_step : Step
-second_step =
-    record { line = 6; act = Feed (codes "https://gen.example/feed.csv") (codes "second.csv") }
+abbrev pub first_set : (lines : ℕ) → Standing
+first_set lines =
+    changed (SetFeed (the_feed false lines)) (changed (SetStats the_stats)
+    (changed (SetDump the_dump) begun))
 
-abbrev pub emit_step : (line : ℕ) → (file : List ℕ) → Step
-emit_step line file = record { line = line; act = Emit file }
-
--- the dump, the statistics and the first feed are set, and the file is written; the second feed is
--- set instead of the first, and the file is written again
-unfoldable pub gen_steps : (file : List ℕ) → List Step
-gen_steps file =
-    dump_step ∷ stats_step ∷ first_step ∷ emit_step 5 file ∷ second_step ∷ emit_step 7 file ∷ []
-
--- the folder's files are there too, but none is read
-abbrev pub gen_start : (lines : ℕ) → Told → World
-gen_start lines first = record {
-  told = first;
-  apart = gen_files lines;
-  session = begun_standing 1700000000 default_name;
-  text = [];
-}
+abbrev pub second_set : (lines : ℕ) → Standing
+second_set lines = changed (SetFeed (the_feed true lines)) (emitted (first_set lines))

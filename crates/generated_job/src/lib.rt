@@ -1,10 +1,8 @@
-//! The generated job of `gen N FILE`: its files, its steps and its session, and that nothing in it
-//! is ever in the way.
+//! The generated job of `gen N FILE`: its sources, set in its session, and that its file can
+//! always be made.
 #![tactic(auto)]
 
-mod files;
 pub mod laws;
-mod steps;
+mod sources;
 
-pub use files::gen_files;
-pub use steps::{gen_session, gen_steps};
+pub use sources::{gen_session, set_first, set_second};

@@ -17,7 +17,7 @@ use Rattle.job_run.specs.declared.stop.Cause.{Cause}
 use Rattle.job_run.specs.declared.stop.Cause.TheVariants as causes
 use Rattle.job_run.specs.declared.stop.Stop.{Stop}
 use Rattle.job_run.specs.declared.stop.Stop.TheVariants as stops
-use Rattle.job_run.specs.Acts.{Move, looks, counts, does, shows, effect, line_of, step_of}
+use Rattle.job_run.specs.Acts.{Move, looks, counts, does, sets, shows, effect, line_of, step_of}
 use Rattle.job_run.specs.Course.{stopped, IsAt}
 use Rattle.job_run.specs.Seen.{Seen, seen}
 use Rattle.job_run.specs.Sources.{file_named}
@@ -244,6 +244,7 @@ move-line (counts other) step its =
 move-line (does other) step its =
     let same : other ≡ step = cc in
     ap (λ (s : Step). s.line) (sym same)
+move-line (sets change) step its = absurd (cc)
 move-line (shows last) step its = absurd (cc)
 
 -- one of the steps of a job was not done, and a line was printed behind

@@ -22,7 +22,7 @@ use Rattle.job_run.specs.declared.scope.Scope.TheVariants.{Whole}
 use Rattle.job_run.specs.World.{World, printing}
 use Rattle.job_run.proofs.ActLemmas.{readable, unreadable-long, unreadable-none}
 use Rattle.job_run.proofs.CourseLemmas.{course_blocked, course_free}
-use Rattle.generated_job.specs.Job.{gen_start, gen_steps}
+use Rattle.geofeed_cmd.specs.Commands.Generate.{gen_moves, gen_start}
 use Rattle.geofeed_cmd.specs.declared.status.Status.{Status}
 use Rattle.geofeed_cmd.specs.declared.status.Status.TheVariants as statuses
 use Rattle.geofeed_cmd.specs.Run.Answers.{Prevails, IsAnswer}
@@ -35,7 +35,7 @@ use Rattle.geofeed_cmd.specs.Run.Plans.{held_job, is_command, job_of, job_plan, 
 use Rattle.geofeed_cmd.specs.Run.Plans.{lookup_plan, moves_for, plan_of, plan_on, planned, start_of}
 use Rattle.geofeed_cmd.specs.Run.Plans.{unless_unreadable}
 use Rattle.geofeed_cmd.proofs.FitLemmas.{AreFit, AreOfMove, IsOfMove, fit_at, fit_for, fit_moves}
-use Rattle.geofeed_cmd.proofs.FitLemmas.{fit_shown}
+use Rattle.geofeed_cmd.proofs.FitLemmas.{fit_generated, fit_shown}
 
 -- where a run stopped
 record StoppedAt (moves : List Move) (start : World) (move : Move) (why : Cause)
@@ -258,8 +258,8 @@ ending_caused (Some (lookup name address)) first =
 ending_caused (Some (explain name address)) first =
     on-caused (explain name address) first name refl refl refl
 ending_caused (Some (gen lines file)) first =
-    of-plan (Some (gen lines file)) first (moves_of (gen_steps file)) (gen_start lines first)
-    (fit_moves Whole [] (gen_steps file)) refl
+    of-plan (Some (gen lines file)) first (gen_moves lines file) (gen_start first)
+    (fit_generated lines file) refl
 ending_caused (Some (publish name block file)) first =
     on-caused (publish name block file) first name refl refl refl
 ending_caused (Some (check name url)) first = on-caused (check name url) first name refl refl refl

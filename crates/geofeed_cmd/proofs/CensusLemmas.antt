@@ -23,7 +23,7 @@ abbrev pub counts_in : State → List ℕ
 counts_in state = count_lines (census (country_by state.sources))
 
 module _ (stays : StandingStays) (world : World) (session : Held) (old new : Seen)
-    (here : IsIn [] old.told session world) (same : new.told ≡ old.told) where
+    (here : IsIn old.told session world) (same : new.told ≡ old.told) where
   abbrev pub move : Move
   move = shows counting
 
@@ -67,7 +67,6 @@ module _ (stays : StandingStays) (world : World) (session : Held) (old new : See
       free = refl;
       now = record {
         tells = same ∙ here.tells;
-        aside = refl;
         stands = stays.emits session session' world.session here.stands grown done;
       };
       printed = subst (Prints old.written new.written) text_here printed;

@@ -45,7 +45,7 @@ unpaid url world steps = let same : steps + world.session.spent ≤ steps + worl
     omega arith in same
 
 module _ (url : List ℕ) (world : World) (session : Held) (old new : Seen)
-    (here : IsIn [] old.told session world) (same : new.told ≡ old.told) where
+    (here : IsIn old.told session world) (same : new.told ≡ old.told) where
   abbrev pub move : Move
   move = shows (checking url)
 
@@ -83,7 +83,7 @@ module _ (url : List ℕ) (world : World) (session : Held) (old new : Seen)
     pub does_check : Prints old.written new.written text → Does move world session old new
     does_check printed = record {
       free = ap no_feed (feed_here (Some f) found);
-      now = record { tells = kept; aside = refl; stands = here.stands };
+      now = record { tells = kept; stands = here.stands };
       printed = subst (Prints old.written new.written) text_here printed;
       published = tt;
     }

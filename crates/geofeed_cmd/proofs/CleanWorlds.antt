@@ -5,7 +5,7 @@ use Rattle.std.proofs.Common.{subst, Less, Equal, Greater}
 use Rattle.std.specs.List.{AllByRecursion as Each}
 use Rattle.std.specs.FinMap as files
 use Rattle.std.specs.Ordering.{match_ordering}
-use Rattle.std.specs.Prelude.{Result, Ok, Err, slice_get}
+use Rattle.std.specs.Prelude.{Result, Ok, Err, codes, slice_get}
 use Rattle.geo_outside.specs.Files.{Told}
 use Rattle.geo_terms.specs.PlaceForm.{same_text}
 use Rattle.geo_terms.specs.Precedence.{text_cmp}
@@ -19,9 +19,9 @@ use Rattle.source_changes.specs.Changes.{Change, SetDump, SetFeed, SetStats, Set
 use Rattle.source_changes.specs.Changes.{DropFeed, DropStats, DropOverrides, after as after_change}
 use Rattle.update_session.specs.Standing.{Standing, StandingMark, at_mark, begun_standing}
 use Rattle.update_session.specs.Standing.{mark_named, marked, went_back}
+use Rattle.generated.specs.Feeds.{feed}
 use Rattle.file_lookup.specs.Lookup.{answer}
 use Rattle.file_lookup.specs.declared.lookup.LookupFault.{LookupFault}
-use Rattle.job_lines.specs.Job.{default_name}
 use Rattle.job_lines.specs.Commands.{Command, build, lookup, explain, gen, publish, check, census}
 use Rattle.job_lines.specs.declared.act.Act.{Act}
 use Rattle.job_lines.specs.declared.act.Act.TheVariants as acts
@@ -29,7 +29,7 @@ use Rattle.job_lines.specs.declared.act.Gone.{Gone}
 use Rattle.job_lines.specs.declared.act.Gone.TheVariants as gone
 use Rattle.job_lines.specs.declared.job.Job.{Job}
 use Rattle.job_lines.specs.declared.job.Step.{Step}
-use Rattle.job_run.specs.Acts.{Move, looks, counts, does, shows, act_effect, after, blocked}
+use Rattle.job_run.specs.Acts.{Move, looks, counts, does, sets, shows, act_effect, after, blocked}
 use Rattle.job_run.specs.Course.{course, ended, unless}
 use Rattle.job_run.specs.Moves.{alone, moves_by, moves_from, moves_of, most_together, sets_feed}
 use Rattle.job_run.specs.Moves.{source_moves, takes, together}
@@ -39,7 +39,7 @@ use Rattle.job_run.specs.World.{World, file_in}
 use Rattle.job_run.specs.declared.scope.Scope.{Scope}
 use Rattle.job_run.specs.declared.scope.Scope.TheVariants.{Sources, Whole}
 use Rattle.job_run.specs.declared.stop.Cause.{Cause}
-use Rattle.generated_job.specs.Job.{gen_steps}
+use Rattle.generated_job.specs.Job.{gen_epoch, gen_name, stats_text}
 use Rattle.published.specs.CleanSources.{AreCleanSources}
 use Rattle.published.proofs.CleanFeeds.{feed_is_clean}
 use Rattle.published.proofs.CleanRows.{overrides_are_clean}
@@ -48,6 +48,7 @@ use Rattle.published.proofs.EachLemmas.{IfAny, each_filter}
 use Rattle.geofeed_cmd.specs.Commands.Census.{counting}
 use Rattle.geofeed_cmd.specs.Commands.Check.{checking}
 use Rattle.geofeed_cmd.specs.Commands.Explain.{explaining}
+use Rattle.geofeed_cmd.specs.Commands.Generate.{gen_moves}
 use Rattle.geofeed_cmd.specs.Commands.Publish.{publishing}
 use Rattle.geofeed_cmd.specs.Run.CleanWorlds.{SourcesAreClean}
 use Rattle.geofeed_cmd.specs.Run.Plans.{Plan, Reaches, answer_plan, answered_in, held_job, job_plan}
@@ -218,11 +219,12 @@ act_clean act world h = by act
     by (acts.Back name) = back_clean name world.session h
     by acts.Compact = record { sources = h.sources; marks = h.marks }
 
--- a move of a line, and not the last one of a command
+-- a move of a line, or one that sets a source that is clean, and not the last one of a command
 abbrev IsOfLine : Move → Type 0
 IsOfLine (looks step) = Unit {0}
 IsOfLine (counts step) = Unit {0}
 IsOfLine (does step) = Unit {0}
+IsOfLine (sets change) = IsClean change
 IsOfLine (shows last) = ⊥
 
 move_clean : (move : Move) (world : World) → IsOfLine move → IsCleanAtAll world.session
@@ -230,6 +232,7 @@ move_clean : (move : Move) (world : World) → IsOfLine move → IsCleanAtAll wo
 move_clean (looks step) world is h = h
 move_clean (counts step) world is h = h
 move_clean (does step) world is h = act_clean step.act world h
+move_clean (sets change) world is h = sourced_clean (Some change) world.session is h
 move_clean (shows last) world is h = absurd is
 
 course_clean : (moves : List Move) (world last : World) → Each IsOfLine moves
@@ -330,6 +333,11 @@ of_job steps = all_of_lines (moves_of steps) (of_moves Whole [] steps)
 of_sources : (steps : List Step) (last : Move) → AreOfLines (source_moves steps ++ last ∷ [])
 of_sources steps last = but_the_last (source_moves steps) last (of_moves Sources [] steps)
 
+of_generated : (lines : ℕ) (file : List ℕ) → AreOfLines (gen_moves lines file)
+unfolding gen_moves
+of_generated lines file =
+    (tt, (stats_are_clean (codes "gen") stats_text, (feed_is_clean (feed false lines), (tt, (feed_is_clean (feed true lines), tt)))))
+
 job_clean : (known : Command) → ((steps : List Step) → AreOfLines (moves_for known steps))
     → (first : Told) (name : List ℕ) (read : Result Job Cause)
     → IsCleanPlan (job_plan known first name read)
@@ -363,7 +371,7 @@ plan_clean first (Some (explain name address)) =
     first name
     (held_job (files.get first.held name))
 plan_clean first (Some (gen lines file)) =
-    (of_job (gen_steps file), begun_clean 1700000000 default_name)
+    (of_generated lines file, begun_clean gen_epoch gen_name)
 plan_clean first (Some (publish name block file)) =
     job_clean (publish name block file)
     (λ steps. of_sources steps (shows (publishing block file))) first name

@@ -22,7 +22,7 @@ use Rattle.job_run.proofs.ActLemmas.{prints_none}
 use Rattle.geofeed_cmd.specs.Commands.Publish.{publishing}
 
 module _ (stays : StandingStays) (world : World) (block : Prefix) (name : List â„•) (session : Held)
-    (old new : Seen) (here : IsIn [] old.told session world) where
+    (old new : Seen) (here : IsIn old.told session world) where
   abbrev pub move : Move
   move = shows (publishing block name)
 
@@ -87,7 +87,6 @@ module _ (stays : StandingStays) (world : World) (block : Prefix) (name : List â
       free = refl;
       now = record {
         tells = put_is new.told put;
-        aside = refl;
         stands = stays.emits session session' world.session here.stands grown done;
       };
       printed = subst (Prints old.written new.written) line_here printed;

@@ -28,6 +28,7 @@ use Rattle.job_run.specs.Moves.{alone, most_together, moves_from, sets_feed, tak
 use Rattle.job_run.specs.Sources.{crowded, entries_of, file_named, is_there, no_source, rows_of}
 use Rattle.job_run.specs.Sources.{settings_of, uncounted, unreadable, unusable}
 use Rattle.job_run.specs.World.{World, file_in, printing}
+use Rattle.geofeed_cmd.specs.Commands.Generate.{gen_moves}
 use Rattle.geofeed_cmd.specs.Commands.Publish.{publishing}
 use Rattle.geofeed_cmd.specs.Commands.Census.{counting as census_of}
 use Rattle.geofeed_cmd.specs.Commands.Check.{checking, no_feed}
@@ -175,6 +176,12 @@ fit_moves scope group (step ∷ steps) =
 -- the one move that shows a text
 pub fit_shown : (text : List ℕ) → AreFit (shows (printing text) ∷ [])
 fit_shown text = (λ world. tt, tt)
+
+-- the moves of the generated job
+pub fit_generated : (lines : ℕ) (file : List ℕ) → AreFit (gen_moves lines file)
+unfolding gen_moves
+fit_generated lines file =
+    ((λ world. tt), ((λ world. tt), ((λ world. tt), ((λ world. acting (acts.Emit file) world), ((λ world. tt), ((λ world. acting (acts.Emit file) world), tt))))))
 
 -- the feed to be checked is there, or is not
 checked : (found : Option FeedParts) → AreOfMove (no_feed found)

@@ -49,17 +49,17 @@ at_last moves last start world done = record {
   next = slice_get_last moves last;
 }
 
-prints_more : (old mid new : Option (List ℕ)) (text more : List ℕ)
+pub prints_more : (old mid new : Option (List ℕ)) (text more : List ℕ)
     → Prints old mid text → Prints mid new more → Prints old new (text ++ more)
 prints_more old mid new text more first then before was =
     then (before ++ text) (first before was) ∙ ap Some (append_assoc before text more)
 
-prints_still : (old mid new : Option (List ℕ)) (text : List ℕ)
+pub prints_still : (old mid new : Option (List ℕ)) (text : List ℕ)
     → Prints old mid text → Prints mid new [] → Prints old new text
 prints_still old mid new text first then before was =
     then (before ++ text) (first before was) ∙ ap Some (append-nil (before ++ text))
 
-tail_more : (why : Stop) (old mid new : Option (List ℕ)) (text part : List ℕ)
+pub tail_more : (why : Stop) (old mid new : Option (List ℕ)) (text part : List ℕ)
     → Prints old mid text → Tail why [] part mid new → Tail why text part old new
 tail_more (stops.Blocked cause) old mid new text part first tail =
     prints_still old mid new text first tail
@@ -160,14 +160,14 @@ module _ (command : Option Command) (first : Told) (moves : List Move) (last : M
 
 -- a last move that only prints
 module _ (text : World → List ℕ) (world : World) (session : Held) (old new : Seen)
-    (here : IsIn [] old.told session world) (same : new.told ≡ old.told) where
+    (here : IsIn old.told session world) (same : new.told ≡ old.told) where
   abbrev shown : Move
   shown = shows (λ w. printing (text w) w)
 
   pub does_shown : Prints old.written new.written (text world) → Does shown world session old new
   does_shown printed = record {
     free = refl;
-    now = record { tells = same ∙ here.tells; aside = refl; stands = here.stands };
+    now = record { tells = same ∙ here.tells; stands = here.stands };
     printed = printed;
     published = tt;
   }

@@ -9,6 +9,7 @@ pub mod FeedLemmas
 pub mod FeedMoves
 pub mod FitLemmas
 pub mod GenEndLemmas
+pub mod GenFreeLemmas
 pub mod HeadlineLemmas
 pub mod LastCommands
 pub mod LastLemmas
@@ -18,4 +19,3 @@ pub mod NoCommand
 pub mod PiecesLemmas
 pub mod StatusLemmas
 pub mod ValueLemmas
-pub mod WordLemmas

@@ -15,6 +15,7 @@ use Rattle.geofeed_cmd.specs.Run.Lines.{status_of}
 use Rattle.geofeed_cmd.specs.Run.Plans.{is_command}
 use Rattle.geofeed_cmd.specs.Run.Stopped.{IsStopped}
 use Rattle.geofeed_cmd.proofs.AnswerLemmas.{comes_words}
+use Rattle.geofeed_cmd.proofs.GenEndLemmas.{no_words_generated}
 
 -- the answer is that the words are no command, or that memory ran out
 words-or-memory : (result : Status) (old new : Option (List ℕ)) (faults faults_now : ℕ)
@@ -55,6 +56,7 @@ concludes_words f o command result folder out out' steps none closed =
           comes_words command first result old new puts puts none told closed same;
       published = λ first told done.
           absurd (no-other result statuses.Done its (λ e. cc) (λ e. cc) done);
+      generates = no_words_generated _ _ _ _ none;
       ends = record {
         words = λ is. none;
         none = λ not. its;

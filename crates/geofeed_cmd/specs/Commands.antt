@@ -2,5 +2,6 @@
 pub mod Census
 pub mod Check
 pub mod Explain
+pub mod Generate
 pub mod Last
 pub mod Publish

@@ -6,6 +6,7 @@ pub mod Closes
 pub mod Ending
 pub mod Ends
 pub mod Feeds
+pub mod Generated
 pub mod Lines
 pub mod LookupEnds
 pub mod Pieces

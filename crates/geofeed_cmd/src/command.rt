@@ -14,6 +14,7 @@ ghost use Rattle.job_run.specs.World.{World};
 ghost use Rattle.geofeed_cmd.specs.Run.Answers.{Comes, EndsGenerated, IsAnswer, IsDone, Prevails};
 ghost use Rattle.geofeed_cmd.specs.Run.Answers.{SpendsAll};
 ghost use Rattle.geofeed_cmd.specs.Run.Causes.{Causes, IsFree};
+ghost use Rattle.geofeed_cmd.specs.Run.Ending.{ending};
 ghost use Rattle.geofeed_cmd.specs.Run.Ends.{Concludes, around};
 ghost use Rattle.geofeed_cmd.specs.Run.Feeds.{PublishesFeed};
 ghost use Rattle.geofeed_cmd.specs.Run.Plans.{Reaches, is_command, puts_files, reads_folder};
@@ -107,11 +108,14 @@ pub fn run<R: Threads + Sync, F: Folder, O: Sink, G: Gate, L: Ledger>(
         → ¬ Rose (O.faults out.old) (O.faults out.new)
         → (result ≡ Status.Done) ⊎ (result ≡ Status.Memory) }
 
-    // `gen` reads no file of the folder, and its own are there and within their limits.
-    ensures generated { (first : Told) (lines : ℕ) (file : List ℕ) → F.told folder.old ≡ Some first
+    // These stand whatever the folder and the sink tell. `gen` reads no file, and its sources are
+    // within their limits; it takes no more steps than its job may take over any files.
+    ensures generated { (lines : ℕ) (file : List ℕ)
         → command_of (map string_bytes words.now) ≡ Some (gen lines file) → EndsGenerated result }
-
-    // These stand whatever the folder and the sink tell.
+    ensures bounded { (lines : ℕ) (file : List ℕ) (any : Told)
+        → command_of (map string_bytes words.now) ≡ Some (gen lines file)
+        → steps.new
+        ≤ steps.old + (ending any (command_of (map string_bytes words.now))).spent }
     ensures words { result ≡ Status.Words
         → is_command (command_of (map string_bytes words.now)) ≡ false }
     ensures none { is_command (command_of (map string_bytes words.now)) ≡ false

@@ -142,15 +142,15 @@ fn make_last<R: Threads + Sync, F: Folder, O: Sink, G: Gate, L: Ledger>(
     journal: &mut Journal,
 ) -> Result<(), Stop>
     requires { HasFeed last.now }
-    ensures done { (world : World) → IsIn [] (F.told folder.old) session.old world
+    ensures done { (world : World) → IsIn (F.told folder.old) session.old world
         → OnOk result (Does (last_move last.now) world session.new
         (seen (F.told folder.old) (O.written out.old) (O.faults out.old) steps.old)
         (seen (F.told folder.new) (O.written out.new) (O.faults out.new) steps.new)) }
-    ensures failed { (world : World) → IsIn [] (F.told folder.old) session.old world
+    ensures failed { (world : World) → IsIn (F.told folder.old) session.old world
         → IfErr result (λ why. Fails why (last_move last.now) world []
         (seen (F.told folder.old) (O.written out.old) (O.faults out.old) steps.old)
         (seen (F.told folder.new) (O.written out.new) (O.faults out.new) steps.new)) }
-    ensures paid { (world : World) → IsIn [] (F.told folder.old) session.old world
+    ensures paid { (world : World) → IsIn (F.told folder.old) session.old world
         → IsPaid (last_effect last.now world) world steps.old steps.new }
     ensures leaves { (then : Told) → F.told folder.old ≡ Some then
         → AreCleanSources session.old.state.sources

@@ -1,6 +1,7 @@
 //! Laws over the definitions of commands alone, as functions that do nothing:
 //! what each ensures is the law.
 ghost use Rattle.geofeed_cmd.specs.Run.CleanWorlds.{SourcesAreClean};
+ghost use Rattle.geofeed_cmd.specs.Run.Generated.{RunsFreely};
 ghost use Rattle.geofeed_cmd.specs.Run.LookupEnds.{LookupEndsByCases};
 ghost use Rattle.geofeed_cmd.specs.Run.Pieces.{PiecesChangeNothing};
 
@@ -24,4 +25,10 @@ pub fn pieces_change_nothing()
 /// in a feed.
 pub fn sources_are_clean()
     ensures { SourcesAreClean }
+{}
+
+/// No move of a generated job is blocked, and there are numbers for all nodes and places that its
+/// emits make.
+pub fn generated_job_runs_freely()
+    ensures { RunsFreely }
 {}

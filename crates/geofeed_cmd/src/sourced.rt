@@ -95,7 +95,6 @@ pub(crate) fn sources_of<R: Threads + Sync, F: Folder, O: Sink, G: Gate, L: Ledg
     };
     match do_steps(
         forks,
-        &[],
         Scope::Sources,
         list,
         &mut session,

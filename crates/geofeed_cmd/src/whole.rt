@@ -2,7 +2,7 @@
 ghost use Rattle.std.specs.Prelude.{◌≡◌, ◌⊎◌, ◌≤◌, ◌≢◌, ◌+◌, ℕ, [], Option, Some};
 ghost use Rattle.geo_outside.specs.Count.{Rose};
 ghost use Rattle.geo_outside.specs.Files.{Told};
-ghost use Rattle.job_run.specs.Moves.{LacksAt, moves_of, read_rooms};
+ghost use Rattle.job_run.specs.Moves.{moves_of, read_rooms};
 ghost use Rattle.job_run.specs.Seen.{seen};
 ghost use Rattle.job_run.specs.Stops.{IsIn};
 ghost use Rattle.job_run.specs.World.{World};
@@ -15,18 +15,16 @@ use crate::status::Status;
 use fan_work::Forks;
 use geo_outside::{Folder, Gate, Sink, Steps};
 use job_lines::Step;
-use job_run::{Apart, Journal, Scope, do_steps};
+use job_run::{Journal, Scope, do_steps};
 use std::marker::Sync;
 use std::sync::ledger::Ledger;
 use std::thread::Threads;
 use update_session::Session;
 
-/// Does all lines of a job, over the files that stand apart,
-/// and over the folder's where there are none.
+/// Does all lines of a job.
 #[tactic(auto, using(crate::proofs::StatusLemmas::status_causes))]
 pub(crate) fn do_whole<R: Threads + Sync, F: Folder, O: Sink, G: Gate, L: Ledger>(
     forks: &Forks<'_, R, G>,
-    apart: &[Apart],
     list: &[Step],
     session: &mut Session,
     folder: &mut F,
@@ -36,7 +34,7 @@ pub(crate) fn do_whole<R: Threads + Sync, F: Folder, O: Sink, G: Gate, L: Ledger
 ) -> Status
     ensures comes { (first : Told) (command : Option Command) (start : World)
         → plan_of first command ≡ planned (moves_of list.now) start
-        → IsIn apart.now (F.told folder.old) session.old start
+        → IsIn (F.told folder.old) session.old start
         → start.text ≡ [] → start.session.spent ≡ 0 → Comes result command first
         (seen (F.told folder.old) (O.written out.old) (O.faults out.old) steps.old)
         (seen (F.told folder.new) (O.written out.new) (O.faults out.new) steps.new)
@@ -44,13 +42,8 @@ pub(crate) fn do_whole<R: Threads + Sync, F: Folder, O: Sink, G: Gate, L: Ledger
     ensures not_words { result ≢ Status.Words }
     ensures read { result ≡ Status.ReadFault
         → Rose (F.read_faults folder.old) (F.read_faults folder.new) }
-    ensures missing { apart.now ≡ [] → result ≡ Status.Missing
+    ensures missing { result ≡ Status.Missing
         → Rose (F.misses folder.old) (F.misses folder.new) }
-    ensures missing_apart { result ≡ Status.Missing
-        → Rose (F.misses folder.old) (F.misses folder.new)
-        ⊎ ((at : ℕ) × LacksAt apart.now list.now at) }
-    ensures apart_only { apart.now ≢ [] → (result ≢ Status.ReadFault)
-        × (F.given folder.new ≤ F.given folder.old) }
     ensures write { result ≡ Status.WriteFault
         → Rose (F.put_faults folder.old) (F.put_faults folder.new)
         ⊎ Rose (O.faults out.old) (O.faults out.new) }
@@ -58,7 +51,6 @@ pub(crate) fn do_whole<R: Threads + Sync, F: Folder, O: Sink, G: Gate, L: Ledger
 {
     match do_steps(
         forks,
-        apart,
         Scope::Whole,
         list,
         session,

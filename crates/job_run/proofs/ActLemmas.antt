@@ -18,7 +18,6 @@ use Rattle.job_lines.specs.declared.act.Act.{Act}
 use Rattle.job_lines.specs.declared.act.Act.TheVariants.{Drop, Emit, Report}
 use Rattle.job_lines.specs.declared.act.Gone.{Gone}
 use Rattle.job_lines.specs.declared.job.Step.{Step}
-use Rattle.job_run.specs.declared.apart.Apart.{Apart}
 use Rattle.job_run.specs.declared.stop.Cause.{Cause}
 use Rattle.job_run.specs.declared.stop.Cause.TheVariants.{Missing, NotThere, TooLong, TooMany}
 use Rattle.job_run.specs.declared.stop.Stop.{Stop}
@@ -29,7 +28,7 @@ use Rattle.job_run.specs.Seen.{Seen, Prints}
 use Rattle.job_run.specs.Sources.{IsDropped, IsSet, change_by, crowded, file_named, is_there}
 use Rattle.job_run.specs.Sources.{no_source, sourced, uncounted, unreadable, unusable}
 use Rattle.job_run.specs.Stops.{Does, Fails, Halts, IsHindered, IsIn, IsPaid, Tail}
-use Rattle.job_run.specs.World.{World, Effect, file_in, held_in, made, reads}
+use Rattle.job_run.specs.World.{World, Effect, file_in, made, reads}
 
 -- whether a file can be read whole
 pub unreadable-none : (limit : ℕ) (held : Option (List ℕ)) → held ≡ None
@@ -224,33 +223,24 @@ sourced_spent (Some change) w = refl
 
 -- an act that reads a file and sets its source
 module _ (stays : StandingStays) (step : Step) (world : World) (act : Act) (session : Held)
-    (is : step.act ≡ act) (sets : act_effect act world ≡ set_effect act world) (apart : List Apart)
-    (old new : Seen) (here : IsIn apart old.told session world) (same : new.told ≡ old.told) where
+    (is : step.act ≡ act) (sets : act_effect act world ≡ set_effect act world)
+    (old new : Seen) (here : IsIn old.told session world) (same : new.told ≡ old.told) where
   set_here : (session' : Held) → (held : Option (List ℕ)) → IsSet act held session session'
       → Stands session' (sourced (change_by act held) world.session)
   set_here session' held set =
       subst (λ (c : Option Change). Stands session' (sourced c world.session)) (sym set.is)
       (stays.changes set.change session session' world.session here.stands set.has)
 
-  -- where the file is read
-  held_here : (w : Option (List ℕ) → Type 0) → w (held_in apart world.told (file_named act))
-      → w (file_in world (file_named act))
-  held_here w holds = subst (λ (files : List Apart). w (held_in files world.told (file_named act)))
-      (sym here.aside) holds
-
   pub does_set : (session' : Held) → ((name : List ℕ) → act ≡ Emit name → ⊥)
-      → old.written ≡ new.written → IsSet act
-      (held_in apart world.told (file_named act)) session session'
+      → old.written ≡ new.written
+      → IsSet act (file_in world (file_named act)) session session'
       → Does (does step) world session' old new
-  does_set session' quiet silent found =
-      let set : IsSet act (file_in world (file_named act)) session session' =
-      held_here (λ held. IsSet act held session session') found in
+  does_set session' quiet silent set =
       subst (λ (a : Act). Does (does (at_line step a)) world session' old new) (sym is) (record {
         free = ap (λ (e : Effect). e.blocked) sets ∙ set.usable;
-        now = subst (λ (e : Effect). IsIn world.apart new.told session' (made e world)) (sym sets)
+        now = subst (λ (e : Effect). IsIn new.told session' (made e world)) (sym sets)
             (record {
               tells = same ∙ here.tells;
-              aside = refl;
               stands =
                   set_here session' (file_in world (file_named act)) set;
             });
@@ -279,13 +269,9 @@ module _ (stays : StandingStays) (step : Step) (world : World) (act : Act) (sess
   tail_set Memory P part silent stop = prints_none old.written new.written silent
 
   pub fails_set : (why : Stop) → old.written ≡ new.written
-      → IsHindered why (λ cause. no_source act
-      (held_in apart world.told (file_named act)) ≡ Some cause)
+      → IsHindered why (λ cause. no_source act (file_in world (file_named act)) ≡ Some cause)
       → Fails why (does step) world [] old new
-  fails_set why silent found =
-      let stop : IsHindered why (λ cause. no_source act
-      (file_in world (file_named act)) ≡ Some cause) =
-      held_here (λ held. IsHindered why (λ cause. no_source act held ≡ Some cause)) found in
+  fails_set why silent stop =
       subst (λ (a : Act). Fails why (does (at_line step a)) world [] old new) (sym is)
       (record {
         files = halts_set why stop;
@@ -301,8 +287,8 @@ module _ (stays : StandingStays) (step : Step) (world : World) (act : Act) (sess
 
 -- a source that is dropped
 module _ (stays : StandingStays) (step : Step) (world : World) (source : Gone) (session : Held)
-    (is : step.act ≡ Drop source) (apart : List Apart) (old new : Seen)
-    (here : IsIn apart old.told session world) (same : new.told ≡ old.told)
+    (is : step.act ≡ Drop source) (old new : Seen)
+    (here : IsIn old.told session world) (same : new.told ≡ old.told)
     (silent : new.written ≡ old.written) where
   there_here : (b : Bool) → is_there source session.state.sources ≡ b
       → cond b None (Some NotThere) ≡ cond (is_there source world.session.state.sources) None
@@ -319,7 +305,6 @@ module _ (stays : StandingStays) (step : Step) (world : World) (source : Gone) (
         free = sym (there_here true dropped.there);
         now = record {
           tells = same ∙ here.tells;
-          aside = refl;
           stands =
               stays.changes _ session session' world.session here.stands dropped.has;
         };
@@ -356,14 +341,14 @@ module _ (stays : StandingStays) (step : Step) (world : World) (source : Gone) (
 
 -- a report
 module _ (step : Step) (world : World) (session : Held) (is : step.act ≡ Report)
-    (apart : List Apart) (old new : Seen) (here : IsIn apart old.told session world)
+    (old new : Seen) (here : IsIn old.told session world)
     (same : new.told ≡ old.told) where
   pub does_report : Prints old.written new.written (report_text (report session.state.sources))
       → Does (does step) world session old new
   does_report printed =
       subst (λ (a : Act). Does (does (at_line step a)) world session old new) (sym is) (record {
         free = refl;
-        now = record { tells = same ∙ here.tells; aside = refl; stands = here.stands };
+        now = record { tells = same ∙ here.tells; stands = here.stands };
         printed = subst (λ (s : State). Prints old.written new.written
             (report_text (report s.sources))) here.stands.state printed;
         published = λ other emits. absurd (let e : Report ≡ Emit other = emits in cc);

@@ -134,46 +134,6 @@ piece_refused slot told name reader fed n into piece why h room is w e some read
     (ap (λ s. refusal (so_far s (h.text ++ piece))) (sym here) ∙ q))
     (refused h.text (at_slot slot h.text reader h.is))
 
--- bytes that are fed at once
-fed_fault : (slot file : List ℕ) (cause : Cause) → refusal (so_far slot file) ≡ Some cause
-    → refusal (dump slot file) ≡ Some cause
-fed_fault slot file cause refused =
-    let go : (r : Result (Unit {0}) SourceFault) → so_far slot file ≡ r → refusal r ≡ Some cause
-    → refusal (dump slot file) ≡ Some cause =
-    λ r. elim r as (λ (t : Result (Unit {0}) SourceFault). so_far slot file ≡ t
-    → refusal t ≡ Some cause → refusal (dump slot file) ≡ Some cause) [
-      | Ok fine ↦ λ is h. absurd (cc)
-      | Err fault ↦ λ is h. ap (λ d. refusal d) (end_fault slot file fault is) ∙ h
-    ] in
-    go (so_far slot file) refl refused
-
-pub fed_refused : (slot : List ℕ) (reader : Reading) (file : List ℕ) (why : Stop)
-    → reader ≡ reading slot []
-    → ((text : List ℕ) → reader ≡ reading reader.slot text
-    → IsHindered why (λ cause. refusal (so_far reader.slot (text ++ file)) ≡ Some cause))
-    → IsHindered why (λ cause. refusal (dump slot file) ≡ Some cause)
-fed_refused slot reader file why is refused =
-    let here = slot_is slot [] reader is in
-    hindered_more why _ _ (λ cause q. fed_fault slot file cause
-    (ap (λ s. refusal (so_far s file)) (sym here) ∙ q)) (refused [] (at_slot slot [] reader is))
-
--- a reader that was fed a whole text answers for all of it
-pub whole_text_refused : (slot bytes : List ℕ) (before after : Reading)
-    (r : Result DumpParts Stop) → before ≡ reading slot []
-    → ((text : List ℕ) → before ≡ reading before.slot text
-    → (after ≡ reading before.slot (text ++ bytes))
-    × (refusal (so_far before.slot (text ++ bytes)) ≡ None))
-    → ((text : List ℕ) → after ≡ reading after.slot text → IfErr r (λ why. IsHindered why
-    (λ cause. refusal (dump after.slot text) ≡ Some cause)))
-    → IfErr r (λ why. IsHindered why (λ cause. refusal (dump slot bytes) ≡ Some cause))
-whole_text_refused slot bytes before after r is taken refused =
-    let now = (taken [] (at_slot slot [] before is)).0 in
-    let same : after ≡ reading slot bytes =
-    now ∙ ap (λ s. reading s bytes) (slot_is slot [] before is) in
-    subst (λ (s : List ℕ). IfErr r (λ why. IsHindered why
-    (λ cause. refusal (dump s bytes) ≡ Some cause))) (slot_is slot bytes after same)
-    (refused bytes (at_slot slot bytes after same))
-
 -- the end of a file: all of it was read
 all_read : (slot : List ℕ) (told : Option Told) (name : List ℕ) (reader : Reading) (fed n : ℕ)
     (into : List ℕ) (h : HasRead slot told name reader fed) → n ≡ 0

@@ -11,7 +11,6 @@ use Rattle.update_session.specs.Touch.{bound}
 use Rattle.job_lines.specs.declared.act.Act.{Act}
 use Rattle.job_lines.specs.declared.act.Act.TheVariants.{Emit}
 use Rattle.job_lines.specs.declared.job.Step.{Step}
-use Rattle.job_run.specs.declared.apart.Apart.{Apart}
 use Rattle.job_run.specs.declared.stop.Cause.TheVariants.{TooLarge}
 use Rattle.job_run.specs.declared.stop.Stop.{Stop}
 use Rattle.job_run.specs.declared.stop.Stop.TheVariants.{Blocked, PutFailed, SinkFailed, Memory}
@@ -23,8 +22,8 @@ use Rattle.job_run.specs.World.{World}
 use Rattle.job_run.proofs.ActLemmas.{at_line, not_too_large, prints_none}
 
 module _ (stays : StandingStays) (step : Step) (world : World) (name : List ℕ) (session : Held)
-    (is : step.act ≡ Emit name) (apart : List Apart) (old new : Seen)
-    (here : IsIn apart old.told session world) where
+    (is : step.act ≡ Emit name) (old new : Seen)
+    (here : IsIn old.told session world) where
   abbrev emits : Step
   emits = at_line step (Emit name)
 
@@ -101,7 +100,6 @@ module _ (stays : StandingStays) (step : Step) (world : World) (name : List ℕ)
           free = free_emit;
           now = record {
             tells = put_is new.told put;
-            aside = refl;
             stands =
                 stays.emits session session' world.session here.stands grown done;
           };

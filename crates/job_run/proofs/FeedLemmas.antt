@@ -9,6 +9,7 @@ use Rattle.std.proofs.lemmas.List.{length-map, take-map}
 use Rattle.std.proofs.lemmas.Option.{slice_get_read, slice_get_within}
 use Rattle.std.specs.List.{AllZip, list_all}
 use Rattle.std.specs.Prelude.{slice_get, option_map}
+use Rattle.std.specs.FinMap as files
 use Rattle.feed_csv.specs.File.{feed, longest, most as most_entries}
 use Rattle.geo_outside.specs.Files.{Told}
 use Rattle.geo_terms.specs.SourceForm.{FeedParts}
@@ -21,7 +22,6 @@ use Rattle.job_lines.specs.declared.act.Act.{Act}
 use Rattle.job_lines.specs.declared.act.Act.TheVariants as acts
 use Rattle.job_lines.specs.declared.act.Act.TheVariants.{Feed, Emit}
 use Rattle.job_lines.specs.declared.job.Step.{Step}
-use Rattle.job_run.specs.declared.apart.Apart.{Apart}
 use Rattle.job_run.specs.declared.feeds.Held.{Held}
 use Rattle.job_run.specs.declared.stop.Cause.{Cause}
 use Rattle.job_run.specs.declared.stop.Cause.TheVariants.{Missing}
@@ -37,10 +37,10 @@ use Rattle.job_run.specs.Moves.{sets_feed, together}
 use Rattle.job_run.specs.Parts.{DoesPart, FailsAt, FailsPart}
 use Rattle.job_run.specs.Published.{Publishes}
 use Rattle.job_run.specs.Seen.{Seen}
-use Rattle.job_run.specs.Sources.{LacksApart, change_by, entries_of, file_named, no_feed, no_source}
+use Rattle.job_run.specs.Sources.{change_by, entries_of, file_named, no_feed, no_source}
 use Rattle.job_run.specs.Sources.{sourced, unreadable}
 use Rattle.job_run.specs.Stops.{Fails, Halts, IsHindered, IsIn, Tail}
-use Rattle.job_run.specs.World.{World, Effect, bytes_apart, file_in, held_in, made}
+use Rattle.job_run.specs.World.{World, Effect, file_in, made}
 use Rattle.job_run.proofs.ActLemmas.{append_nil, prints_none, unreadable-none, unusable-unread}
 use Rattle.job_run.proofs.RunLemmas.{fails_before, fails_later, part_more}
 
@@ -103,13 +103,13 @@ AllZip-pushed R xs ys results i x y below is zipped related pushed =
     (subst (λ zs. AllZip R zs (ys ++ (y ∷ []))) (sym longer)
     (all_zipped_more R (take i xs) ys x y zipped related))
 
-pub reads_pushed : (apart : List Apart) (told : Told) (steps : List Step)
+pub reads_pushed : (told : Told) (steps : List Step)
     (helds results : List Held) (i : ℕ) (step : Step) (held : Held) → i < length steps
     → step ≡ get_or steps i step
-    → AllZip (IsRead apart told) (take i steps) helds → IsRead apart told step held
-    → results ≡ helds ++ (held ∷ []) → AllZip (IsRead apart told) (take (i + 1) steps) results
-reads_pushed apart told steps helds results i step held below is zipped read pushed =
-    AllZip-pushed (IsRead apart told) steps helds results i step held below is zipped read pushed
+    → AllZip (IsRead told) (take i steps) helds → IsRead told step held
+    → results ≡ helds ++ (held ∷ []) → AllZip (IsRead told) (take (i + 1) steps) results
+reads_pushed told steps helds results i step held below is zipped read pushed =
+    AllZip-pushed (IsRead told) steps helds results i step held below is zipped read pushed
 
 -- an act that sets a feed is one of a feed line
 pub is_feed_act : (act : Act) → sets_feed act ≡ true
@@ -124,18 +124,6 @@ is_feed_act acts.Report so = absurd (cc)
 is_feed_act (acts.Mark name) so = absurd (cc)
 is_feed_act (acts.Back name) so = absurd (cc)
 is_feed_act acts.Compact so = absurd (cc)
-
-pub feed_lacks : {A : Type 0} (apart : List Apart) (act : Act) (file : List ℕ)
-    → sets_feed act ≡ true → file_named act ≡ file → A ⊎ (bytes_apart apart file ≡ None)
-    → A ⊎ LacksApart apart act
-feed_lacks apart act file sets named (inl rose) = inl rose
-feed_lacks apart act file sets named (inr none) =
-    let p = is_feed_act act sets in
-    let here : bytes_apart apart p.1 ≡ None =
-    ap (bytes_apart apart) (ap file_named (sym p.2) ∙ named) ∙ none in
-    inr (subst (LacksApart apart) (sym p.2)
-    (ap no_feed here ∙ unusable-unread longest most_entries entries_of None Missing
-    (unreadable-none longest None refl)))
 
 pub all_get : (p : Step → Bool) (steps : List Step) (k : ℕ) (step : Step) → list_all p steps ≡ true
     → slice_get steps k ≡ Some step → p step ≡ true
@@ -152,20 +140,20 @@ all_get p (first ∷ rest) k step all is =
         (let e : false ≡ true = ap (λ b. b && list_all p rest) (sym so) ∙ all in cc)
 
 -- files that were read
-read_free : (apart : List Apart) (told : Told) (step : Step) (held : Held)
-    → IsRead apart told step held → no_read apart told step ≡ None
-read_free apart told step held read =
-    ap (λ (a : Act). unreadable longest (held_in apart told (file_named a))) read.is
+read_free : (told : Told) (step : Step) (held : Held)
+    → IsRead told step held → no_read told step ≡ None
+read_free told step held read =
+    ap (λ (a : Act). unreadable longest (files.get told.held (file_named a))) read.is
     ∙ ap (unreadable longest) read.there ∙ read.readable
 
-pub read_before : (apart : List Apart) (told : Told) (steps : List Step) (at : ℕ)
-    (helds : List Held) → AllZip (IsRead apart told) (take at steps) helds
+pub read_before : (told : Told) (steps : List Step) (at : ℕ)
+    (helds : List Held) → AllZip (IsRead told) (take at steps) helds
     → (k : ℕ) (earlier : Step) → k < at → slice_get steps k ≡ Some earlier
-    → no_read apart told earlier ≡ None
-read_before apart told steps at helds reads k earlier below is =
-    let p = beside (IsRead apart told) (take at steps) helds k earlier reads
+    → no_read told earlier ≡ None
+read_before told steps at helds reads k earlier below is =
+    let p = beside (IsRead told) (take at steps) helds k earlier reads
     (taken-get steps at k earlier below is) in
-    read_free apart told earlier p.0 p.2
+    read_free told earlier p.0 p.2
 
 -- what was parsed: the first that is no feed
 pub first_refused : (helds : List Held) (parsed : List (Result FeedParts Stop)) (why : Stop)
@@ -243,7 +231,7 @@ module _ (world : World) where
   part_still : (make : Step → Move) → ((step : Step) → after (make step) world ≡ world)
       → ((step : Step) (state : State) → Publishes (make step) state) → (steps : List Step)
       → ((k : ℕ) (step : Step) → slice_get steps k ≡ Some step → blocked (make step) world ≡ None)
-      → (session : Session) (now : Seen) → IsIn world.apart now.told session world
+      → (session : Session) (now : Seen) → IsIn now.told session world
       → DoesPart (map make steps) world session now now
   part_still make still published steps free session now here = record {
     then = world;
@@ -290,9 +278,9 @@ module _ (world : World) where
 
 -- the files of the lines of a group
 module _ (steps : List Step) (world : World) (session : Session) (now : Seen)
-    (here : IsIn world.apart now.told session world) where
+    (here : IsIn now.told session world) where
   abbrev Reads : Step → Held → Type 0
-  Reads = IsRead world.apart world.told
+  Reads = IsRead world.told
 
   -- a file that was read is no hindrance
   free_look : (step : Step) (held : Held) → Reads step held → blocked (looks step) world ≡ None
@@ -317,7 +305,7 @@ module _ (steps : List Step) (world : World) (session : Session) (now : Seen)
 
   -- a file that was not read
   halts_look : (step : Step) (why : Stop)
-      → IsHindered why (λ cause. no_read world.apart world.told step ≡ Some cause)
+      → IsHindered why (λ cause. no_read world.told step ≡ Some cause)
       → Halts why (looks step) world now.told
   halts_look step (Blocked cause) stop = inl (record { cause = stop; files = here.tells })
   halts_look step ReadFailed stop = record { reading = refl; files = here.tells }
@@ -333,7 +321,7 @@ module _ (steps : List Step) (world : World) (session : Session) (now : Seen)
   tail_still SinkFailed P stop = absurd stop
   tail_still Memory P stop = prints_none now.written now.written refl
 
-  looks_fail : (why : Stop) (at : ℕ) → (halts : HaltsReading world.apart world.told steps why at)
+  looks_fail : (why : Stop) (at : ℕ) → (halts : HaltsReading world.told steps why at)
       → FailsPart why (map looks steps) halts.step world now now
   looks_fail why at halts =
       fails_still world looks (λ step. text_still world) (λ step. refl)
@@ -344,7 +332,7 @@ module _ (steps : List Step) (world : World) (session : Session) (now : Seen)
             tail_still why _ halts.hindered;
       })
 
-  pub reading_fails : (why : Stop) (at : ℕ) → HaltsReading world.apart world.told steps why at
+  pub reading_fails : (why : Stop) (at : ℕ) → HaltsReading world.told steps why at
       → FailsAt why (together steps) steps at world now now
   reading_fails why at halts = record {
     step = halts.step;
@@ -491,7 +479,7 @@ module _ (steps : List Step) (world : World) (session : Session) (now : Seen)
           record {
             then = at (with_feeds feeds world.session);
             done = joins steps helds feeds world.session reads parsed;
-            stands = record { tells = here.tells; aside = refl; stands = stands };
+            stands = record { tells = here.tells; stands = stands };
             text = [];
             grown = sym (append_nil world.text);
             printed = prints_none now.written now.written refl;
@@ -513,40 +501,3 @@ module _ (steps : List Step) (world : World) (session : Session) (now : Seen)
           (part_more (map counts steps)
           (map does steps) world session session' now now now counts_part
           (does_part session' stands))
-
--- the same where the files that stand apart are given beside the world
-own : (apart : List Apart) (world : World) (session : Session) (now : Seen)
-    → IsIn apart now.told session world → IsIn world.apart now.told session world
-own apart world session now here = record { tells = here.tells; aside = refl; stands = here.stands }
-
-module _ (apart : List Apart) (steps : List Step) (world : World) (session : Session) (now : Seen)
-    (here : IsIn apart now.told session world) where
-  pub group_unread : (why : Stop) (at : ℕ) → HaltsReading apart world.told steps why at
-      → FailsAt why (together steps) steps at world now now
-  group_unread why at halts =
-      reading_fails steps world session now (own apart world session now here) why at
-      (subst (λ (files : List Apart). HaltsReading files world.told steps why at)
-      (sym here.aside) halts)
-
-  pub group_starved : 0 < length steps → FailsAt Memory (together steps) steps 0 world now now
-  group_starved some = memory_fails steps world session now (own apart world session now here) some
-
-  reads_here : (helds : List Held) → AllZip (IsRead apart world.told) steps helds
-      → AllZip (IsRead world.apart world.told) steps helds
-  reads_here helds reads = subst
-      (λ (files : List Apart). AllZip (IsRead files world.told) steps helds) (sym here.aside) reads
-
-  pub group_crowded : (helds : List Held) → AllZip (IsRead apart world.told) steps helds
-      → 0 < length steps → (why : Stop) (at : ℕ) → RefusesParsing helds why at
-      → FailsAt why (together steps) steps at world now now
-  group_crowded helds reads some why at refused =
-      counting_fails steps world session now (own apart world session now here) helds
-      (reads_here helds reads) some why at refused
-
-  pub group_set : (helds : List Held) → AllZip (IsRead apart world.told) steps helds
-      → (feeds : List FeedParts) → AllZip Parses helds (map Ok feeds) → (session' : Session)
-      → Stands session' (with_feeds feeds world.session)
-      → DoesPart (together steps) world session' now now
-  group_set helds reads feeds parsed session' stands =
-      group_done steps world session now (own apart world session now here) helds
-      (reads_here helds reads) feeds parsed session' stands

@@ -14,7 +14,6 @@ use Rattle.job_run.specs.Acts.{compact_line, does, effect}
 use Rattle.job_run.specs.Seen.{Prints, Seen}
 use Rattle.job_run.specs.Stops.{Does, Fails, Halts, IsIn, IsPaid, Tail}
 use Rattle.job_run.specs.World.{World}
-use Rattle.job_run.specs.declared.apart.Apart.{Apart}
 use Rattle.job_run.specs.declared.stop.Cause.TheVariants.{NoMark}
 use Rattle.job_run.specs.declared.stop.Stop.{Stop}
 use Rattle.job_run.specs.declared.stop.Stop.TheVariants.{Blocked, Memory, SinkFailed}
@@ -27,8 +26,8 @@ at_spent (Some m) w = refl
 
 -- a line that keeps what is in force
 module _ (stays : StandingStays) (step : Step) (world : World) (name : List ℕ) (session : Held)
-    (is : step.act ≡ Mark name) (apart : List Apart) (old new : Seen)
-    (here : IsIn apart old.told session world) (same : new.told ≡ old.told)
+    (is : step.act ≡ Mark name) (old new : Seen)
+    (here : IsIn old.told session world) (same : new.told ≡ old.told)
     (silent : new.written ≡ old.written) where
   pub does_mark : (session' : Held) → HasMarked name session session'
       → Does (does step) world session' old new
@@ -37,7 +36,6 @@ module _ (stays : StandingStays) (step : Step) (world : World) (name : List ℕ)
         free = refl;
         now = record {
           tells = same ∙ here.tells;
-          aside = refl;
           stands =
               stays.marks name session session' world.session here.stands marked;
         };
@@ -61,8 +59,8 @@ module _ (stays : StandingStays) (step : Step) (world : World) (name : List ℕ)
 
 -- a line that goes back
 module _ (stays : StandingStays) (step : Step) (world : World) (name : List ℕ) (session : Held)
-    (is : step.act ≡ Back name) (apart : List Apart) (old new : Seen)
-    (here : IsIn apart old.told session world) (same : new.told ≡ old.told)
+    (is : step.act ≡ Back name) (old new : Seen)
+    (here : IsIn old.told session world) (same : new.told ≡ old.told)
     (silent : new.written ≡ old.written) where
   there : (session' : Held) → HasGoneBack name session session'
       → is_some (mark_named name world.session) ≡ true
@@ -80,7 +78,6 @@ module _ (stays : StandingStays) (step : Step) (world : World) (name : List ℕ)
         free = ap (λ b. cond b None (Some NoMark)) (there session' back);
         now = record {
           tells = same ∙ here.tells;
-          aside = refl;
           stands =
               stays.goes_back name session session' world.session here.stands back;
         };
@@ -118,8 +115,8 @@ module _ (stays : StandingStays) (step : Step) (world : World) (name : List ℕ)
 
 -- a line that gives up nodes
 module _ (stays : StandingStays) (step : Step) (world : World) (session : Held)
-    (is : step.act ≡ Compact) (apart : List Apart) (old new : Seen)
-    (here : IsIn apart old.told session world) (same : new.told ≡ old.told) where
+    (is : step.act ≡ Compact) (old new : Seen)
+    (here : IsIn old.told session world) (same : new.told ≡ old.told) where
   line_here : (session' : Held) → HasCompacted session session'
       → compact_line (length session'.store) ≡ compact_line (compact_count world.session)
   line_here session' compacted =
@@ -133,7 +130,6 @@ module _ (stays : StandingStays) (step : Step) (world : World) (session : Held)
         free = refl;
         now = record {
           tells = same ∙ here.tells;
-          aside = refl;
           stands =
               stays.compacts session session' world.session here.stands compacted;
         };

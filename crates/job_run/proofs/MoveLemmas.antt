@@ -21,7 +21,6 @@ use Rattle.job_run.specs.Seen.{Seen}
 use Rattle.job_run.specs.Sources.{read_room}
 use Rattle.job_run.specs.Stops.{DoesAll, IsIn}
 use Rattle.job_run.specs.World.{World}
-use Rattle.job_run.specs.declared.apart.Apart.{Apart}
 use Rattle.job_run.specs.declared.scope.Scope.{Scope}
 use Rattle.job_run.specs.declared.stop.Stop.{Stop}
 use Rattle.job_run.proofs.RunLemmas.{all_of, fails_before, fails_later, part_more, part_none}
@@ -267,11 +266,11 @@ fails_together scope why steps count at world old new all few within full failed
 }
 
 -- no line was done yet
-pub first_none : (scope : Scope) (steps : List Step) (world : World) (apart : List Apart)
-    (session : Held) (now : Seen) → IsIn apart now.told session world
+pub first_none : (scope : Scope) (steps : List Step) (world : World)
+    (session : Held) (now : Seen) → IsIn now.told session world
     → DoesFirst scope steps 0 world session now now
-first_none scope steps world apart session now here =
-    record { moves = []; split = refl; part = part_none world apart session now here }
+first_none scope steps world session now here =
+    record { moves = []; split = refl; part = part_none world session now here }
 
 -- the first of some lines, where it sets no feed
 module _ (scope : Scope) (steps : List Step) (step : Step) (some : 0 < length steps)

@@ -8,12 +8,11 @@ use Rattle.update_session.specs.Kept.{Held}
 use Rattle.job_lines.specs.declared.act.Act.{Act}
 use Rattle.job_lines.specs.declared.act.Act.TheVariants as acts
 use Rattle.job_lines.specs.declared.job.Step.{Step}
-use Rattle.job_run.specs.declared.apart.Apart.{Apart}
 use Rattle.job_run.specs.declared.stop.Stop.{Stop}
 use Rattle.job_run.specs.declared.stop.Stop.TheVariants.{Blocked, ReadFailed, PutFailed, SinkFailed}
 use Rattle.job_run.specs.declared.stop.Stop.TheVariants.{Memory}
-use Rattle.job_run.specs.Acts.{Move, looks, counts, does, shows, act_effect, after, blocked, effect}
-use Rattle.job_run.specs.Acts.{step_of}
+use Rattle.job_run.specs.Acts.{Move, looks, counts, does, sets, shows, act_effect, after, blocked}
+use Rattle.job_run.specs.Acts.{effect, step_of}
 use Rattle.job_run.specs.Course.{Outcome, course, ended, go_on, unless, IsAt}
 use Rattle.job_run.specs.Parts.{DoesPart, FailsAt, FailsPart}
 use Rattle.job_run.specs.Published.{Publishes}
@@ -45,6 +44,7 @@ named_move (counts step) other world is = let e : step ≡ other = cc in
     ap (λ (s : Step). file_named s.act) e
 named_move (does step) other world is = let e : step ≡ other = cc in
     name_of_act step.act world ∙ ap (λ (s : Step). file_named s.act) e
+named_move (sets change) other world is = absurd (cc)
 named_move (shows last) other world is = absurd (cc)
 
 -- a text is printed behind a text
@@ -159,12 +159,12 @@ at_before moves more start count move then there =
     record { done = ap (λ (ms : List Move). course ms start) p.1 ∙ there.done; next = p.0 }
 
 -- parts: none, one move, and one part behind another
-pub part_none : (world : World) (apart : List Apart) (session : Held) (now : Seen)
-    → IsIn apart now.told session world → DoesPart [] world session now now
-part_none world apart session now here = record {
+pub part_none : (world : World) (session : Held) (now : Seen)
+    → IsIn now.told session world → DoesPart [] world session now now
+part_none world session now here = record {
   then = world;
   done = refl;
-  stands = record { tells = here.tells; aside = refl; stands = here.stands };
+  stands = record { tells = here.tells; stands = here.stands };
   text = [];
   grown = sym (append_nil world.text);
   printed = prints_none now.written now.written refl;
@@ -203,7 +203,6 @@ part_more moves more world session session' old mid new first second = record {
   done = course_both moves more world first.then first.done ∙ second.done;
   stands = record {
     tells = second.stands.tells;
-    aside = second.stands.aside ∙ first.stands.aside;
     stands = second.stands.stands;
   };
   text = first.text ++ second.text;
@@ -269,14 +268,6 @@ fails_before why moves more step world old new part = record {
   paid = part.paid;
 }
 
--- what stands behind some moves, beside the same files apart
-pub stands_on : (apart : List Apart)
-    (start : World) {told told' : Option Told} {session session' : Held} {then : World}
-    → IsIn apart told session start → IsIn start.apart told' session' then
-    → IsIn apart told' session' then
-stands_on apart start here later =
-    record { tells = later.tells; aside = later.aside ∙ here.aside; stands = later.stands }
-
 -- the whole of a job, from where nothing was printed
 pub all_of : (moves : List Move) (start : World) (session : Held) (old new : Seen) → start.text ≡ []
     → DoesPart moves start session old new → DoesAll moves start session old new
@@ -322,7 +313,6 @@ does_more moves start session session' old mid new all move paid made =
       done = course_both moves (move ∷ []) start all.world all.done ∙ one.done;
       stands = record {
         tells = one.stands.tells;
-        aside = one.stands.aside ∙ all.stands.aside;
         stands = one.stands.stands;
       };
       printed = prints_more old.written mid.written new.written all.world.text

@@ -5,8 +5,9 @@ use Rattle.feed_csv.specs.File.{longest as longest_feed}
 use Rattle.geo_terms.specs.NoteText.{note_line}
 use Rattle.geo_terms.specs.Report.{report}
 use Rattle.geo_terms.specs.declared.note.Note.{Note}
-use Rattle.update_session.specs.Standing.{compact_count, compacted, emitted, mark_named, marked}
-use Rattle.update_session.specs.Standing.{went_back}
+use Rattle.source_changes.specs.Changes.{Change}
+use Rattle.update_session.specs.Standing.{changed, compact_count, compacted, emitted, mark_named}
+use Rattle.update_session.specs.Standing.{marked, went_back}
 use Rattle.update_session.specs.State.{FileValue, file_of, is_too_large}
 use Rattle.job_lines.specs.declared.act.Act.{Act}
 use Rattle.job_lines.specs.declared.act.Act.TheVariants.{Rpsl, Stats, Feed, Overrides, Drop, Emit}
@@ -46,12 +47,13 @@ unfoldable pub compact_line : ℕ → List ℕ
 compact_line count = codes "compact nodes " ++ (decimal count ++ 10 ∷ [])
 
 -- a move of a command. A line that sets a feed makes three: its file is read, its statements are
--- counted, and it is set. Any other line makes one. A command that does no line, or more than its
--- lines, shows something at the end
+-- counted, and it is set. Any other line makes one. A command whose sources stand in no file sets
+-- each by a move. A command that does no line, or more than its lines, shows something at the end
 pub data Move : Type 0 where
   looks : Step → Move
   counts : Step → Move
   does : Step → Move
+  sets : Change → Move
   shows : (World → Effect) → Move
 
 -- the effect of a line that sets a source of its file
@@ -137,6 +139,16 @@ compact_effect world = record {
   text = compact_line (compact_count world.session);
 }
 
+-- the effect of a move that sets or drops a source that stands in no file
+abbrev pub change_effect : Change → World → Effect
+change_effect change world = record {
+  name = [];
+  blocked = None;
+  files = untouched;
+  session = changed change world.session;
+  text = [];
+}
+
 -- the effect of each act
 abbrev pub act_effect : Act → World → Effect
 act_effect (Rpsl slot file) world = set_effect (Rpsl slot file) world
@@ -154,6 +166,7 @@ abbrev pub effect : Move → World → Effect
 effect (looks step) world = look_effect step.act world
 effect (counts step) world = count_effect step.act world
 effect (does step) world = act_effect step.act world
+effect (sets change) world = change_effect change world
 effect (shows last) world = last world
 
 -- the step of a job that a move belongs to
@@ -161,6 +174,7 @@ abbrev pub step_of : Move → Option Step
 step_of (looks step) = Some step
 step_of (counts step) = Some step
 step_of (does step) = Some step
+step_of (sets change) = None
 step_of (shows last) = None
 
 -- an act that prints
@@ -182,6 +196,7 @@ abbrev pub IsPrinting : Move → Type 0
 IsPrinting (looks step) = ⊥
 IsPrinting (counts step) = ⊥
 IsPrinting (does step) = IsPrintingAct step.act
+IsPrinting (sets change) = ⊥
 IsPrinting (shows last) = Unit {0}
 
 -- an act that builds the tree of the sources in force
@@ -203,6 +218,7 @@ abbrev pub IsBuilding : Move → World → Type 0
 IsBuilding (looks step) world = ⊥
 IsBuilding (counts step) world = ⊥
 IsBuilding (does step) world = IsBuildingAct step.act
+IsBuilding (sets change) world = ⊥
 IsBuilding (shows last) world = (last world).session ≡ emitted world.session
 
 -- the line of the job that a move belongs to, and 0 where it belongs to none
@@ -210,6 +226,7 @@ abbrev pub line_of : Move → ℕ
 line_of (looks step) = step.line
 line_of (counts step) = step.line
 line_of (does step) = step.line
+line_of (sets change) = 0
 line_of (shows last) = 0
 
 -- why a move cannot be made here, if it cannot

@@ -1,6 +1,7 @@
 -- Feeds that are set together: what was read for each line, and what was made of it.
 use Rattle.std.specs.Prelude.{◌≡◌, ◌≢◌, ℕ, ◌<◌, ◌⊎◌, List, [], ◌∷◌, map, take, slice_get, Option}
 use Rattle.std.specs.Prelude.{Some, None, Result, Ok, Err}
+use Rattle.std.specs.FinMap as files
 use Rattle.feed_csv.specs.File.{feed, longest}
 use Rattle.geo_outside.specs.Files.{Told}
 use Rattle.geo_terms.specs.SourceForm.{FeedParts}
@@ -10,8 +11,6 @@ use Rattle.source_changes.specs.Changes.{SetFeed}
 use Rattle.update_session.specs.Standing.{Standing, changed}
 use Rattle.job_run.specs.Sources.{file_named, no_feed, unreadable}
 use Rattle.job_run.specs.Stops.{IsHindered}
-use Rattle.job_run.specs.World.{held_in}
-use Rattle.job_run.specs.declared.apart.Apart.{Apart}
 use Rattle.job_run.specs.declared.feeds.Held.{Held}
 use Rattle.job_run.specs.declared.stop.Cause.{Cause}
 use Rattle.job_run.specs.declared.stop.Cause.TheVariants.{Missing, Words}
@@ -19,24 +18,24 @@ use Rattle.job_run.specs.declared.stop.Stop.{Stop}
 use Rattle.job_run.specs.declared.stop.Stop.TheVariants.{Blocked, ReadFailed, Memory}
 
 -- why the file of a line cannot be read
-abbrev pub no_read : List Apart → Told → Step → Option Cause
-no_read apart told step = unreadable longest (held_in apart told (file_named step.act))
+abbrev pub no_read : Told → Step → Option Cause
+no_read told step = unreadable longest (files.get told.held (file_named step.act))
 
 -- the file of a line was read
-pub record IsRead (apart : List Apart) (told : Told) (step : Step) (held : Held) : Type 0 where
+pub record IsRead (told : Told) (step : Step) (held : Held) : Type 0 where
   pub file : List ℕ
   pub is : step.act ≡ Feed held.url.now file
-  pub there : held_in apart told file ≡ Some held.bytes.items
+  pub there : files.get told.held file ≡ Some held.bytes.items
   pub readable : unreadable longest (Some held.bytes.items) ≡ None
 
 -- the files of the lines before this index can be read, and that of this one was not
-pub record HaltsReading (apart : List Apart) (told : Told) (steps : List Step) (why : Stop)
+pub record HaltsReading (told : Told) (steps : List Step) (why : Stop)
     (at : ℕ) : Type 0 where
   pub step : Step
   pub named : slice_get steps at ≡ Some step
   pub before : (k : ℕ) (earlier : Step) → k < at → slice_get steps k ≡ Some earlier
-      → no_read apart told earlier ≡ None
-  pub hindered : IsHindered why (λ cause. no_read apart told step ≡ Some cause)
+      → no_read told earlier ≡ None
+  pub hindered : IsHindered why (λ cause. no_read told step ≡ Some cause)
 
 -- bytes are no feed, or memory ran out
 pub record IsNoFeed (held : Held) (why : Stop) : Type 0 where

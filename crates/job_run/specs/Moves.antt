@@ -6,8 +6,7 @@ use Rattle.job_lines.specs.declared.act.Act.TheVariants.{Rpsl, Stats, Feed, Over
 use Rattle.job_lines.specs.declared.act.Act.TheVariants.{Report, Mark, Back, Compact}
 use Rattle.job_lines.specs.declared.job.Step.{Step}
 use Rattle.job_run.specs.Acts.{Move, looks, counts, does}
-use Rattle.job_run.specs.Sources.{LacksApart, read_room}
-use Rattle.job_run.specs.declared.apart.Apart.{Apart}
+use Rattle.job_run.specs.Sources.{read_room}
 use Rattle.job_run.specs.declared.scope.Scope.{Scope}
 use Rattle.job_run.specs.declared.scope.Scope.TheVariants.{Whole, Sources}
 
@@ -80,9 +79,3 @@ source_moves steps = moves_by Sources steps
 abbrev pub read_rooms : List Step → ℕ
 read_rooms [] = 0
 read_rooms (step ∷ steps) = read_room step.act + read_rooms steps
-
--- the line at this index reads the files that stand apart, and none has its name
-pub record LacksAt (apart : List Apart) (steps : List Step) (at : ℕ) : Type 0 where
-  pub step : Step
-  pub named : slice_get steps at ≡ Some step
-  pub lacks : LacksApart apart step.act

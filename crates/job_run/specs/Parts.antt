@@ -17,7 +17,7 @@ pub record DoesPart (moves : List Move) (world : World) (session : Held)
     (old new : Seen) : Type 0 where
   pub then : World
   pub done : course moves world ≡ ended then
-  pub stands : IsIn world.apart new.told session then
+  pub stands : IsIn new.told session then
   pub text : List ℕ
   pub grown : then.text ≡ world.text ++ text
   pub printed : Prints old.written new.written text

@@ -12,7 +12,7 @@ use Rattle.mmdb_file.specs.PlaceValue.{place_value}
 use Rattle.mmdb_file.specs.Walk.{nodes_told, walk}
 use Rattle.update_session.specs.State.{State, FileValue, file_of}
 use Rattle.job_lines.specs.declared.act.Act.TheVariants.{Emit}
-use Rattle.job_run.specs.Acts.{Move, looks, counts, does, shows}
+use Rattle.job_run.specs.Acts.{Move, looks, counts, does, sets, shows}
 
 -- a file is what the sources ask for: a fresh build of them; at each address the walk through it
 -- gives the value of the record; and no list of nodes that finds each address's record is shorter
@@ -36,6 +36,7 @@ abbrev pub Publishes : Move → State → Type 0
 Publishes (looks step) state = Unit {0}
 Publishes (counts step) state = Unit {0}
 Publishes (does step) state = (name : List ℕ) → step.act ≡ Emit name → IsPublished state
+Publishes (sets change) state = Unit {0}
 Publishes (shows last) state = Unit {0}
 
 -- no two places of the file have equal values

@@ -23,8 +23,6 @@ use Rattle.update_session.specs.Calls.{HasChanged}
 use Rattle.update_session.specs.Kept.{Held}
 use Rattle.update_session.specs.Standing.{Standing, changed}
 use Rattle.job_run.specs.Dumps.{no_dump}
-use Rattle.job_run.specs.World.{bytes_apart}
-use Rattle.job_run.specs.declared.apart.Apart.{Apart}
 use Rattle.job_run.specs.declared.stop.Cause.{Cause}
 use Rattle.job_run.specs.declared.stop.Cause.TheVariants.{Missing, TooLong, TooMany}
 
@@ -155,7 +153,3 @@ read_room Report = 0
 read_room (Mark name) = 0
 read_room (Back name) = 0
 read_room Compact = 0
-
--- a line that reads the files that stand apart finds none of its name
-abbrev pub LacksApart : List Apart → Act → Type 0
-LacksApart apart act = no_source act (bytes_apart apart (file_named act)) ≡ Some Missing

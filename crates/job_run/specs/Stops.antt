@@ -5,7 +5,6 @@ use Rattle.geo_outside.specs.Files.{Told, Spoils}
 use Rattle.update_session.specs.Standing.{Stands}
 use Rattle.update_session.specs.Kept.{Held}
 use Rattle.job_lines.specs.declared.job.Step.{Step}
-use Rattle.job_run.specs.declared.apart.Apart.{Apart}
 use Rattle.job_run.specs.declared.stop.Cause.{Cause}
 use Rattle.job_run.specs.declared.stop.Cause.TheVariants.{TooLarge}
 use Rattle.job_run.specs.declared.stop.Stop.{Stop}
@@ -17,12 +16,9 @@ use Rattle.job_run.specs.Published.{Publishes}
 use Rattle.job_run.specs.Seen.{Seen, Prints, PrintsPart}
 use Rattle.job_run.specs.World.{World, Effect, reads, puts}
 
--- the folder tells what it holds in this world, these files stand apart, and the session stands
--- where it stands there
-pub record IsIn (apart : List Apart) (told : Option Told) (session : Held)
-    (world : World) : Type 0 where
+-- the folder tells what it holds in this world, and the session stands where it stands there
+pub record IsIn (told : Option Told) (session : Held) (world : World) : Type 0 where
   pub tells : told ≡ Some world.told
-  pub aside : world.apart ≡ apart
   pub stands : Stands session world.session
 
 -- so many steps were taken at most as a move and those before it may take
@@ -32,7 +28,7 @@ IsPaid effect world steps steps_now = steps_now + world.session.spent ≤ steps 
 -- a move was made
 pub record Does (move : Move) (world : World) (session : Held) (old new : Seen) : Type 0 where
   pub free : blocked move world ≡ None
-  pub now : IsIn world.apart new.told session (after move world)
+  pub now : IsIn new.told session (after move world)
   pub printed : Prints old.written new.written (effect move world).text
   pub published : Publishes move world.session.state
 
@@ -112,7 +108,7 @@ pub record DoesAll (moves : List Move) (start : World) (session : Held)
     (old new : Seen) : Type 0 where
   pub world : World
   pub done : course moves start ≡ ended world
-  pub stands : IsIn start.apart new.told session world
+  pub stands : IsIn new.told session world
   pub printed : Prints old.written new.written world.text
   pub steps : new.steps + start.session.spent ≤ old.steps + world.session.spent
   pub published : (count : ℕ) (move : Move) (then : World) → IsAt moves start count move then

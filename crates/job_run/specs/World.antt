@@ -1,34 +1,20 @@
 -- What a command has before it, and the moves that it makes.
-use Rattle.std.specs.Prelude.{ℕ, List, [], ◌∷◌, ◌++◌, Option, None, Some, if◌then◌else◌}
+use Rattle.std.specs.Prelude.{ℕ, List, [], ◌++◌, Option, None}
 use Rattle.std.specs.FinMap as map
 use Rattle.geo_outside.specs.Files.{Told, after_put}
-use Rattle.geo_terms.specs.PlaceForm.{same_text}
 use Rattle.update_session.specs.Standing.{Standing}
-use Rattle.job_run.specs.declared.apart.Apart.{Apart}
 use Rattle.job_run.specs.declared.stop.Cause.{Cause}
 
--- what there is at a moment of a command: the folder's files and puts, the files that stand apart
--- from the folder if there are such, where the session stands, and what the command printed
+-- what there is at a moment of a command: the folder's files and puts, where the session stands,
+-- and what the command printed
 pub record World : Type 0 where
   pub told : Told
-  pub apart : List Apart
   pub session : Standing
   pub text : List ℕ
 
--- the bytes of the first of these files that has a name
-abbrev pub bytes_apart : List Apart → List ℕ → Option (List ℕ)
-bytes_apart [] name = None
-bytes_apart (file ∷ more) name = if same_text file.name name then Some file.bytes
-    else bytes_apart more name
-
--- the bytes of a name where a job's lines read: among the files that stand apart, and in the folder
--- where there are none
-abbrev pub held_in : List Apart → Told → List ℕ → Option (List ℕ)
-held_in [] told name = map.get told.held name
-held_in (file ∷ more) told name = bytes_apart (file ∷ more) name
-
+-- the bytes of a name in the folder
 abbrev pub file_in : World → List ℕ → Option (List ℕ)
-file_in world name = held_in world.apart world.told name
+file_in world name = map.get world.told.held name
 
 -- what a move does to files
 pub data Handling : Type 0 where
@@ -66,7 +52,6 @@ handled (puts bytes) name told = after_put told name bytes
 abbrev pub made : Effect → World → World
 made effect world = record {
   told = handled effect.files effect.name world.told;
-  apart = world.apart;
   session = effect.session;
   text = world.text ++ effect.text;
 }

@@ -4,11 +4,10 @@ ghost use Rattle.geo_outside.specs.Count.{Rose};
 ghost use Rattle.job_run.specs.Acts.{does, effect};
 ghost use Rattle.job_run.specs.Moves.{sets_feed, takes};
 ghost use Rattle.job_run.specs.Seen.{seen};
-ghost use Rattle.job_run.specs.Sources.{LacksApart, file_named, read_room};
+ghost use Rattle.job_run.specs.Sources.{file_named, read_room};
 ghost use Rattle.job_run.specs.Stops.{Does, Fails, IsIn, IsPaid};
 ghost use Rattle.job_run.specs.World.{World};
 
-use crate::apart::Apart;
 use crate::dropping::drop_source;
 use crate::emitting::emit;
 use crate::marking::{compact, go_back, mark};
@@ -29,7 +28,6 @@ use update_session::laws::standing_stays;
 /// prints a report, keeps what is in force or goes back to it, or gives up nodes.
 pub(crate) fn do_step<R: Threads + Sync, F: Folder, O: Sink, G: Gate, L: Ledger>(
     forks: &Forks<R, G>,
-    apart: &[Apart],
     step: &Step,
     session: &mut Session,
     folder: &mut F,
@@ -37,21 +35,21 @@ pub(crate) fn do_step<R: Threads + Sync, F: Folder, O: Sink, G: Gate, L: Ledger>
     steps: &mut Steps<L>,
 ) -> Result<(), Stop>
     requires { sets_feed step.now.act ≡ false }
-    ensures done { (world : World) → IsIn apart.now (F.told folder.old) session.old world
+    ensures done { (world : World) → IsIn (F.told folder.old) session.old world
         → OnOk result (Does (does step.now) world session.new
         (seen (F.told folder.old) (O.written out.old) (O.faults out.old) steps.old)
         (seen (F.told folder.new) (O.written out.new) (O.faults out.new) steps.new)) }
-    ensures failed { (world : World) → IsIn apart.now (F.told folder.old) session.old world
+    ensures failed { (world : World) → IsIn (F.told folder.old) session.old world
         → IfErr result (λ why. Fails why (does step.now) world []
         (seen (F.told folder.old) (O.written out.old) (O.faults out.old) steps.old)
         (seen (F.told folder.new) (O.written out.new) (O.faults out.new) steps.new)) }
-    ensures paid { (world : World) → IsIn apart.now (F.told folder.old) session.old world
+    ensures paid { (world : World) → IsIn (F.told folder.old) session.old world
         → IsPaid (effect (does step.now) world) world steps.old steps.new }
     ensures not_words { result ≢ Err (Stop.Blocked Cause.Words) }
 
     ensures read_failed { result ≡ Err Stop.ReadFailed
         → Rose (F.read_faults folder.old) (F.read_faults folder.new) }
-    ensures missing { apart.now ≡ [] → result ≡ Err (Stop.Blocked Cause.Missing)
+    ensures missing { result ≡ Err (Stop.Blocked Cause.Missing)
         → Rose (F.misses folder.old) (F.misses folder.new) }
     ensures put_failed { result ≡ Err Stop.PutFailed
         → Rose (F.put_faults folder.old) (F.put_faults folder.new) }
@@ -60,10 +58,6 @@ pub(crate) fn do_step<R: Threads + Sync, F: Folder, O: Sink, G: Gate, L: Ledger>
     ensures read_faults { F.read_faults folder.old ≤ F.read_faults folder.new }
     ensures put_faults { F.put_faults folder.old ≤ F.put_faults folder.new }
     ensures misses { F.misses folder.old ≤ F.misses folder.new }
-    ensures missing_apart { result ≡ Err (Stop.Blocked Cause.Missing)
-        → Rose (F.misses folder.old) (F.misses folder.new) ⊎ LacksApart apart.now step.now.act }
-    ensures apart_only { apart.now ≢ [] → (result ≢ Err Stop.ReadFailed)
-        × (F.given folder.new ≤ F.given folder.old) }
     ensures faults { O.faults out.old ≤ O.faults out.new }
     ensures given { F.given folder.new ≤ F.given folder.old + read_room step.now.act }
 
@@ -78,13 +72,13 @@ pub(crate) fn do_step<R: Threads + Sync, F: Folder, O: Sink, G: Gate, L: Ledger>
     let alloc = forks.alloc;
     match &step.act {
         Act::Rpsl { slot, file } => {
-            set_dump(alloc, apart, slot.as_str(), file.as_str(), session, folder)
+            set_dump(alloc, slot.as_str(), file.as_str(), session, folder)
         }
         Act::Stats { slot, file } => {
-            set_stats(forks, apart, slot.as_str(), file.as_str(), session, folder)
+            set_stats(forks, slot.as_str(), file.as_str(), session, folder)
         }
         Act::Feed { .. } => unreachable!(),
-        Act::Overrides { file } => set_overrides(alloc, apart, file.as_str(), session, folder),
+        Act::Overrides { file } => set_overrides(alloc, file.as_str(), session, folder),
         Act::Drop(source) => drop_source(source, session),
         Act::Emit { file } => emit(forks, file.as_str(), session, folder, out, steps),
         Act::Report => print_report(alloc, session, out),

@@ -3,16 +3,15 @@ ghost use Rattle.std.specs.Prelude.{◌≡◌, ◌≢◌, ◌≤◌, ◌<◌, �
 ghost use Rattle.std.specs.Prelude.{true, IfErr, IfOk, OnErr, OnOk};
 ghost use Rattle.std.specs.List.{list_all};
 ghost use Rattle.geo_outside.specs.Count.{Rose};
-ghost use Rattle.job_run.specs.Moves.{LacksAt, alone, begins_feed, most_together, moves_by};
+ghost use Rattle.job_run.specs.Moves.{alone, begins_feed, most_together, moves_by};
 ghost use Rattle.job_run.specs.Moves.{read_rooms, sets_feed, takes};
 ghost use Rattle.job_run.specs.Parts.{DoesFirst, DoesPart, FailsAt, FailsPart};
 ghost use Rattle.job_run.specs.Seen.{seen};
-ghost use Rattle.job_run.specs.Sources.{LacksApart, read_room};
+ghost use Rattle.job_run.specs.Sources.{read_room};
 ghost use Rattle.job_run.specs.Stops.{DoesAll, IsIn, StopsAt};
 ghost use Rattle.job_run.specs.World.{World};
 
 use crate::acts::do_step;
-use crate::apart::Apart;
 use crate::feeds::set_together;
 use crate::journal::Journal;
 use crate::scope::Scope;
@@ -39,11 +38,9 @@ pub struct StepStop {
 /// that set and drop sources and keep and take what is in force. Neighbours that set feeds are
 /// done together, up to 16 of them.
 ///
-/// Sources are read from the files that stand apart, and from the folder where there are none. What
-/// is noticed on the way is written into the journal.
+/// What is noticed on the way is written into the journal.
 pub fn do_steps<R: Threads + Sync, F: Folder, O: Sink, G: Gate, L: Ledger>(
     forks: &Forks<R, G>,
-    apart: &[Apart],
     scope: Scope,
     job: &[Step],
     session: &mut Session,
@@ -52,12 +49,12 @@ pub fn do_steps<R: Threads + Sync, F: Folder, O: Sink, G: Gate, L: Ledger>(
     steps: &mut Steps<L>,
     journal: &mut Journal,
 ) -> Result<(), StepStop>
-    ensures done { (start : World) → IsIn apart.now (F.told folder.old) session.old start
+    ensures done { (start : World) → IsIn (F.told folder.old) session.old start
         → start.text ≡ []
         → OnOk result (DoesAll (moves_by scope job.now) start session.new
         (seen (F.told folder.old) (O.written out.old) (O.faults out.old) steps.old)
         (seen (F.told folder.new) (O.written out.new) (O.faults out.new) steps.new)) }
-    ensures stopped { (start : World) → IsIn apart.now (F.told folder.old) session.old start
+    ensures stopped { (start : World) → IsIn (F.told folder.old) session.old start
         → start.text ≡ []
         → IfErr result (λ stop. StopsAt stop.why stop.at (moves_by scope job.now) job.now start
         (seen (F.told folder.old) (O.written out.old) (O.faults out.old) steps.old)
@@ -67,7 +64,7 @@ pub fn do_steps<R: Threads + Sync, F: Folder, O: Sink, G: Gate, L: Ledger>(
 
     ensures read_failed { IfErr result (λ stop. stop.why ≡ Stop.ReadFailed
         → Rose (F.read_faults folder.old) (F.read_faults folder.new)) }
-    ensures missing { apart.now ≡ [] → IfErr result (λ stop. stop.why ≡ Stop.Blocked Cause.Missing
+    ensures missing { IfErr result (λ stop. stop.why ≡ Stop.Blocked Cause.Missing
         → Rose (F.misses folder.old) (F.misses folder.new)) }
     ensures put_failed { IfErr result (λ stop. stop.why ≡ Stop.PutFailed
         → Rose (F.put_faults folder.old) (F.put_faults folder.new)) }
@@ -77,11 +74,6 @@ pub fn do_steps<R: Threads + Sync, F: Folder, O: Sink, G: Gate, L: Ledger>(
     ensures put_faults { F.put_faults folder.old ≤ F.put_faults folder.new }
     ensures misses { F.misses folder.old ≤ F.misses folder.new }
 
-    // With files that stand apart nothing of the folder is read.
-    ensures missing_apart { IfErr result (λ stop. stop.why ≡ Stop.Blocked Cause.Missing
-        → Rose (F.misses folder.old) (F.misses folder.new) ⊎ LacksAt apart.now job.now stop.at) }
-    ensures apart_only { apart.now ≢ [] → IfErr result (λ stop. stop.why ≢ Stop.ReadFailed)
-        × (F.given folder.new ≤ F.given folder.old) }
     ensures faults { O.faults out.old ≤ O.faults out.new }
 
     // Each line reads no more than its file may have, or one more piece.
@@ -96,7 +88,7 @@ pub fn do_steps<R: Threads + Sync, F: Folder, O: Sink, G: Gate, L: Ledger>(
 {
     let mut at = 0;
     while at < job.len() {
-        match do_first(forks, apart, scope, &job[at..], session, folder, out, steps) {
+        match do_first(forks, scope, &job[at..], session, folder, out, steps) {
             Ok(count) => {
                 journal.notices.of_done(scope, job, at, count, session);
                 at += count;
@@ -116,7 +108,6 @@ pub fn do_steps<R: Threads + Sync, F: Folder, O: Sink, G: Gate, L: Ledger>(
 /// they were.
 fn do_first<R: Threads + Sync, F: Folder, O: Sink, G: Gate, L: Ledger>(
     forks: &Forks<R, G>,
-    apart: &[Apart],
     scope: Scope,
     rest: &[Step],
     session: &mut Session,
@@ -125,11 +116,11 @@ fn do_first<R: Threads + Sync, F: Folder, O: Sink, G: Gate, L: Ledger>(
     steps: &mut Steps<L>,
 ) -> Result<usize, StepStop>
     requires { 0 < length rest.now }
-    ensures done { (world : World) → IsIn apart.now (F.told folder.old) session.old world
+    ensures done { (world : World) → IsIn (F.told folder.old) session.old world
         → IfOk result (λ count. DoesFirst scope rest.now count world session.new
         (seen (F.told folder.old) (O.written out.old) (O.faults out.old) steps.old)
         (seen (F.told folder.new) (O.written out.new) (O.faults out.new) steps.new)) }
-    ensures stopped { (world : World) → IsIn apart.now (F.told folder.old) session.old world
+    ensures stopped { (world : World) → IsIn (F.told folder.old) session.old world
         → IfErr result (λ stop. FailsAt stop.why (moves_by scope rest.now) rest.now stop.at world
         (seen (F.told folder.old) (O.written out.old) (O.faults out.old) steps.old)
         (seen (F.told folder.new) (O.written out.new) (O.faults out.new) steps.new)) }
@@ -139,7 +130,7 @@ fn do_first<R: Threads + Sync, F: Folder, O: Sink, G: Gate, L: Ledger>(
 
     ensures read_failed { IfErr result (λ stop. stop.why ≡ Stop.ReadFailed
         → Rose (F.read_faults folder.old) (F.read_faults folder.new)) }
-    ensures missing { apart.now ≡ [] → IfErr result (λ stop. stop.why ≡ Stop.Blocked Cause.Missing
+    ensures missing { IfErr result (λ stop. stop.why ≡ Stop.Blocked Cause.Missing
         → Rose (F.misses folder.old) (F.misses folder.new)) }
     ensures put_failed { IfErr result (λ stop. stop.why ≡ Stop.PutFailed
         → Rose (F.put_faults folder.old) (F.put_faults folder.new)) }
@@ -148,10 +139,6 @@ fn do_first<R: Threads + Sync, F: Folder, O: Sink, G: Gate, L: Ledger>(
     ensures read_faults { F.read_faults folder.old ≤ F.read_faults folder.new }
     ensures put_faults { F.put_faults folder.old ≤ F.put_faults folder.new }
     ensures misses { F.misses folder.old ≤ F.misses folder.new }
-    ensures missing_apart { IfErr result (λ stop. stop.why ≡ Stop.Blocked Cause.Missing
-        → Rose (F.misses folder.old) (F.misses folder.new) ⊎ LacksAt apart.now rest.now stop.at) }
-    ensures apart_only { apart.now ≢ [] → IfErr result (λ stop. stop.why ≢ Stop.ReadFailed)
-        × (F.given folder.new ≤ F.given folder.old) }
     ensures faults { O.faults out.old ≤ O.faults out.new }
     ensures given { IfOk result (λ count. F.given folder.new + read_rooms (drop count rest.now)
         ≤ F.given folder.old + read_rooms rest.now) }
@@ -164,12 +151,12 @@ fn do_first<R: Threads + Sync, F: Folder, O: Sink, G: Gate, L: Ledger>(
 {
     let count = feeds_first(rest);
     if count > 0 {
-        return match set_together(forks, apart, &rest[..count], session, folder) {
+        return match set_together(forks, &rest[..count], session, folder) {
             Ok(()) => Ok(count),
             Err(stop) => Err(stop),
         };
     }
-    match do_alone(forks, apart, scope, &rest[0], session, folder, out, steps) {
+    match do_alone(forks, scope, &rest[0], session, folder, out, steps) {
         Ok(()) => Ok(1),
         Err(why) => Err(StepStop { at: 0, why }),
     }
@@ -178,7 +165,6 @@ fn do_first<R: Threads + Sync, F: Folder, O: Sink, G: Gate, L: Ledger>(
 /// Does a step that sets no feed, or passes over it where it is not one of those to be done.
 fn do_alone<R: Threads + Sync, F: Folder, O: Sink, G: Gate, L: Ledger>(
     forks: &Forks<R, G>,
-    apart: &[Apart],
     scope: Scope,
     step: &Step,
     session: &mut Session,
@@ -187,11 +173,11 @@ fn do_alone<R: Threads + Sync, F: Folder, O: Sink, G: Gate, L: Ledger>(
     steps: &mut Steps<L>,
 ) -> Result<(), Stop>
     requires { sets_feed step.now.act ≡ false }
-    ensures done { (world : World) → IsIn apart.now (F.told folder.old) session.old world
+    ensures done { (world : World) → IsIn (F.told folder.old) session.old world
         → OnOk result (DoesPart (alone scope step.now) world session.new
         (seen (F.told folder.old) (O.written out.old) (O.faults out.old) steps.old)
         (seen (F.told folder.new) (O.written out.new) (O.faults out.new) steps.new)) }
-    ensures stopped { (world : World) → IsIn apart.now (F.told folder.old) session.old world
+    ensures stopped { (world : World) → IsIn (F.told folder.old) session.old world
         → IfErr result (λ why. FailsPart why (alone scope step.now) step.now world
         (seen (F.told folder.old) (O.written out.old) (O.faults out.old) steps.old)
         (seen (F.told folder.new) (O.written out.new) (O.faults out.new) steps.new)) }
@@ -199,7 +185,7 @@ fn do_alone<R: Threads + Sync, F: Folder, O: Sink, G: Gate, L: Ledger>(
 
     ensures read_failed { result ≡ Err Stop.ReadFailed
         → Rose (F.read_faults folder.old) (F.read_faults folder.new) }
-    ensures missing { apart.now ≡ [] → result ≡ Err (Stop.Blocked Cause.Missing)
+    ensures missing { result ≡ Err (Stop.Blocked Cause.Missing)
         → Rose (F.misses folder.old) (F.misses folder.new) }
     ensures put_failed { result ≡ Err Stop.PutFailed
         → Rose (F.put_faults folder.old) (F.put_faults folder.new) }
@@ -208,10 +194,6 @@ fn do_alone<R: Threads + Sync, F: Folder, O: Sink, G: Gate, L: Ledger>(
     ensures read_faults { F.read_faults folder.old ≤ F.read_faults folder.new }
     ensures put_faults { F.put_faults folder.old ≤ F.put_faults folder.new }
     ensures misses { F.misses folder.old ≤ F.misses folder.new }
-    ensures missing_apart { result ≡ Err (Stop.Blocked Cause.Missing)
-        → Rose (F.misses folder.old) (F.misses folder.new) ⊎ LacksApart apart.now step.now.act }
-    ensures apart_only { apart.now ≢ [] → (result ≢ Err Stop.ReadFailed)
-        × (F.given folder.new ≤ F.given folder.old) }
     ensures faults { O.faults out.old ≤ O.faults out.new }
     ensures given { F.given folder.new ≤ F.given folder.old + read_room step.now.act }
     ensures still { scope ≡ Scope.Sources → (steps.new ≡ steps.old) × (out.new ≡ out.old)
@@ -222,7 +204,7 @@ fn do_alone<R: Threads + Sync, F: Folder, O: Sink, G: Gate, L: Ledger>(
     if !takes(scope, &step.act) {
         return Ok(());
     }
-    do_step(forks, apart, step, session, folder, out, steps)
+    do_step(forks, step, session, folder, out, steps)
 }
 
 /// How many of the first steps set feeds together: neighbours, up to 16.

@@ -10,9 +10,7 @@ ghost use Rattle.feed_refs.specs.Readings.{reading};
 ghost use Rattle.feed_refs.specs.declared.limits.TheConstants.{LONGEST_DUMP};
 ghost use Rattle.job_run.specs.Dumps.{IsDump, IsReadNoFurther, no_dump, refusal};
 ghost use Rattle.job_run.specs.Stops.{IsHindered};
-ghost use Rattle.job_run.specs.World.{bytes_apart, held_in};
 
-use crate::apart::{Apart, find_apart};
 use crate::stop::{Cause, Stop};
 use feed_refs::{DumpReader, LONGEST_DUMP};
 use geo_addr::Memory;
@@ -20,67 +18,14 @@ use geo_outside::{Folder, FolderErr, PIECE};
 use geo_terms::{Dump, SourceFault};
 use std::alloc::Global;
 
-/// The dump of a slot that is read where the lines of a job read: among the files that stand
-/// apart, and in the folder where there are none.
-pub(crate) fn dump_in<F: Folder>(
+/// Reads the dump of a slot from the file of this name, up to its end or to the piece with which
+/// it has too many bytes or references: no more than a piece of it is held.
+pub(crate) fn read_dump<F: Folder>(
     alloc: Global,
-    apart: &[Apart],
     folder: &mut F,
     slot: &str,
     name: &str,
 ) -> Result<Dump, Stop>
-    ensures found { (w : Told) → F.told folder.old ≡ Some w
-        → IfOk result (IsDump slot.now (held_in apart.now w name.now)) }
-    ensures unread { (w : Told) → F.told folder.old ≡ Some w → IfErr result (λ why. IsHindered why
-        (λ cause. no_dump slot.now (held_in apart.now w name.now) ≡ Some cause)) }
-    ensures reads { (result ≢ Err Stop.PutFailed) × (result ≢ Err Stop.SinkFailed)
-        × (result ≢ Err (Stop.Blocked Cause.Words)) }
-
-    ensures read_failed { result ≡ Err Stop.ReadFailed
-        → Rose (F.read_faults folder.old) (F.read_faults folder.new) }
-    ensures missing { apart.now ≡ [] → result ≡ Err (Stop.Blocked Cause.Missing)
-        → Rose (F.misses folder.old) (F.misses folder.new) }
-    ensures same { F.told folder.new ≡ F.told folder.old }
-    ensures read_faults { F.read_faults folder.old ≤ F.read_faults folder.new }
-    ensures put_faults { F.put_faults folder.old ≤ F.put_faults folder.new }
-    ensures misses { F.misses folder.old ≤ F.misses folder.new }
-    ensures missing_apart { result ≡ Err (Stop.Blocked Cause.Missing)
-        → Rose (F.misses folder.old) (F.misses folder.new)
-        ⊎ (bytes_apart apart.now name.now ≡ None) }
-    ensures apart_only { apart.now ≢ [] → (result ≢ Err Stop.ReadFailed)
-        × (F.given folder.new ≤ F.given folder.old) }
-    ensures given { F.given folder.new ≤ F.given folder.old + (LONGEST_DUMP + PIECE) }
-    ensures no_further { (w : Told) (file : List ℕ) → F.told folder.old ≡ Some w
-        → held_in apart.now w name.now ≡ Some file
-        → IsReadNoFurther slot.now file (F.given folder.old) (F.given folder.new) }
-{
-    if apart.is_empty() {
-        return read_dump(alloc, folder, slot, name);
-    }
-    match find_apart(apart, name) {
-        Some(bytes) => dump_of(alloc, slot, bytes),
-        None => Err(Stop::Blocked(Cause::Missing)),
-    }
-}
-
-/// The dump of a slot that these bytes are.
-fn dump_of(alloc: Global, slot: &str, bytes: &[u8]) -> Result<Dump, Stop>
-    ensures found { IfOk result (λ found. dump slot.now bytes.now ≡ Ok found) }
-    ensures refused { IfErr result (λ why. IsHindered why
-        (λ cause. refusal (dump slot.now bytes.now) ≡ Some cause)) }
-    ensures read_only { (result ≢ Err Stop.ReadFailed)
-        × (result ≢ Err (Stop.Blocked Cause.Missing)) }
-    ensures reads { (result ≢ Err Stop.PutFailed) × (result ≢ Err Stop.SinkFailed)
-        × (result ≢ Err (Stop.Blocked Cause.Words)) }
-{
-    let mut reader = DumpReader::new(alloc, slot)?;
-    feed_piece(&mut reader, bytes)?;
-    whole_dump(reader)
-}
-
-/// Reads the dump of a slot from the file of this name, up to its end or to the piece with which
-/// it has too many bytes or references: no more than a piece of it is held.
-fn read_dump<F: Folder>(alloc: Global, folder: &mut F, slot: &str, name: &str) -> Result<Dump, Stop>
     ensures found { (w : Told) → F.told folder.old ≡ Some w
         → IfOk result (IsDump slot.now (map.get w.held name.now)) }
     ensures unread { (w : Told) → F.told folder.old ≡ Some w

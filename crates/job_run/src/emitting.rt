@@ -12,7 +12,6 @@ ghost use Rattle.job_run.specs.Seen.{seen};
 ghost use Rattle.job_run.specs.Stops.{Does, Fails, IsIn, IsPaid};
 ghost use Rattle.job_run.specs.World.{World};
 
-use crate::apart::Apart;
 use crate::printing::print;
 use crate::stop::{Cause, Stop};
 use fan_work::Forks;
@@ -28,7 +27,7 @@ use update_session::laws::standing_stays;
 use update_session::{EmitFault, Session};
 
 /// Writes the file of the sources in force under this name, and prints its line.
-pub(crate) fn emit<R: Threads + Sync, F: Folder, O: Sink, G: Gate, L: Ledger>(
+pub fn emit<R: Threads + Sync, F: Folder, O: Sink, G: Gate, L: Ledger>(
     forks: &Forks<R, G>,
     name: &str,
     session: &mut Session,
@@ -36,22 +35,31 @@ pub(crate) fn emit<R: Threads + Sync, F: Folder, O: Sink, G: Gate, L: Ledger>(
     out: &mut O,
     steps: &mut Steps<L>,
 ) -> Result<(), Stop>
-    ensures done { (apart : List Apart) (step : Step) (world : World) → step.act ≡ Act.Emit name.now
-        → IsIn apart (F.told folder.old) session.old world
+    ensures done { (step : Step) (world : World) → step.act ≡ Act.Emit name.now
+        → IsIn (F.told folder.old) session.old world
         → OnOk result (Does (does step) world session.new
         (seen (F.told folder.old) (O.written out.old) (O.faults out.old) steps.old)
         (seen (F.told folder.new) (O.written out.new) (O.faults out.new) steps.new)) }
-    ensures failed { (apart : List Apart) (step : Step) (world : World)
+    ensures failed { (step : Step) (world : World)
         → step.act ≡ Act.Emit name.now
-        → IsIn apart (F.told folder.old) session.old world
+        → IsIn (F.told folder.old) session.old world
         → IfErr result (λ why. Fails why (does step) world []
         (seen (F.told folder.old) (O.written out.old) (O.faults out.old) steps.old)
         (seen (F.told folder.new) (O.written out.new) (O.faults out.new) steps.new)) }
-    ensures paid { (apart : List Apart) (step : Step) (world : World) → step.act ≡ Act.Emit name.now
-        → IsIn apart (F.told folder.old) session.old world
+    ensures paid { (step : Step) (world : World) → step.act ≡ Act.Emit name.now
+        → IsIn (F.told folder.old) session.old world
         → IsPaid (effect (does step) world) world steps.old steps.new }
     ensures writes { (result ≢ Err Stop.ReadFailed) × (result ≢ Err (Stop.Blocked Cause.Missing))
         × (result ≢ Err (Stop.Blocked Cause.Words)) }
+
+    // What becomes of the session, and how many steps are taken, whatever the folder tells.
+    ensures emitted { OnOk result (HasEmitted session.old session.new) }
+    ensures grown { HasGrown session.old session.new }
+    ensures spent { steps.new ≤ steps.old + bound session.old.touched session.old.state.sources }
+    ensures too_large { result ≡ Err (Stop.Blocked Cause.TooLarge)
+        → IsTrue (is_too_large session.old.state) ⊎ IsSpent session.old }
+    ensures causes { IfErr result (λ why. (why ≡ Stop.Blocked Cause.TooLarge)
+        ⊎ ((why ≡ Stop.PutFailed) ⊎ ((why ≡ Stop.SinkFailed) ⊎ (why ≡ Stop.Memory)))) }
 
     ensures put_failed { result ≡ Err Stop.PutFailed
         → Rose (F.put_faults folder.old) (F.put_faults folder.new) }

@@ -9,16 +9,15 @@ ghost use Rattle.geo_outside.specs.Files.{Told};
 ghost use Rattle.update_session.specs.Standing.{Standing, Stands};
 ghost use Rattle.job_run.specs.Feeds.{HaltsReading, IsFirstRefused, IsRead, Parses, RefusesParsing};
 ghost use Rattle.job_run.specs.Feeds.{no_read, with_feeds};
-ghost use Rattle.job_run.specs.Moves.{LacksAt, read_rooms, sets_feed, together};
+ghost use Rattle.job_run.specs.Moves.{read_rooms, sets_feed, together};
 ghost use Rattle.job_run.specs.Parts.{DoesPart, FailsAt};
 ghost use Rattle.job_run.specs.Seen.{Seen};
-ghost use Rattle.job_run.specs.Sources.{LacksApart, no_feed, read_room};
+ghost use Rattle.job_run.specs.Sources.{no_feed, read_room};
 ghost use Rattle.job_run.specs.Stops.{IsHindered, IsIn};
 ghost use Rattle.job_run.specs.World.{World};
 
-use crate::apart::Apart;
 use crate::course::StepStop;
-use crate::reading::read_source;
+use crate::reading::read_file;
 use crate::stop::{Cause, Stop};
 use fan_work::{Forks, Work, map_pieces};
 use feed_csv::{FEED_PART, LONGEST_FEED, read_feed, read_feed_by_parts};
@@ -58,7 +57,6 @@ impl<'a> Work<Held<'a>, Result<ReadyFeed, Stop>> for Parsing {
 /// Does lines that set feeds, at least one, together.
 pub(crate) fn set_together<R: Threads + Sync, F: Folder, G: Gate>(
     forks: &Forks<R, G>,
-    apart: &[Apart],
     group: &[Step],
     session: &mut Session,
     folder: &mut F,
@@ -66,10 +64,10 @@ pub(crate) fn set_together<R: Threads + Sync, F: Folder, G: Gate>(
     requires some { 0 < length group.now }
     requires feeds { list_all (λ s. sets_feed s.act) group.now ≡ true }
     ensures done { (now : Seen) (world : World) → now.told ≡ F.told folder.old
-        → IsIn apart.now now.told session.old world
+        → IsIn now.told session.old world
         → OnOk result (DoesPart (together group.now) world session.new now now) }
     ensures stopped { (now : Seen) (world : World) → now.told ≡ F.told folder.old
-        → IsIn apart.now now.told session.old world
+        → IsIn now.told session.old world
         → IfErr result
         (λ stop. FailsAt stop.why (together group.now) group.now stop.at world now now) }
     ensures at { IfErr result (λ stop. stop.at < length group.now) }
@@ -78,19 +76,15 @@ pub(crate) fn set_together<R: Threads + Sync, F: Folder, G: Gate>(
 
     ensures read_failed { IfErr result (λ stop. stop.why ≡ Stop.ReadFailed
         → Rose (F.read_faults folder.old) (F.read_faults folder.new)) }
-    ensures missing { apart.now ≡ [] → IfErr result (λ stop. stop.why ≡ Stop.Blocked Cause.Missing
+    ensures missing { IfErr result (λ stop. stop.why ≡ Stop.Blocked Cause.Missing
         → Rose (F.misses folder.old) (F.misses folder.new)) }
     ensures same { F.told folder.new ≡ F.told folder.old }
     ensures read_faults { F.read_faults folder.old ≤ F.read_faults folder.new }
     ensures put_faults { F.put_faults folder.old ≤ F.put_faults folder.new }
     ensures misses { F.misses folder.old ≤ F.misses folder.new }
-    ensures missing_apart { IfErr result (λ stop. stop.why ≡ Stop.Blocked Cause.Missing
-        → Rose (F.misses folder.old) (F.misses folder.new) ⊎ LacksAt apart.now group.now stop.at) }
-    ensures apart_only { apart.now ≢ [] → IfErr result (λ stop. stop.why ≢ Stop.ReadFailed)
-        × (F.given folder.new ≤ F.given folder.old) }
     ensures given { F.given folder.new ≤ F.given folder.old + read_rooms group.now }
 {
-    let held = match read_all(forks.alloc, apart, group, folder) {
+    let held = match read_all(forks.alloc, group, folder) {
         Ok(held) => held,
         Err(stop) => return Err(stop),
     };
@@ -114,15 +108,14 @@ const OUT_OF_MEMORY: StepStop = StepStop {
 /// Reads the files of lines that set feeds, in order.
 fn read_all<'a, F: Folder>(
     alloc: Global,
-    apart: &[Apart],
     group: &'a [Step],
     folder: &mut F,
 ) -> Result<Vec<Held<'a>>, StepStop>
     requires { list_all (λ s. sets_feed s.act) group.now ≡ true }
     ensures read { (w : Told) → F.told folder.old ≡ Some w
-        → IfOk result (λ held. AllZip (IsRead apart.now w) group.entry.now held.items) }
+        → IfOk result (λ held. AllZip (IsRead w) group.entry.now held.items) }
     ensures halted { (w : Told) → F.told folder.old ≡ Some w
-        → IfErr result (λ stop. HaltsReading apart.now w group.entry.now stop.why stop.at) }
+        → IfErr result (λ stop. HaltsReading w group.entry.now stop.why stop.at) }
     ensures long { IfOk result (λ held. length held.items ≡ length group.entry.now) }
     ensures at { IfErr result (λ stop. stop.at < length group.entry.now) }
     ensures reads { IfErr result (λ stop. (stop.why ≢ Stop.PutFailed) × (stop.why ≢ Stop.SinkFailed)
@@ -130,22 +123,17 @@ fn read_all<'a, F: Folder>(
 
     ensures read_failed { IfErr result (λ stop. stop.why ≡ Stop.ReadFailed
         → Rose (F.read_faults folder.old) (F.read_faults folder.new)) }
-    ensures missing { apart.now ≡ [] → IfErr result (λ stop. stop.why ≡ Stop.Blocked Cause.Missing
+    ensures missing { IfErr result (λ stop. stop.why ≡ Stop.Blocked Cause.Missing
         → Rose (F.misses folder.old) (F.misses folder.new)) }
     ensures same { F.told folder.new ≡ F.told folder.old }
     ensures read_faults { F.read_faults folder.old ≤ F.read_faults folder.new }
     ensures put_faults { F.put_faults folder.old ≤ F.put_faults folder.new }
     ensures misses { F.misses folder.old ≤ F.misses folder.new }
-    ensures missing_apart { IfErr result (λ stop. stop.why ≡ Stop.Blocked Cause.Missing
-        → Rose (F.misses folder.old) (F.misses folder.new)
-        ⊎ LacksAt apart.now group.entry.now stop.at) }
-    ensures apart_only { apart.now ≢ [] → IfErr result (λ stop. stop.why ≢ Stop.ReadFailed)
-        × (F.given folder.new ≤ F.given folder.old) }
     ensures given { F.given folder.new ≤ F.given folder.old + read_rooms group.entry.now }
 {
     let mut all = Vec::new(alloc);
     for (at, step) in group.iter().enumerate() {
-        match read_line(alloc, apart, step, folder) {
+        match read_line(alloc, step, folder) {
             Ok(held) => match all.push(held) {
                 Ok(()) => {}
                 Err(_) => return Err(StepStop {
@@ -160,39 +148,29 @@ fn read_all<'a, F: Folder>(
 }
 
 /// Reads the file of a line that sets a feed.
-fn read_line<'a, F: Folder>(
-    alloc: Global,
-    apart: &[Apart],
-    step: &'a Step,
-    folder: &mut F,
-) -> Result<Held<'a>, Stop>
+fn read_line<'a, F: Folder>(alloc: Global, step: &'a Step, folder: &mut F) -> Result<Held<'a>, Stop>
     requires { sets_feed step.now.act ≡ true }
     ensures read { (w : Told) → F.told folder.old ≡ Some w
-        → IfOk result (IsRead apart.now w step.entry.now) }
+        → IfOk result (IsRead w step.entry.now) }
     ensures unread { (w : Told) → F.told folder.old ≡ Some w → IfErr result (λ why. IsHindered why
-        (λ cause. no_read apart.now w step.entry.now ≡ Some cause)) }
+        (λ cause. no_read w step.entry.now ≡ Some cause)) }
     ensures reads { (result ≢ Err Stop.PutFailed) × (result ≢ Err Stop.SinkFailed)
         × (result ≢ Err (Stop.Blocked Cause.Words)) }
 
     ensures read_failed { result ≡ Err Stop.ReadFailed
         → Rose (F.read_faults folder.old) (F.read_faults folder.new) }
-    ensures missing { apart.now ≡ [] → result ≡ Err (Stop.Blocked Cause.Missing)
+    ensures missing { result ≡ Err (Stop.Blocked Cause.Missing)
         → Rose (F.misses folder.old) (F.misses folder.new) }
     ensures same { F.told folder.new ≡ F.told folder.old }
     ensures read_faults { F.read_faults folder.old ≤ F.read_faults folder.new }
     ensures put_faults { F.put_faults folder.old ≤ F.put_faults folder.new }
     ensures misses { F.misses folder.old ≤ F.misses folder.new }
-    ensures missing_apart { result ≡ Err (Stop.Blocked Cause.Missing)
-        → Rose (F.misses folder.old) (F.misses folder.new)
-        ⊎ LacksApart apart.now step.entry.now.act }
-    ensures apart_only { apart.now ≢ [] → (result ≢ Err Stop.ReadFailed)
-        × (F.given folder.new ≤ F.given folder.old) }
     ensures given { F.given folder.new ≤ F.given folder.old + read_room step.entry.now.act }
 {
     let Act::Feed { url, file } = &step.act else {
         unreachable!()
     };
-    match read_source(alloc, apart, folder, file.as_str(), LONGEST_FEED as u64) {
+    match read_file(alloc, folder, file.as_str(), LONGEST_FEED as u64) {
         Ok(bytes) => Ok(Held {
             url: url.as_str(),
             bytes,

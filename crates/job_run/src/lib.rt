@@ -2,7 +2,6 @@
 #![tactic(auto)]
 
 mod acts;
-mod apart;
 mod course;
 mod dropping;
 mod dumps;
@@ -19,9 +18,8 @@ mod setting;
 mod stop;
 
 pub use acts::name_of;
-pub use apart::Apart;
 pub use course::{StepStop, do_steps};
-pub use emitting::put;
+pub use emitting::{emit, put};
 pub use journal::{ActKind, Journal, NotDone};
 pub use notices::{LATE, MOST_NOTICES, Notice, NoticeKind, Notices};
 pub use printing::print;

@@ -1,6 +1,7 @@
 //! A source, read and set.
 ghost use Rattle.std.specs.Prelude.{◌≡◌, ◌≢◌, ◌⊎◌, ◌≤◌, ◌+◌, ℕ, List, [], IfErr, IfOk, None, OnErr};
 ghost use Rattle.std.specs.Prelude.{OnOk, Some};
+ghost use Rattle.std.specs.FinMap as map;
 ghost use Rattle.geo_outside.specs.Count.{Rose};
 ghost use Rattle.geo_outside.specs.Files.{Told};
 ghost use Rattle.geo_outside.specs.declared.whole.TheConstants.{PIECE};
@@ -10,13 +11,11 @@ ghost use Rattle.nro_stats.specs.declared.read.TheConstants.{LONGEST_STATS};
 ghost use Rattle.override_rows.specs.File.{overrides};
 ghost use Rattle.override_rows.specs.declared.read.TheConstants.{LONGEST_OVERRIDES};
 ghost use Rattle.job_run.specs.Dumps.{IsReadNoFurther};
-ghost use Rattle.job_run.specs.Sources.{IsSet, LacksApart, no_overrides, no_source, no_stats};
+ghost use Rattle.job_run.specs.Sources.{IsSet, no_overrides, no_source, no_stats};
 ghost use Rattle.job_run.specs.Stops.{IsHindered};
-ghost use Rattle.job_run.specs.World.{held_in};
 
-use crate::apart::Apart;
-use crate::dumps::dump_in;
-use crate::reading::read_source;
+use crate::dumps::read_dump;
+use crate::reading::read_file;
 use crate::stop::{Cause, Stop};
 use fan_work::Forks;
 use geo_outside::{Folder, Gate};
@@ -32,7 +31,6 @@ use update_session::Session;
 /// Sets the dump in this slot to what the file of this name holds.
 pub(crate) fn set_dump<F: Folder>(
     alloc: Global,
-    apart: &[Apart],
     slot: &str,
     name: &str,
     session: &mut Session,
@@ -40,9 +38,9 @@ pub(crate) fn set_dump<F: Folder>(
 ) -> Result<(), Stop>
     ensures set { (w : Told) → F.told folder.old ≡ Some w → OnOk result
         (IsSet (Act.Rpsl slot.now name.now)
-        (held_in apart.now w name.now) session.old session.new) }
+        (map.get w.held name.now) session.old session.new) }
     ensures unset { (w : Told) → F.told folder.old ≡ Some w → IfErr result (λ why. IsHindered why
-        (λ cause. no_source (Act.Rpsl slot.now name.now) (held_in apart.now w name.now)
+        (λ cause. no_source (Act.Rpsl slot.now name.now) (map.get w.held name.now)
         ≡ Some cause)) }
     ensures err { OnErr result (session.new ≡ session.old) }
     ensures reads { (result ≢ Err Stop.PutFailed) × (result ≢ Err Stop.SinkFailed)
@@ -50,23 +48,18 @@ pub(crate) fn set_dump<F: Folder>(
 
     ensures read_failed { result ≡ Err Stop.ReadFailed
         → Rose (F.read_faults folder.old) (F.read_faults folder.new) }
-    ensures missing { apart.now ≡ [] → result ≡ Err (Stop.Blocked Cause.Missing)
+    ensures missing { result ≡ Err (Stop.Blocked Cause.Missing)
         → Rose (F.misses folder.old) (F.misses folder.new) }
     ensures same { F.told folder.new ≡ F.told folder.old }
     ensures read_faults { F.read_faults folder.old ≤ F.read_faults folder.new }
     ensures put_faults { F.put_faults folder.old ≤ F.put_faults folder.new }
     ensures misses { F.misses folder.old ≤ F.misses folder.new }
-    ensures missing_apart { result ≡ Err (Stop.Blocked Cause.Missing)
-        → Rose (F.misses folder.old) (F.misses folder.new)
-        ⊎ LacksApart apart.now (Act.Rpsl slot.now name.now) }
-    ensures apart_only { apart.now ≢ [] → (result ≢ Err Stop.ReadFailed)
-        × (F.given folder.new ≤ F.given folder.old) }
     ensures given { F.given folder.new ≤ F.given folder.old + (LONGEST_DUMP + PIECE) }
     ensures no_further { (w : Told) (file : List ℕ) → F.told folder.old ≡ Some w
-        → held_in apart.now w name.now ≡ Some file
+        → map.get w.held name.now ≡ Some file
         → IsReadNoFurther slot.now file (F.given folder.old) (F.given folder.new) }
 {
-    let dump = match dump_in(alloc, apart, folder, slot, name) {
+    let dump = match read_dump(alloc, folder, slot, name) {
         Ok(dump) => dump,
         Err(why) => return Err(why),
     };
@@ -77,7 +70,6 @@ pub(crate) fn set_dump<F: Folder>(
 /// Sets the statistics file in this slot to what the file of this name holds.
 pub(crate) fn set_stats<R: Threads + Sync, F: Folder, G: Gate>(
     forks: &Forks<R, G>,
-    apart: &[Apart],
     slot: &str,
     name: &str,
     session: &mut Session,
@@ -85,9 +77,9 @@ pub(crate) fn set_stats<R: Threads + Sync, F: Folder, G: Gate>(
 ) -> Result<(), Stop>
     ensures set { (w : Told) → F.told folder.old ≡ Some w → OnOk result
         (IsSet (Act.Stats slot.now name.now)
-        (held_in apart.now w name.now) session.old session.new) }
+        (map.get w.held name.now) session.old session.new) }
     ensures unset { (w : Told) → F.told folder.old ≡ Some w → IfErr result (λ why. IsHindered why
-        (λ cause. no_source (Act.Stats slot.now name.now) (held_in apart.now w name.now)
+        (λ cause. no_source (Act.Stats slot.now name.now) (map.get w.held name.now)
         ≡ Some cause)) }
     ensures err { OnErr result (session.new ≡ session.old) }
     ensures reads { (result ≢ Err Stop.PutFailed) × (result ≢ Err Stop.SinkFailed)
@@ -95,20 +87,15 @@ pub(crate) fn set_stats<R: Threads + Sync, F: Folder, G: Gate>(
 
     ensures read_failed { result ≡ Err Stop.ReadFailed
         → Rose (F.read_faults folder.old) (F.read_faults folder.new) }
-    ensures missing { apart.now ≡ [] → result ≡ Err (Stop.Blocked Cause.Missing)
+    ensures missing { result ≡ Err (Stop.Blocked Cause.Missing)
         → Rose (F.misses folder.old) (F.misses folder.new) }
     ensures same { F.told folder.new ≡ F.told folder.old }
     ensures read_faults { F.read_faults folder.old ≤ F.read_faults folder.new }
     ensures put_faults { F.put_faults folder.old ≤ F.put_faults folder.new }
     ensures misses { F.misses folder.old ≤ F.misses folder.new }
-    ensures missing_apart { result ≡ Err (Stop.Blocked Cause.Missing)
-        → Rose (F.misses folder.old) (F.misses folder.new)
-        ⊎ LacksApart apart.now (Act.Stats slot.now name.now) }
-    ensures apart_only { apart.now ≢ [] → (result ≢ Err Stop.ReadFailed)
-        × (F.given folder.new ≤ F.given folder.old) }
     ensures given { F.given folder.new ≤ F.given folder.old + (LONGEST_STATS + PIECE) }
 {
-    let bytes = match read_source(forks.alloc, apart, folder, name, LONGEST_STATS as u64) {
+    let bytes = match read_file(forks.alloc, folder, name, LONGEST_STATS as u64) {
         Ok(bytes) => bytes,
         Err(why) => return Err(why),
     };
@@ -143,35 +130,29 @@ fn stats_of<R: Threads + Sync, G: Gate>(
 /// Sets the overrides to what the file of this name holds.
 pub(crate) fn set_overrides<F: Folder>(
     alloc: Global,
-    apart: &[Apart],
     name: &str,
     session: &mut Session,
     folder: &mut F,
 ) -> Result<(), Stop>
     ensures set { (w : Told) → F.told folder.old ≡ Some w → OnOk result
-        (IsSet (Act.Overrides name.now) (held_in apart.now w name.now) session.old session.new) }
+        (IsSet (Act.Overrides name.now) (map.get w.held name.now) session.old session.new) }
     ensures unset { (w : Told) → F.told folder.old ≡ Some w → IfErr result (λ why. IsHindered why
-        (λ cause. no_source (Act.Overrides name.now) (held_in apart.now w name.now) ≡ Some cause)) }
+        (λ cause. no_source (Act.Overrides name.now) (map.get w.held name.now) ≡ Some cause)) }
     ensures err { OnErr result (session.new ≡ session.old) }
     ensures reads { (result ≢ Err Stop.PutFailed) × (result ≢ Err Stop.SinkFailed)
         × (result ≢ Err (Stop.Blocked Cause.Words)) }
 
     ensures read_failed { result ≡ Err Stop.ReadFailed
         → Rose (F.read_faults folder.old) (F.read_faults folder.new) }
-    ensures missing { apart.now ≡ [] → result ≡ Err (Stop.Blocked Cause.Missing)
+    ensures missing { result ≡ Err (Stop.Blocked Cause.Missing)
         → Rose (F.misses folder.old) (F.misses folder.new) }
     ensures same { F.told folder.new ≡ F.told folder.old }
     ensures read_faults { F.read_faults folder.old ≤ F.read_faults folder.new }
     ensures put_faults { F.put_faults folder.old ≤ F.put_faults folder.new }
     ensures misses { F.misses folder.old ≤ F.misses folder.new }
-    ensures missing_apart { result ≡ Err (Stop.Blocked Cause.Missing)
-        → Rose (F.misses folder.old) (F.misses folder.new)
-        ⊎ LacksApart apart.now (Act.Overrides name.now) }
-    ensures apart_only { apart.now ≢ [] → (result ≢ Err Stop.ReadFailed)
-        × (F.given folder.new ≤ F.given folder.old) }
     ensures given { F.given folder.new ≤ F.given folder.old + (LONGEST_OVERRIDES + PIECE) }
 {
-    let bytes = match read_source(alloc, apart, folder, name, LONGEST_OVERRIDES as u64) {
+    let bytes = match read_file(alloc, folder, name, LONGEST_OVERRIDES as u64) {
         Ok(bytes) => bytes,
         Err(why) => return Err(why),
     };

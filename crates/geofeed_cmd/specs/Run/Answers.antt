@@ -145,8 +145,8 @@ abbrev pub IsAnswer : (command : Option Command) → (first : Told) → (answer 
 IsAnswer command first answer =
     ((ending first command).status ≡ answer) ⊎ Prevails command first answer
 
--- how the command `gen` may end: its files are there and within their limits, what it writes is
--- never too large, and nothing is dropped or gone back to
+-- how the command `gen` may end: it reads no file, its sources are within their limits, what it
+-- writes is never too large, and nothing is dropped or gone back to
 abbrev pub EndsGenerated : Status → Type 0
 EndsGenerated statuses.Done = Unit {0}
 EndsGenerated statuses.Memory = Unit {0}

@@ -1,14 +1,15 @@
 -- What always holds of an answer: which counts rose, and what stands after it.
-use Rattle.std.specs.Prelude.{◌≡◌, ◌≢◌, ◌⊎◌, ◌≤◌, ◌+◌, ℕ, false, Option, Some}
+use Rattle.std.specs.Prelude.{◌≡◌, ◌≢◌, ◌⊎◌, ◌≤◌, ◌+◌, ℕ, false, List, Option, Some}
 use Rattle.geo_outside.specs.Count.{Rose}
 use Rattle.geo_outside.specs.Files.{Told}
 use Rattle.geo_outside.specs.declared.folder.Folder as folders
 use Rattle.geo_outside.specs.declared.sink.Sink as sinks
 use Rattle.geofeed_cmd.specs.declared.status.Status.{Status}
 use Rattle.geofeed_cmd.specs.declared.status.Status.TheVariants as statuses
-use Rattle.job_lines.specs.Commands.{Command}
+use Rattle.job_lines.specs.Commands.{Command, gen}
 use Rattle.job_run.specs.Seen.{Seen, seen}
-use Rattle.geofeed_cmd.specs.Run.Answers.{Comes}
+use Rattle.geofeed_cmd.specs.Run.Answers.{Comes, EndsGenerated}
+use Rattle.geofeed_cmd.specs.Run.Ending.{ending}
 use Rattle.geofeed_cmd.specs.Run.Feeds.{PublishesFeed}
 use Rattle.geofeed_cmd.specs.Run.Plans.{is_command, puts_files, reads_folder, room_of, takes_steps}
 
@@ -57,12 +58,20 @@ pub record Ends {F : Type 0} (result : Status) (command : Option Command)
   pub unprinted : puts_files command ≡ false → result ≡ statuses.WriteFault
       → Rose old.seen.print_faults new.seen.print_faults
 
+-- what holds of an answer to `gen` whatever the folder and the sink tell: how it may end, and that
+-- no more steps are taken than where the folder tells any files
+pub record Generates (result : Status) (command : Option Command) (old new : Seen) : Type 0 where
+  pub ends : (lines : ℕ) (file : List ℕ) → command ≡ Some (gen lines file) → EndsGenerated result
+  pub bounded : (lines : ℕ) (file : List ℕ) (any : Told) → command ≡ Some (gen lines file)
+      → new.steps ≤ old.steps + (ending any command).spent
+
 -- all that holds of an answer to a command
 pub record Concludes {F : Type 0} (result : Status) (command : Option Command)
     (old new : Around F) : Type 0 where
   pub comes : ComesOut result command old new
   pub published : (first : Told) → old.seen.told ≡ Some first → result ≡ statuses.Done
       → PublishesFeed command first new.seen.told
+  pub generates : Generates result command old.seen new.seen
   pub ends : Ends result command old new
 
 -- what holds of an answer behind a job that was read

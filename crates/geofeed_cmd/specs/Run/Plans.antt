@@ -22,10 +22,10 @@ use Rattle.job_run.specs.World.{World, printing}
 use Rattle.job_lines.specs.Commands.{Command, build, lookup, explain, gen, publish, check}
 use Rattle.job_lines.specs.Commands.{census}
 use Rattle.geofeed_cmd.specs.Commands.Publish.{publishing}
-use Rattle.generated_job.specs.Job.{gen_start, gen_steps}
 use Rattle.geofeed_cmd.specs.Commands.Census.{counting}
 use Rattle.geofeed_cmd.specs.Commands.Check.{checking}
 use Rattle.geofeed_cmd.specs.Commands.Explain.{explaining}
+use Rattle.geofeed_cmd.specs.Commands.Generate.{gen_moves, gen_start}
 
 -- a command is refused at once, with the name that its stop line gives, or it makes these moves
 -- from this world on
@@ -37,7 +37,6 @@ pub data Plan : Type 0 where
 abbrev pub start_of : Told → Job → World
 start_of first accepted = record {
   told = first;
-  apart = [];
   session = begun_standing accepted.meta.epoch accepted.meta.name;
   text = [];
 }
@@ -73,7 +72,7 @@ plan_on known first name = job_plan known first name (held_job (map.get first.he
 
 -- a lookup has no session: there are the files alone
 abbrev pub alone : Told → World
-alone first = record { told = first; apart = []; session = begun_standing 0 []; text = [] }
+alone first = record { told = first; session = begun_standing 0 []; text = [] }
 
 -- the most bytes of a file that is looked up in
 abbrev pub longest_file : ℕ
@@ -107,7 +106,7 @@ plan_of first (Some (build name)) = plan_on (build name) first name
 plan_of first (Some (lookup name address)) =
     lookup_plan first name address (map.get first.held name)
 plan_of first (Some (explain name address)) = plan_on (explain name address) first name
-plan_of first (Some (gen lines file)) = planned (moves_of (gen_steps file)) (gen_start lines first)
+plan_of first (Some (gen lines file)) = planned (gen_moves lines file) (gen_start first)
 plan_of first (Some (publish name block file)) = plan_on (publish name block file) first name
 plan_of first (Some (check name url)) = plan_on (check name url) first name
 plan_of first (Some (census name)) = plan_on (census name) first name

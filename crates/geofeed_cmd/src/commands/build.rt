@@ -83,7 +83,7 @@ fn do_job<R: Threads + Sync, F: Folder, O: Sink, G: Gate, L: Ledger>(
         Ok(session) => session,
         Err(Memory) => return Status::Memory,
     };
-    let status = do_whole(&forks, &[], list, &mut session, folder, out, steps, journal);
+    let status = do_whole(&forks, list, &mut session, folder, out, steps, journal);
     // The process ends: its memory goes back whole, not source by source.
     forget(session);
     status

@@ -33,15 +33,15 @@ pub(crate) fn print_counts<R: Threads + Sync, O: Sink, G: Gate, L: Ledger>(
     out: &mut O,
     steps: &mut Steps<L>,
 ) -> Result<(), Stop>
-    ensures done { (told : Option Told) (world : World) → IsIn [] told session.old world
+    ensures done { (told : Option Told) (world : World) → IsIn told session.old world
         → OnOk result (Does (shows counting) world session.new
         (seen told (O.written out.old) (O.faults out.old) steps.old)
         (seen told (O.written out.new) (O.faults out.new) steps.new)) }
-    ensures failed { (told : Option Told) (world : World) → IsIn [] told session.old world
+    ensures failed { (told : Option Told) (world : World) → IsIn told session.old world
         → IfErr result (λ why. Fails why (shows counting) world []
         (seen told (O.written out.old) (O.faults out.old) steps.old)
         (seen told (O.written out.new) (O.faults out.new) steps.new)) }
-    ensures paid { (told : Option Told) (world : World) → IsIn [] told session.old world
+    ensures paid { (told : Option Told) (world : World) → IsIn told session.old world
         → IsPaid (effect (shows counting) world) world steps.old steps.new }
     ensures causes { IfErr result (λ why. (why ≡ Stop.Blocked Cause.TooLarge)
         ⊎ ((why ≡ Stop.SinkFailed) ⊎ (why ≡ Stop.Memory))) }

@@ -83,12 +83,12 @@ pub(crate) fn print_verdicts<O: Sink>(
     journal: &mut Journal,
 ) -> Result<(), Stop>
     ensures done { (told : Option Told) (steps : ℕ) (world : World)
-        → IsIn [] told session.now world
+        → IsIn told session.now world
         → OnOk result (Does (shows (checking url.now)) world session.now
         (seen told (O.written out.old) (O.faults out.old) steps)
         (seen told (O.written out.new) (O.faults out.new) steps)) }
     ensures failed { (told : Option Told) (steps : ℕ) (world : World)
-        → IsIn [] told session.now world
+        → IsIn told session.now world
         → IfErr result (λ why. Fails why (shows (checking url.now)) world []
         (seen told (O.written out.old) (O.faults out.old) steps)
         (seen told (O.written out.new) (O.faults out.new) steps)) }

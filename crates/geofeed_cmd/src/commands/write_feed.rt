@@ -41,15 +41,15 @@ pub(crate) fn write_feed<R: Threads + Sync, F: Folder, O: Sink, G: Gate, L: Ledg
 ) -> Result<(), Stop>
     requires aligned { IsBlock block }
     requires plain { IsPlain block }
-    ensures done { (world : World) → IsIn [] (F.told folder.old) session.old world
+    ensures done { (world : World) → IsIn (F.told folder.old) session.old world
         → OnOk result (Does (shows (publishing block name.now)) world session.new
         (seen (F.told folder.old) (O.written out.old) (O.faults out.old) steps.old)
         (seen (F.told folder.new) (O.written out.new) (O.faults out.new) steps.new)) }
-    ensures failed { (world : World) → IsIn [] (F.told folder.old) session.old world
+    ensures failed { (world : World) → IsIn (F.told folder.old) session.old world
         → IfErr result (λ why. Fails why (shows (publishing block name.now)) world []
         (seen (F.told folder.old) (O.written out.old) (O.faults out.old) steps.old)
         (seen (F.told folder.new) (O.written out.new) (O.faults out.new) steps.new)) }
-    ensures paid { (world : World) → IsIn [] (F.told folder.old) session.old world
+    ensures paid { (world : World) → IsIn (F.told folder.old) session.old world
         → IsPaid (effect (shows (publishing block name.now)) world) world steps.old steps.new }
     ensures causes { IfErr result (λ why. (why ≡ Stop.Blocked Cause.TooLarge)
         ⊎ ((why ≡ Stop.PutFailed) ⊎ ((why ≡ Stop.SinkFailed) ⊎ (why ≡ Stop.Memory)))) }

@@ -1,13 +1,12 @@
-//! How the steps of a job are done with files that stand apart, and how much of it. At which step
-//! it stops was counted by hand.
+//! How the steps of a job are done, and how much of it. At which step it stops was counted by hand.
 ghost use Rattle.std.specs.Prelude.{◌≡◌, ◌<◌, ◌≤◌, length, IfOk};
 
 use super::{Files, empty_folder, empty_sink, hold_all};
 use fan_work::Forks;
-use geo_addr::{Bytes, Memory, Text};
+use geo_addr::{Memory, Text};
 use geo_outside::{MemFolder, MemSink, OpenGate, Steps};
 use job_lines::{Job, read_job};
-use job_run::{Apart, Cause, Journal, Scope, StepStop, Stop, do_steps};
+use job_run::{Cause, Journal, Scope, StepStop, Stop, do_steps};
 use mmdb_file::Meta;
 use std::alloc::Global;
 use std::marker::{Brand, Sync};
@@ -36,11 +35,10 @@ fn job() -> &'static str {
     JOB
 }
 
-/// The files of the folder and those that stand apart, how much is done, the step at which it
-/// stops, in what way, and what is printed.
+/// The files of the folder, how much is done, the step at which it stops, in what way, and what is
+/// printed.
 struct Row {
     held: Files,
-    apart: Files,
     scope: Scope,
     at: usize,
     way: &'static str,
@@ -50,7 +48,6 @@ struct Row {
 static ROWS: [Row; 4] = [
     Row {
         held: SOURCES,
-        apart: &[],
         scope: Scope::Whole,
         at: 0,
         way: "done",
@@ -58,15 +55,13 @@ static ROWS: [Row; 4] = [
     },
     Row {
         held: &[],
-        apart: SOURCES,
         scope: Scope::Whole,
         at: 0,
-        way: "done",
-        printed: "notes 0\n",
+        way: "missing",
+        printed: "",
     },
     Row {
-        held: SOURCES,
-        apart: &[("d", b"")],
+        held: &[("d", b"")],
         scope: Scope::Whole,
         at: 1,
         way: "missing",
@@ -74,7 +69,6 @@ static ROWS: [Row; 4] = [
     },
     Row {
         held: SOURCES,
-        apart: &[],
         scope: Scope::Sources,
         at: 0,
         way: "done",
@@ -97,21 +91,6 @@ fn word_of(ended: Result<(), StepStop>) -> (usize, &'static str) {
         ) => (at, "missing"),
         Err(StepStop { at, why: _ }) => (at, "stopped otherwise"),
     }
-}
-
-fn one_apart(alloc: Global, name: &str, bytes: &[u8]) -> Result<Apart, Memory> {
-    Ok(Apart {
-        name: Text::of(alloc, name)?,
-        bytes: Bytes::of(alloc, bytes)?,
-    })
-}
-
-fn apart_of(alloc: Global, files: Files) -> Result<Vec<Apart>, Memory> {
-    let mut apart = Vec::new(alloc);
-    for file in files {
-        apart.push(one_apart(alloc, file.0, file.1)?)?;
-    }
-    Ok(apart)
 }
 
 fn folder_of(alloc: Global, files: Files) -> Result<MemFolder, Memory> {
@@ -137,7 +116,6 @@ fn session_of(alloc: Global) -> Result<Session, Memory> {
 /// What the steps of the job are done with.
 #[derive(Drop)]
 struct World {
-    apart: Vec<Apart>,
     job: Job,
     session: Session,
     folder: MemFolder,
@@ -145,14 +123,12 @@ struct World {
 }
 
 fn world_of(alloc: Global, row: &Row) -> Result<World, Fail> {
-    let apart = apart_of(alloc, row.apart)?;
     let job = read_job(alloc, job().as_bytes())?;
     let folder = folder_of(alloc, row.held)?;
     let out = empty_sink(alloc, 0)?;
     // The session last, so that it is let go on no way out.
     let session = session_of(alloc)?;
     Ok(World {
-        apart,
         job,
         session,
         folder,
@@ -181,7 +157,6 @@ fn done<R: Threads + Sync, L: Ledger>(
     };
     do_steps(
         &forks,
-        world.apart.as_slice(),
         scope,
         world.job.steps.as_slice(),
         &mut world.session,

@@ -7,9 +7,7 @@ use Rattle.geofeed_cmd.specs.Run.Answers.{IsAnswer}
 use Rattle.geofeed_cmd.specs.Run.Plans.{reads_folder}
 use Rattle.geofeed_cmd.proofs.AnswerLemmas.{answered}
 use Rattle.geofeed_cmd.proofs.CauseLemmas.{caused, certain}
-use Rattle.geofeed_cmd.proofs.GenEndLemmas.{gen_ends}
 use Rattle.geofeed_cmd.proofs.HeadlineLemmas.{done_of, least_by_value, no_fault, published_at}
-use Rattle.geofeed_cmd.proofs.WordLemmas.{command_few}
 use Rattle.geofeed_cmd.proofs.command.run.Goals as goal
 
 pub returns-clause-done : goal.returns-clause-done
@@ -60,13 +58,3 @@ returns-clause-complete g c =
     (certain (command_of (map string_bytes c.args.words.now)) first c.run_told.result
     (answered c.run_told.result (command_of (map string_bytes c.args.words.now)) first _ _ _ _
     (c.run_told.ensures.leaves.comes first told)) statuses.Done free)
-
-pub returns-clause-generated : goal.returns-clause-generated
-returns-clause-generated g c =
-    λ first lines file told its.
-    let words = map string_bytes c.args.words.now in
-    let answer = answered c.run_told.result (command_of words) first _ _ _ _
-    (c.run_told.ensures.leaves.comes first told) in
-    gen_ends lines file first (command_few lines file words its) c.run_told.result
-    (subst (λ (o : Option Command). IsAnswer o first c.run_told.result) its answer)
-    (λ fault. (c.run_told.ensures.leaves.ends.unread (ap reads_folder its)).0 fault)

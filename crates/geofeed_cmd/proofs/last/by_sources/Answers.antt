@@ -7,6 +7,7 @@ use Rattle.job_run.specs.Moves.{read_rooms}
 use Rattle.geofeed_cmd.specs.Commands.Last.{ending_with}
 use Rattle.geofeed_cmd.specs.Run.Plans.{held_job, job_room, room_of}
 use Rattle.geofeed_cmd.proofs.AnswerLemmas.{comes_earlier, comes_hindered}
+use Rattle.geofeed_cmd.proofs.GenEndLemmas.{none_generated}
 use Rattle.geofeed_cmd.proofs.LastCommands.{last_hindered, last_planned, least_room, of_job}
 use Rattle.geofeed_cmd.proofs.StatusLemmas.{done_answer, status_causes}
 use Rattle.geofeed_cmd.proofs.last.by_sources.Goals as goal
@@ -33,6 +34,7 @@ returns-in-Ok g c =
         published = λ first told done.
             c.by_job.ensures.published first (c.job_in.ensures.same ∙ told) name
             (last_planned name last first c.in-Ok.job (c.in-Ok.ensures.job first told)) done;
+        generates = none_generated _ _ _ _ its.reads;
         ends = record {
           words = λ is. absurd (c.by_job.ensures.signs.not_words is);
           none = λ none. let is = its.is in absurd (cc);
@@ -75,6 +77,7 @@ returns-in-Err g c =
             (c.job_in.ensures.same ∙ told) c.stop_at.ensures.stopped steps;
         published = λ first told done.
             absurd (done_answer c.in-Err.why c.stop_at.result c.stop_at.ensures.status done);
+        generates = none_generated _ _ _ _ its.reads;
         ends = record {
           words = search (rules, status_causes);
           none = λ none. let is = its.is in absurd (cc);

@@ -19,7 +19,6 @@ returns-in-Ok-do_steps-clause-ok g c =
     c.standing_stays.ensures.begins meta.epoch meta.name c.in-Ok.session c.in-Ok.ensures in
     let all = c.in-Ok-do_steps.ensures.done start (record {
       tells = told;
-      aside = refl;
       stands = begun;
     }) refl in
     rw c.as_slice-list.ensures at all
@@ -36,7 +35,6 @@ returns-clause-err g c =
     (sym c.as_slice-list.ensures) in
     let stop = c.in-Err-do_steps.ensures.stopped start (record {
       tells = told;
-      aside = refl;
       stands = begun;
     }) refl in
     let later = c.stop_in.ensures.faults in

@@ -3,7 +3,6 @@ use Rattle.std.proofs.Common.{inl, inr, arith}
 use Rattle.geo_outside.specs.Count.{Rose}
 use Rattle.job_run.specs.Moves.{moves_of}
 use Rattle.geofeed_cmd.proofs.AnswerLemmas.{comes_done, comes_stop}
-use Rattle.geofeed_cmd.proofs.StatusLemmas.{missing_answer}
 use Rattle.geofeed_cmd.proofs.whole.do_whole.Goals as goal
 
 pub returns-in-Ok-clause-comes : goal.returns-in-Ok-clause-comes
@@ -26,12 +25,3 @@ returns-in-Err-clause-comes g c =
     c.in-Err.ensures.put_failed
     (λ sink. let rose : Rose (g.O.Sink.faults c.args.out.now) (g.O.Sink.faults c.do_steps.new.out) =
     c.in-Err.ensures.sink_failed sink in omega arith)
-
-pub returns-in-Err-clause-missing_apart : goal.returns-in-Err-clause-missing_apart
-returns-in-Err-clause-missing_apart g c =
-    λ gone.
-    elim (c.in-Err.ensures.missing_apart
-    (missing_answer c.in-Err.stop.why c.stop_in.result c.stop_in.ensures.status gone)) [
-      | inl rose ↦ inl rose
-      | inr lacks ↦ inr (c.in-Err.stop.at, lacks)
-    ]

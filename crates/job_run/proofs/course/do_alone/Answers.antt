@@ -14,7 +14,7 @@ returns-then-not-takes-clause-done g c world here =
     (g.O.Sink.faults c.args.out.now) c.args.steps.now in
     subst (λ (moves : List Move). DoesPart moves world c.args.session.now now now)
     (sym (alone_none c.args.scope c.args.step.now (search rules)))
-    (part_none world c.args.apart.now c.args.session.now now here)
+    (part_none world c.args.session.now now here)
 
 pub returns-clause-done : goal.returns-clause-done
 returns-clause-done g c world here =

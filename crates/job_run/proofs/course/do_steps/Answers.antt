@@ -5,20 +5,19 @@ use Rattle.job_run.specs.Parts.{DoesFirst, FailsAt}
 use Rattle.job_run.specs.Seen.{seen}
 use Rattle.job_run.proofs.MoveLemmas.{all_done, drop-both, first_fails, first_more, first_none}
 use Rattle.job_run.proofs.MoveLemmas.{rest_of}
-use Rattle.job_run.proofs.RunLemmas.{stands_on, stop_of}
+use Rattle.job_run.proofs.RunLemmas.{stop_of}
 use Rattle.job_run.proofs.course.do_steps.Goals as goal
 
 pub loop-at-init : goal.loop-at-init
 loop-at-init g c = record {
   within = omega arith;
-  does = λ start here. first_none c.args.scope c.args.job.now start c.args.apart.now
+  does = λ start here. first_none c.args.scope c.args.job.now start
       c.args.session.now _ here;
   read_faults = omega arith;
   put_faults = omega arith;
   misses = omega arith;
   faults = omega arith;
   given = omega arith;
-  apart_only = λ apart. omega arith;
   still = λ sources. (refl, refl, refl);
 }
 
@@ -44,16 +43,12 @@ loop-at-preserved g c =
           (subst (λ (list : List Step). DoesFirst c.args.scope list c.in-Ok.count first.part.then
           c.do_first.new.session mid new) (rest_of c.args.job.now c.loop-at.at)
           (c.in-Ok.ensures.done first.part.then
-          (stands_on c.args.apart.now start here first.part.stands)));
+          first.part.stands));
       read_faults = omega arith;
       put_faults = omega arith;
       misses = omega arith;
       faults = omega arith;
       given = omega (arith, rooms, rooms_now, rooms_next, given);
-      apart_only = λ apart.
-          let before = c.loop-at.invariant.apart_only apart in
-          let now = c.do_first.ensures.apart_only apart in
-          omega (arith, before, now.1);
       still = λ sources.
           let before = c.loop-at.invariant.still sources in
           let now = c.do_first.ensures.still sources in
@@ -77,7 +72,7 @@ returns-in-Err-clause-stopped g c start here blank =
     (moves_by c.args.scope list) list c.in-Err.stop.at first.part.then mid new)
     (rest_of c.args.job.now c.loop-at.at)
     (c.in-Err.ensures.stopped first.part.then
-    (stands_on c.args.apart.now start here first.part.stands))))
+    first.part.stands)))
 
 pub returns-clause-done : goal.returns-clause-done
 returns-clause-done g c start here blank =

@@ -14,7 +14,7 @@ invariant-loop-at g l =
     let O = g.O.Sink in
     record {
       within : l.at ≤ length l.job;
-      does : (start : World) → IsIn l.apart (F.told l.fn.folder) l.fn.session start
+      does : (start : World) → IsIn (F.told l.fn.folder) l.fn.session start
           → DoesFirst l.scope l.job l.at start l.session
           (seen (F.told l.fn.folder) (O.written l.fn.out) (O.faults l.fn.out) l.fn.steps)
           (seen (F.told l.folder) (O.written l.out) (O.faults l.out) l.steps);
@@ -24,7 +24,6 @@ invariant-loop-at g l =
       faults : O.faults l.fn.out ≤ O.faults l.out;
       given : F.given l.folder + read_rooms
           (drop l.at l.job) ≤ F.given l.fn.folder + read_rooms l.job;
-      apart_only : l.apart ≢ [] → F.given l.folder ≤ F.given l.fn.folder;
       still : l.scope ≡ Sources → (l.steps ≡ l.fn.steps) × (l.out ≡ l.fn.out)
           × (F.told l.folder ≡ F.told l.fn.folder);
     }

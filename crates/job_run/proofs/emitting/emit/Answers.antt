@@ -6,9 +6,9 @@ use Rattle.job_run.proofs.EmitLemmas.{does_emit, fails_early, fails_print, fails
 use Rattle.job_run.proofs.emitting.emit.Goals as goal
 
 pub returns-in-Ok-put-clause-done : goal.returns-in-Ok-put-clause-done
-returns-in-Ok-put-clause-done g c apart step world is here =
+returns-in-Ok-put-clause-done g c step world is here =
     for_ok c.print.result _ _ c.print.ensures.printed
-    (does_emit c.standing_stays.ensures step world c.args.name.now c.args.session.now is apart
+    (does_emit c.standing_stays.ensures step world c.args.name.now c.args.session.now is
     (seen (g.F.Folder.told c.args.folder.now) (g.O.Sink.written c.args.out.now)
     (g.O.Sink.faults c.args.out.now) c.args.steps.now)
     (seen (g.F.Folder.told c.put.new.folder) (g.O.Sink.written c.print.new.out)
@@ -19,10 +19,10 @@ returns-in-Ok-put-clause-done g c apart step world is here =
     (c.as_str.ensures ∙ c.in-Ok-emit_line.ensures))
 
 pub returns-in-Ok-put-clause-failed : goal.returns-in-Ok-put-clause-failed
-returns-in-Ok-put-clause-failed g c apart step world is here =
+returns-in-Ok-put-clause-failed g c step world is here =
     for_both c.print.result _ _ _ c.print.ensures.causes c.print.ensures.tail
     (λ why causes tail. fails_print c.standing_stays.ensures step world c.args.name.now
-    c.args.session.now is apart
+    c.args.session.now is
     (seen (g.F.Folder.told c.args.folder.now) (g.O.Sink.written c.args.out.now)
     (g.O.Sink.faults c.args.out.now) c.args.steps.now)
     (seen (g.F.Folder.told c.put.new.folder) (g.O.Sink.written c.print.new.out)
@@ -32,8 +32,8 @@ returns-in-Ok-put-clause-failed g c apart step world is here =
     (c.as_str.ensures ∙ c.in-Ok-emit_line.ensures) causes tail)
 
 pub returns-clause-failed : goal.returns-clause-failed
-returns-clause-failed g c apart step world is here =
-    fails_put c.standing_stays.ensures step world c.args.name.now c.args.session.now is apart
+returns-clause-failed g c step world is here =
+    fails_put c.standing_stays.ensures step world c.args.name.now c.args.session.now is
     (seen (g.F.Folder.told c.args.folder.now) (g.O.Sink.written c.args.out.now)
     (g.O.Sink.faults c.args.out.now) c.args.steps.now)
     (seen (g.F.Folder.told c.put.new.folder) (g.O.Sink.written c.args.out.now)
@@ -44,8 +44,8 @@ returns-clause-failed g c apart step world is here =
     (λ out. c.in-Err-put.ensures.memory (cc))
 
 pub returns-in-Err-clause-failed : goal.returns-in-Err-clause-failed
-returns-in-Err-clause-failed g c apart step world is here =
-    fails_early c.standing_stays.ensures step world c.args.name.now c.args.session.now is apart
+returns-in-Err-clause-failed g c step world is here =
+    fails_early c.standing_stays.ensures step world c.args.name.now c.args.session.now is
     (seen (g.F.Folder.told c.args.folder.now) (g.O.Sink.written c.args.out.now)
     (g.O.Sink.faults c.args.out.now) c.args.steps.now)
     (seen (g.F.Folder.told c.args.folder.now) (g.O.Sink.written c.args.out.now)
@@ -54,8 +54,8 @@ returns-in-Err-clause-failed g c apart step world is here =
     (λ large. c.in-Err.ensures.too_large (ap Err large))
 
 pub returns-in-Err-clause-paid : goal.returns-in-Err-clause-paid
-returns-in-Err-clause-paid g c apart step world is here =
-    paid_emit c.standing_stays.ensures step world c.args.name.now c.args.session.now is apart
+returns-in-Err-clause-paid g c step world is here =
+    paid_emit c.standing_stays.ensures step world c.args.name.now c.args.session.now is
     (seen (g.F.Folder.told c.args.folder.now) (g.O.Sink.written c.args.out.now)
     (g.O.Sink.faults c.args.out.now) c.args.steps.now)
     (seen (g.F.Folder.told c.args.folder.now) (g.O.Sink.written c.args.out.now)
@@ -63,8 +63,8 @@ returns-in-Err-clause-paid g c apart step world is here =
     here c.args.steps.now c.emitted.new.steps c.emitted.ensures.spent
 
 pub returns-in-Err-emit_line-clause-paid : goal.returns-in-Err-emit_line-clause-paid
-returns-in-Err-emit_line-clause-paid g c apart step world is here =
-    paid_emit c.standing_stays.ensures step world c.args.name.now c.args.session.now is apart
+returns-in-Err-emit_line-clause-paid g c step world is here =
+    paid_emit c.standing_stays.ensures step world c.args.name.now c.args.session.now is
     (seen (g.F.Folder.told c.args.folder.now) (g.O.Sink.written c.args.out.now)
     (g.O.Sink.faults c.args.out.now) c.args.steps.now)
     (seen (g.F.Folder.told c.args.folder.now) (g.O.Sink.written c.args.out.now)
@@ -72,8 +72,8 @@ returns-in-Err-emit_line-clause-paid g c apart step world is here =
     here c.args.steps.now c.emitted.new.steps c.emitted.ensures.spent
 
 pub returns-in-Ok-put-clause-paid : goal.returns-in-Ok-put-clause-paid
-returns-in-Ok-put-clause-paid g c apart step world is here =
-    paid_emit c.standing_stays.ensures step world c.args.name.now c.args.session.now is apart
+returns-in-Ok-put-clause-paid g c step world is here =
+    paid_emit c.standing_stays.ensures step world c.args.name.now c.args.session.now is
     (seen (g.F.Folder.told c.args.folder.now) (g.O.Sink.written c.args.out.now)
     (g.O.Sink.faults c.args.out.now) c.args.steps.now)
     (seen (g.F.Folder.told c.args.folder.now) (g.O.Sink.written c.args.out.now)
@@ -81,8 +81,8 @@ returns-in-Ok-put-clause-paid g c apart step world is here =
     here c.args.steps.now c.emitted.new.steps c.emitted.ensures.spent
 
 pub returns-clause-paid : goal.returns-clause-paid
-returns-clause-paid g c apart step world is here =
-    paid_emit c.standing_stays.ensures step world c.args.name.now c.args.session.now is apart
+returns-clause-paid g c step world is here =
+    paid_emit c.standing_stays.ensures step world c.args.name.now c.args.session.now is
     (seen (g.F.Folder.told c.args.folder.now) (g.O.Sink.written c.args.out.now)
     (g.O.Sink.faults c.args.out.now) c.args.steps.now)
     (seen (g.F.Folder.told c.args.folder.now) (g.O.Sink.written c.args.out.now)

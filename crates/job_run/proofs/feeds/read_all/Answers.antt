@@ -13,7 +13,7 @@ returns-in-Err-push-clause-halted g c w told = record {
   step = c.index-group-at.result;
   named = slice_get_read c.args.group.now _ c.loop-at.at c.index-group-at.result refl
       c.loop-at-test.true c.index-group-at.is;
-  before = read_before c.args.apart.now w c.args.group.now c.loop-at.at c.loop-at.all.items
+  before = read_before w c.args.group.now c.loop-at.at c.loop-at.all.items
       (c.loop-at.invariant.read w told);
   hindered = tt;
 }
@@ -23,7 +23,7 @@ returns-in-Err-clause-halted g c w told = record {
   step = c.index-group-at.result;
   named = slice_get_read c.args.group.now _ c.loop-at.at c.index-group-at.result refl
       c.loop-at-test.true c.index-group-at.is;
-  before = read_before c.args.apart.now w c.args.group.now c.loop-at.at c.loop-at.all.items
+  before = read_before w c.args.group.now c.loop-at.at c.loop-at.all.items
       (c.loop-at.invariant.read w told);
   hindered = c.in-Err.ensures.unread w (search rules);
 }
@@ -39,7 +39,7 @@ loop-at-preserved g c =
     let long = c.loop-at.invariant.long in
     record {
       read = λ w told.
-          reads_pushed c.args.apart.now w c.args.group.now c.loop-at.all.items c.push.new.self.items
+          reads_pushed w c.args.group.now c.loop-at.all.items c.push.new.self.items
           c.loop-at.at c.index-group-at.result c.in-Ok.held
           c.loop-at-test.true c.index-group-at.is (c.loop-at.invariant.read w told)
           (c.in-Ok.ensures.read w (search rules)) pushed;
@@ -48,23 +48,5 @@ loop-at-preserved g c =
       read_faults = omega arith;
       put_faults = omega arith;
       misses = omega arith;
-      apart_only = λ apart.
-          let before = c.loop-at.invariant.apart_only apart in
-          let now = c.read_line.ensures.apart_only apart in
-          omega (arith, before, now.1);
       given = omega (arith, rooms);
     }
-
-pub returns-in-Err-clause-missing_apart : goal.returns-in-Err-clause-missing_apart
-returns-in-Err-clause-missing_apart g c missing =
-    let before = c.loop-at.invariant.misses in
-    elim (c.in-Err.ensures.missing_apart (ap Err missing)) [
-      | inl rose ↦ inl (let now : Rose (g.F.Folder.misses c.loop-at.folder)
-          (g.F.Folder.misses c.read_line.new.folder) = rose in omega (arith, before, now))
-      | inr lacks ↦ inr (record {
-        step = c.index-group-at.result;
-        named = slice_get_read c.args.group.now _ c.loop-at.at c.index-group-at.result refl
-            c.loop-at-test.true c.index-group-at.is;
-        lacks = lacks;
-      })
-    ]

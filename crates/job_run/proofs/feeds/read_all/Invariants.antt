@@ -11,13 +11,12 @@ invariant-loop-at g l =
     let F = g.F.Folder in
     record {
       read : (w : Told) → F.told l.fn.folder ≡ Some w
-          → AllZip (IsRead l.apart w) (take l.at l.group) l.all.items;
+          → AllZip (IsRead w) (take l.at l.group) l.all.items;
       long : length l.all.items ≡ l.at;
       same : F.told l.folder ≡ F.told l.fn.folder;
       read_faults : F.read_faults l.fn.folder ≤ F.read_faults l.folder;
       put_faults : F.put_faults l.fn.folder ≤ F.put_faults l.folder;
       misses : F.misses l.fn.folder ≤ F.misses l.folder;
-      apart_only : l.apart ≢ [] → F.given l.folder ≤ F.given l.fn.folder;
       given : F.given l.folder + read_rooms
           (drop l.at l.group) ≤ F.given l.fn.folder + read_rooms l.group;
     }

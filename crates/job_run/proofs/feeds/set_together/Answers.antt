@@ -1,18 +1,18 @@
 use Rattle.std.proofs.Common.{◌≡◌, ◌∙◌, Some, sym, rules}
 use Rattle.job_run.proofs.ActLemmas.{for_ok}
-use Rattle.job_run.proofs.FeedLemmas.{group_crowded, group_set, group_starved, group_unread}
+use Rattle.job_run.proofs.FeedLemmas.{counting_fails, group_done, memory_fails, reading_fails}
 use Rattle.job_run.proofs.FeedLemmas.{within_group}
 use Rattle.job_run.proofs.feeds.set_together.Goals as goal
 
 pub returns-in-Err-clause-stopped : goal.returns-in-Err-clause-stopped
 returns-in-Err-clause-stopped g c now world same here =
-    group_unread c.args.apart.now c.args.group.now world c.args.session.now now here
+    reading_fails c.args.group.now world c.args.session.now now here
     c.in-Err.stop.why c.in-Err.stop.at
     (c.in-Err.ensures.halted world.told (sym same ∙ here.tells))
 
 pub returns-in-Err-parse_all-clause-stopped : goal.returns-in-Err-parse_all-clause-stopped
 returns-in-Err-parse_all-clause-stopped g c now world same here =
-    group_crowded c.args.apart.now c.args.group.now world c.args.session.now now here
+    counting_fails c.args.group.now world c.args.session.now now here
     c.as_slice.result.now (search rules) c.requires.some
     c.in-Err-parse_all.stop.why c.in-Err-parse_all.stop.at c.in-Err-parse_all.ensures.refused
 
@@ -23,12 +23,12 @@ returns-in-Err-parse_all-clause-at g c =
 
 pub returns-in-Ok-set_all-clause-done : goal.returns-in-Ok-set_all-clause-done
 returns-in-Ok-set_all-clause-done g c now world same here =
-    group_set c.args.apart.now c.args.group.now world c.args.session.now now here
+    group_done c.args.group.now world c.args.session.now now here
     c.as_slice.result.now (search rules)
     c.in-Ok-parse_all.feeds.items c.in-Ok-parse_all.ensures.feeds c.set_all.new.session
     (search rules)
 
 pub returns-in-Err-set_all-clause-stopped : goal.returns-in-Err-set_all-clause-stopped
 returns-in-Err-set_all-clause-stopped g c now world same here =
-    group_starved c.args.apart.now c.args.group.now world c.args.session.now now here
+    memory_fails c.args.group.now world c.args.session.now now here
     c.requires.some

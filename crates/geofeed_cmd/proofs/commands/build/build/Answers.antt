@@ -5,6 +5,7 @@ use Rattle.std.specs.Prelude.{Some}
 use Rattle.job_lines.specs.Commands.{build}
 use Rattle.geofeed_cmd.specs.Run.Plans.{job_plan}
 use Rattle.geofeed_cmd.proofs.AnswerLemmas.{comes_earlier, comes_hindered, hindered_job}
+use Rattle.geofeed_cmd.proofs.GenEndLemmas.{none_generated}
 use Rattle.geofeed_cmd.proofs.StatusLemmas.{status_causes}
 use Rattle.geofeed_cmd.proofs.commands.build.build.Goals as goal
 
@@ -20,6 +21,7 @@ returns-in-Ok g c =
             comes_earlier c.do_job.result (Some known) first _ _ _ _ _
             c.job_in.ensures.put_faults (rw c.job_in.ensures.same at comes);
         published = λ first told done. tt;
+        generates = none_generated _ _ _ _ refl;
         ends = search (rules, status_causes);
       };
     }
@@ -36,6 +38,7 @@ returns-in-Err g c =
             (map.get first.held c.args.name.now) (c.in-Err.ensures.none first told))
             (c.job_in.ensures.same ∙ told) c.stop_at.ensures.stopped steps;
         published = λ first told done. tt;
+        generates = none_generated _ _ _ _ refl;
         ends = search (rules, status_causes);
       };
     }

@@ -15,4 +15,4 @@ returns-clause-comes g c =
     let planned_here =
     plan ∙ ap (λ (list : List Step). planned (moves_of list) start) (sym c.as_slice-list.ensures) in
     c.do_whole-status.ensures.comes first command start planned_here
-    (record { tells = told; aside = refl; stands = begun }) refl refl
+    (record { tells = told; stands = begun }) refl refl

@@ -7,6 +7,7 @@ use Rattle.geofeed_cmd.specs.Run.Plans.{alone, planned}
 use Rattle.job_run.specs.Seen.{seen}
 use Rattle.job_run.specs.World.{printing}
 use Rattle.geofeed_cmd.proofs.AnswerLemmas.{comes_hindered}
+use Rattle.geofeed_cmd.proofs.GenEndLemmas.{none_generated}
 use Rattle.geofeed_cmd.proofs.LookupAnswers.{comes-shown, comes-unshown}
 use Rattle.geofeed_cmd.proofs.StatusLemmas.{status_causes}
 use Rattle.geofeed_cmd.proofs.commands.lookup.lookup.Goals as goal
@@ -26,6 +27,7 @@ returns-in-Ok-print g c = record {
         (g.F.Folder.put_faults c.args.folder.now) (g.F.Folder.put_faults c.answer_in.new.folder)
         plan (c.answer_in.ensures.same ∙ told) (omega arith) c.in-Ok-print.ensures.printed;
     published = λ first told done. tt;
+    generates = none_generated _ _ _ _ refl;
     ends = search (rules, status_causes);
   };
 }
@@ -48,6 +50,7 @@ returns-in-Ok g c = record {
         c.in-Err-print.why c.in-Err-print.ensures.causes c.in-Err-print.ensures.tail
         (λ failed. c.in-Err-print.ensures.sink_failed (cc)));
     published = λ first told done. tt;
+    generates = none_generated _ _ _ _ refl;
     ends = search (rules, status_causes);
   };
 }
@@ -64,6 +67,7 @@ returns g c = record {
         _ _ refl c.in-Err.why (c.in-Err.ensures.none first told)
         (c.answer_in.ensures.same ∙ told) c.stop_at.ensures.stopped (omega arith);
     published = λ first told done. tt;
+    generates = none_generated _ _ _ _ refl;
     ends = search (rules, status_causes);
   };
 }

@@ -1,5 +1,0 @@
-use Rattle.generated_job.proofs.FreeLemmas.{runs_freely}
-use Rattle.generated_job.proofs.laws.generated_job_runs_freely.Goals as goal
-
-pub returns : goal.returns
-returns c = λ lines file first few. runs_freely lines few file first
