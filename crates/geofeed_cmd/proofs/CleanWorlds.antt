@@ -335,8 +335,16 @@ of_sources steps last = but_the_last (source_moves steps) last (of_moves Sources
 
 of_generated : (lines : ℕ) (file : List ℕ) → AreOfLines (gen_moves lines file)
 unfolding gen_moves
-of_generated lines file =
-    (tt, (stats_are_clean (codes "gen") stats_text, (feed_is_clean (feed false lines), (tt, (feed_is_clean (feed true lines), tt)))))
+of_generated lines file = (
+  tt,
+  (
+    stats_are_clean (codes "gen") stats_text,
+    (
+      feed_is_clean (feed false lines),
+      (tt, (feed_is_clean (feed true lines), tt)),
+    ),
+  ),
+)
 
 job_clean : (known : Command) → ((steps : List Step) → AreOfLines (moves_for known steps))
     → (first : Told) (name : List ℕ) (read : Result Job Cause)

@@ -180,8 +180,19 @@ fit_shown text = (λ world. tt, tt)
 -- the moves of the generated job
 pub fit_generated : (lines : ℕ) (file : List ℕ) → AreFit (gen_moves lines file)
 unfolding gen_moves
-fit_generated lines file =
-    ((λ world. tt), ((λ world. tt), ((λ world. tt), ((λ world. acting (acts.Emit file) world), ((λ world. tt), ((λ world. acting (acts.Emit file) world), tt))))))
+fit_generated lines file = (
+  (λ world. tt),
+  (
+    (λ world. tt),
+    (
+      (λ world. tt),
+      (
+        (λ world. acting (acts.Emit file) world),
+        ((λ world. tt), ((λ world. acting (acts.Emit file) world), tt)),
+      ),
+    ),
+  ),
+)
 
 -- the feed to be checked is there, or is not
 checked : (found : Option FeedParts) → AreOfMove (no_feed found)
