@@ -25,8 +25,8 @@ use Rattle.file_lookup.specs.declared.lookup.LookupFault.{LookupFault}
 use Rattle.job_lines.specs.Commands.{Command, build, lookup, explain, gen, publish, check, census}
 use Rattle.job_lines.specs.declared.act.Act.{Act}
 use Rattle.job_lines.specs.declared.act.Act.TheVariants as acts
-use Rattle.job_lines.specs.declared.act.Gone.{Gone}
-use Rattle.job_lines.specs.declared.act.Gone.TheVariants as gone
+use Rattle.geo_terms.specs.declared.note.Origin.{Origin}
+use Rattle.geo_terms.specs.declared.note.Origin.TheVariants as gone
 use Rattle.job_lines.specs.declared.job.Job.{Job}
 use Rattle.job_lines.specs.declared.job.Step.{Step}
 use Rattle.job_run.specs.Acts.{Move, looks, counts, does, sets, shows, act_effect, after, blocked}
@@ -133,7 +133,7 @@ dump_clean : (found : Result DumpParts SourceFault) → IsCleanIf (dump_change f
 dump_clean (Ok found) = tt
 dump_clean (Err fault) = tt
 
-drop_clean : (source : Gone) → IsClean (drop_change source)
+drop_clean : (source : Origin) → IsClean (drop_change source)
 drop_clean (gone.Rpsl slot) = tt
 drop_clean (gone.Stats slot) = tt
 drop_clean (gone.Feed url) = tt

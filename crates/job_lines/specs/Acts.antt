@@ -9,8 +9,8 @@ use Rattle.feed_refs.specs.declared.feed_url.UrlRead.TheVariants as reads
 use Rattle.job_lines.specs.declared.act.Act.{Act}
 use Rattle.job_lines.specs.declared.act.Act.TheVariants.{Rpsl, Stats, Feed, Overrides, Drop, Emit}
 use Rattle.job_lines.specs.declared.act.Act.TheVariants.{Report, Mark, Back, Compact}
-use Rattle.job_lines.specs.declared.act.Gone.{Gone}
-use Rattle.job_lines.specs.declared.act.Gone.TheVariants as gone
+use Rattle.geo_terms.specs.declared.note.Origin.{Origin}
+use Rattle.geo_terms.specs.declared.note.Origin.TheVariants as gone
 use Rattle.job_lines.specs.Names.{is_name, is_slot}
 use Rattle.job_lines.specs.Words.{both, has_none, only}
 
@@ -71,17 +71,17 @@ abbrev pub overrides_line : List (List ℕ) → Option Act
 overrides_line rest = option_map Overrides (file_alone rest)
 
 -- `drop rpsl SLOT`, `drop stats SLOT`, `drop feed URL` and `drop overrides`: what goes
-abbrev pub gone_overrides : List (List ℕ) → Option Gone
+abbrev pub gone_overrides : List (List ℕ) → Option Origin
 gone_overrides rest = if has_none rest then Some gone.Overrides else None
 
-unfoldable pub gone_by : (word : List ℕ) → (rest : List (List ℕ)) → Option Gone
+unfoldable pub gone_by : (word : List ℕ) → (rest : List (List ℕ)) → Option Origin
 gone_by word rest =
     if same_text word (codes "rpsl") then option_map gone.Rpsl (slot_alone rest)
     else (if same_text word (codes "stats") then option_map gone.Stats (slot_alone rest)
     else (if same_text word (codes "feed") then option_map gone.Feed (url_alone rest)
     else (if same_text word (codes "overrides") then gone_overrides rest else None)))
 
-abbrev pub gone_of : List (List ℕ) → Option Gone
+abbrev pub gone_of : List (List ℕ) → Option Origin
 gone_of [] = None
 gone_of (word ∷ rest) = gone_by word rest
 

@@ -1,5 +1,6 @@
 //! What a line of a job does.
 use geo_addr::Text;
+use geo_terms::Origin as Gone;
 
 /// What a line of a job does.
 #[derive(Debug, Drop, PartialEq, Eq)]
@@ -24,16 +25,4 @@ pub enum Act {
     Back { name: Text },
     /// Gives up the nodes that no file needs, and prints how many are left.
     Compact,
-}
-
-/// A source that a line of a job drops.
-#[derive(Debug, Drop, PartialEq, Eq)]
-pub enum Gone {
-    /// The dump in this slot.
-    Rpsl(Text),
-    /// The statistics file in this slot.
-    Stats(Text),
-    /// The feed of this URL.
-    Feed(Text),
-    Overrides,
 }

@@ -3,10 +3,11 @@ ghost use Rattle.std.specs.Prelude.{◌≡◌, ◌⊎◌, IfErr, IfOk, None, OnE
 ghost use Rattle.job_lines.specs.Acts.{drop_line, gone_by, gone_of, gone_overrides};
 ghost use Rattle.job_lines.specs.Words.{words};
 
-use crate::act::{Act, Gone};
+use crate::act::Act;
 use crate::line_fault::LineFault;
 use crate::operands::{nothing, slot_alone, url_alone};
 use crate::words::next_word;
+use geo_terms::Origin as Gone;
 use std::alloc::Global;
 
 /// The act of a line behind its word `drop`.

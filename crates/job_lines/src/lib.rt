@@ -20,8 +20,9 @@ mod spoken;
 mod word_fault;
 mod words;
 
-pub use act::{Act, Gone};
+pub use act::Act;
 pub use fault::JobFault;
+pub use geo_terms::Origin as Gone;
 pub use job::{Job, LONGEST_JOB, Step, job_or_reason, read_job};
 pub use line_fault::LineFault;
 pub use names::{is_name, is_slot, name_fault};

@@ -16,7 +16,7 @@ use Rattle.update_session.specs.State.{State, FileValue, file_of, is_too_large, 
 use Rattle.update_session.specs.State.{section_length}
 use Rattle.job_lines.specs.declared.act.Act.{Act}
 use Rattle.job_lines.specs.declared.act.Act.TheVariants.{Drop, Emit, Report}
-use Rattle.job_lines.specs.declared.act.Gone.{Gone}
+use Rattle.geo_terms.specs.declared.note.Origin.{Origin}
 use Rattle.job_lines.specs.declared.job.Step.{Step}
 use Rattle.job_run.specs.declared.stop.Cause.{Cause}
 use Rattle.job_run.specs.declared.stop.Cause.TheVariants.{Missing, NotThere, TooLong, TooMany}
@@ -286,7 +286,7 @@ module _ (stays : StandingStays) (step : Step) (world : World) (act : Act) (sess
       (subst (λ (e : Effect). IsPaid e world steps steps) (sym sets) (omega (arith, spent)))
 
 -- a source that is dropped
-module _ (stays : StandingStays) (step : Step) (world : World) (source : Gone) (session : Held)
+module _ (stays : StandingStays) (step : Step) (world : World) (source : Origin) (session : Held)
     (is : step.act ≡ Drop source) (old new : Seen)
     (here : IsIn old.told session world) (same : new.told ≡ old.told)
     (silent : new.written ≡ old.written) where

@@ -12,7 +12,7 @@ use Rattle.update_session.specs.State.{FileValue, file_of, is_too_large}
 use Rattle.job_lines.specs.declared.act.Act.{Act}
 use Rattle.job_lines.specs.declared.act.Act.TheVariants.{Rpsl, Stats, Feed, Overrides, Drop, Emit}
 use Rattle.job_lines.specs.declared.act.Act.TheVariants.{Report, Mark, Back, Compact}
-use Rattle.job_lines.specs.declared.act.Gone.{Gone}
+use Rattle.geo_terms.specs.declared.note.Origin.{Origin}
 use Rattle.job_lines.specs.declared.job.Step.{Step}
 use Rattle.job_run.specs.Sources.{change_by, file_named, is_there, no_source, sourced, unreadable}
 use Rattle.job_run.specs.World.{World, Effect, reads, puts, untouched, printing, made, file_in}
@@ -96,7 +96,7 @@ join_effect act world = record {
 }
 
 -- the effect of a line that drops a source
-abbrev pub drop_effect : Gone → World → Effect
+abbrev pub drop_effect : Origin → World → Effect
 drop_effect source world = record {
   name = [];
   blocked = if is_there source world.session.state.sources then None else Some NotThere;

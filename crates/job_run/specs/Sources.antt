@@ -12,8 +12,8 @@ use Rattle.geo_outside.specs.declared.whole.TheConstants.{PIECE}
 use Rattle.job_lines.specs.declared.act.Act.{Act}
 use Rattle.job_lines.specs.declared.act.Act.TheVariants.{Rpsl, Stats, Feed, Overrides, Drop, Emit}
 use Rattle.job_lines.specs.declared.act.Act.TheVariants.{Report, Mark, Back, Compact}
-use Rattle.job_lines.specs.declared.act.Gone.{Gone}
-use Rattle.job_lines.specs.declared.act.Gone.TheVariants as gone
+use Rattle.geo_terms.specs.declared.note.Origin.{Origin}
+use Rattle.geo_terms.specs.declared.note.Origin.TheVariants as gone
 use Rattle.nro_stats.specs.File.{longest as longest_stats, most as most_delegations, rows, stats}
 use Rattle.override_rows.specs.File.{accepted as override_lines, longest as longest_overrides}
 use Rattle.override_rows.specs.File.{most as most_rows, overrides}
@@ -98,7 +98,7 @@ no_source (Back name) held = None
 no_source Compact held = None
 
 -- what goes when a source is dropped
-abbrev pub drop_change : Gone → Change
+abbrev pub drop_change : Origin → Change
 drop_change (gone.Rpsl slot) = DropDump slot
 drop_change (gone.Stats slot) = DropStats slot
 drop_change (gone.Feed url) = DropFeed url
@@ -118,7 +118,7 @@ change_by (Back name) held = None
 change_by Compact held = None
 
 -- whether a source is there to be dropped
-abbrev pub is_there : Gone → InForce → Bool
+abbrev pub is_there : Origin → InForce → Bool
 is_there (gone.Rpsl slot) s = is_some (named (λ x. x.slot) slot s.dumps)
 is_there (gone.Stats slot) s = is_some (named (λ x. x.slot) slot s.stats)
 is_there (gone.Feed url) s = is_some (named (λ x. x.url) url s.feeds)
@@ -137,7 +137,7 @@ pub record IsSet (act : Act) (held : Option (List ℕ)) (old new : Held) : Type 
   pub has : HasChanged change old new
 
 -- a source that was there was dropped
-pub record IsDropped (source : Gone) (old new : Held) : Type 0 where
+pub record IsDropped (source : Origin) (old new : Held) : Type 0 where
   pub there : is_there source old.state.sources ≡ true
   pub has : HasChanged (drop_change source) old new
 
