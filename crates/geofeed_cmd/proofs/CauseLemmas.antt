@@ -16,9 +16,7 @@ use Rattle.job_run.specs.declared.stop.Cause.{Cause}
 use Rattle.job_run.specs.declared.stop.Cause.TheVariants as causes
 use Rattle.job_run.specs.Acts.{Move, shows, blocked, after}
 use Rattle.job_run.specs.Course.{Outcome, ended, stopped, unless, course, IsAt}
-use Rattle.job_run.specs.Moves.{moves_of}
 use Rattle.job_run.specs.Sources.{unreadable}
-use Rattle.job_run.specs.declared.scope.Scope.TheVariants.{Whole}
 use Rattle.job_run.specs.World.{World, printing}
 use Rattle.job_run.proofs.ActLemmas.{readable, unreadable-long, unreadable-none}
 use Rattle.job_run.proofs.CourseLemmas.{course_blocked, course_free}
@@ -34,7 +32,7 @@ use Rattle.geofeed_cmd.specs.Run.Plans.{Plan, accepted, alone, answer_plan, answ
 use Rattle.geofeed_cmd.specs.Run.Plans.{held_job, is_command, job_of, job_plan, longest_file}
 use Rattle.geofeed_cmd.specs.Run.Plans.{lookup_plan, moves_for, plan_of, plan_on, planned, start_of}
 use Rattle.geofeed_cmd.specs.Run.Plans.{unless_unreadable}
-use Rattle.geofeed_cmd.proofs.FitLemmas.{AreFit, AreOfMove, IsOfMove, fit_at, fit_for, fit_moves}
+use Rattle.geofeed_cmd.proofs.FitLemmas.{AreFit, AreOfMove, IsOfMove, fit_at, fit_for}
 use Rattle.geofeed_cmd.proofs.FitLemmas.{fit_generated, fit_shown}
 
 -- where a run stopped

@@ -1,6 +1,6 @@
 -- The sources of each world that a command reaches are clean: each was made by a reader.
 use Rattle.std.proofs.Common.{◌≡◌, ℕ, zero, suc, Bool, true, false, cond, not, nat_lt, List, []}
-use Rattle.std.proofs.Common.{◌∷◌, ◌++◌, length, map, take, find, Option, None, Some, refl}
+use Rattle.std.proofs.Common.{◌∷◌, ◌++◌, length, map, take, find, Option, None, Some}
 use Rattle.std.proofs.Common.{subst, Less, Equal, Greater}
 use Rattle.std.specs.List.{AllByRecursion as Each}
 use Rattle.std.specs.FinMap as files
@@ -9,7 +9,7 @@ use Rattle.std.specs.Prelude.{Result, Ok, Err, codes, slice_get}
 use Rattle.geo_outside.specs.Files.{Told}
 use Rattle.geo_terms.specs.PlaceForm.{same_text}
 use Rattle.geo_terms.specs.Precedence.{text_cmp}
-use Rattle.geo_terms.specs.SlotOrder.{placed, removed}
+use Rattle.geo_terms.specs.SlotOrder.{placed}
 use Rattle.geo_terms.specs.SourceForm.{DumpParts}
 use Rattle.geo_terms.specs.Sources.{InForce}
 use Rattle.geo_terms.specs.declared.source.SourceFault.{SourceFault}
@@ -31,7 +31,7 @@ use Rattle.job_lines.specs.declared.job.Job.{Job}
 use Rattle.job_lines.specs.declared.job.Step.{Step}
 use Rattle.job_run.specs.Acts.{Move, looks, counts, does, sets, shows, act_effect, after, blocked}
 use Rattle.job_run.specs.Course.{course, ended, unless}
-use Rattle.job_run.specs.Moves.{alone, moves_by, moves_from, moves_of, most_together, sets_feed}
+use Rattle.job_run.specs.Moves.{alone, moves_from, moves_of, most_together, sets_feed}
 use Rattle.job_run.specs.Moves.{source_moves, takes, together}
 use Rattle.job_run.specs.Sources.{change_by, drop_change, dump_change, file_named, sourced}
 use Rattle.job_run.specs.Sources.{unreadable}
@@ -51,7 +51,7 @@ use Rattle.geofeed_cmd.specs.Commands.Explain.{explaining}
 use Rattle.geofeed_cmd.specs.Commands.Generate.{gen_moves}
 use Rattle.geofeed_cmd.specs.Commands.Publish.{publishing}
 use Rattle.geofeed_cmd.specs.Run.CleanWorlds.{SourcesAreClean}
-use Rattle.geofeed_cmd.specs.Run.Plans.{Plan, Reaches, answer_plan, answered_in, held_job, job_plan}
+use Rattle.geofeed_cmd.specs.Run.Plans.{Plan, answer_plan, answered_in, held_job, job_plan}
 use Rattle.geofeed_cmd.specs.Run.Plans.{longest_file, lookup_plan, moves_for, plan_of, planned}
 use Rattle.geofeed_cmd.specs.Run.Plans.{refused, unless_unreadable}
 

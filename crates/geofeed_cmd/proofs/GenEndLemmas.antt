@@ -8,7 +8,7 @@ use Rattle.source_changes.specs.Changes.{SetDump, SetFeed}
 use Rattle.update_session.specs.Calls.{HasChanged, HasEmitted, HasGrown, IsSpent}
 use Rattle.update_session.specs.Kept.{Held}
 use Rattle.update_session.specs.Standing.{Standing, StandingStays, Stands, emitted}
-use Rattle.update_session.specs.State.{State, is_too_large}
+use Rattle.update_session.specs.State.{is_too_large}
 use Rattle.update_session.specs.Touch.{bound}
 use Rattle.job_lines.specs.Commands.{Command, gen}
 use Rattle.job_run.specs.declared.stop.Cause.{Cause}
@@ -19,12 +19,11 @@ use Rattle.job_run.specs.Acts.{Move, after, blocked, does, effect, line_of, sets
 use Rattle.job_run.specs.Course.{course, ended, unless, IsAt}
 use Rattle.job_run.specs.Published.{Publishes}
 use Rattle.job_run.specs.Seen.{Seen, Prints, seen}
-use Rattle.job_run.specs.Stops.{Does, Fails, IsIn, IsPaid}
+use Rattle.job_run.specs.Stops.{Does, Fails, IsPaid}
 use Rattle.job_run.specs.World.{World}
 use Rattle.job_run.proofs.ActLemmas.{prints_none}
 use Rattle.generated_job.specs.Job.{first_set, second_set, the_dump, the_feed}
 use Rattle.generated_job.specs.Laws.{IsEmittable}
-use Rattle.generated_job.proofs.FreeLemmas.{emits_freely}
 use Rattle.geofeed_cmd.specs.declared.status.Status.{Status}
 use Rattle.geofeed_cmd.specs.declared.status.Status.TheVariants as statuses
 use Rattle.geofeed_cmd.specs.Commands.Generate.{emit_step, gen_moves, gen_start}

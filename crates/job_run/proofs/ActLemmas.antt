@@ -28,7 +28,7 @@ use Rattle.job_run.specs.Seen.{Seen, Prints}
 use Rattle.job_run.specs.Sources.{IsDropped, IsSet, change_by, crowded, file_named, is_there}
 use Rattle.job_run.specs.Sources.{no_source, sourced, uncounted, unreadable, unusable}
 use Rattle.job_run.specs.Stops.{Does, Fails, Halts, IsHindered, IsIn, IsPaid, Tail}
-use Rattle.job_run.specs.World.{World, Effect, file_in, made, reads}
+use Rattle.job_run.specs.World.{World, Effect, file_in, made}
 
 -- whether a file can be read whole
 pub unreadable-none : (limit : ℕ) (held : Option (List ℕ)) → held ≡ None

@@ -22,7 +22,7 @@ use Rattle.job_run.specs.declared.stop.Cause.TheVariants.{Missing}
 use Rattle.job_run.specs.declared.stop.Stop.{Stop}
 use Rattle.job_run.specs.declared.stop.Stop.TheVariants.{Blocked, ReadFailed, PutFailed, SinkFailed}
 use Rattle.job_run.specs.declared.stop.Stop.TheVariants.{Memory}
-use Rattle.job_run.specs.Dumps.{IsDump, IsReadNoFurther, fault_cause, no_dump, refusal}
+use Rattle.job_run.specs.Dumps.{IsDump, IsReadNoFurther, no_dump, refusal}
 use Rattle.job_run.specs.Stops.{IsHindered}
 
 -- a reader was fed so many bytes, the first of the file, and found no fault in them

@@ -1,5 +1,5 @@
 -- Feeds that are set together: the reads, the counts and the sets of a group.
-use Rattle.std.proofs.Common.{◌≡◌, ◌≢◌, ℕ, zero, suc, ◌+◌, ◌<◌, ◌≤◌, ◌⊎◌, inl, inr, Bool, true}
+use Rattle.std.proofs.Common.{◌≡◌, ℕ, zero, suc, ◌+◌, ◌<◌, inl, inr, Bool, true}
 use Rattle.std.proofs.Common.{false, ◌&&◌, List, [], ◌∷◌, ◌++◌, length, get_or, take, map, Option}
 use Rattle.std.proofs.Common.{Some, None, Result, Ok, Err, refl, sym, ◌∙◌, ap, subst, arith}
 use Rattle.std.proofs.Common.{add-one}
@@ -10,10 +10,10 @@ use Rattle.std.proofs.lemmas.Option.{slice_get_read, slice_get_within}
 use Rattle.std.specs.List.{AllZip, list_all}
 use Rattle.std.specs.Prelude.{slice_get, option_map}
 use Rattle.std.specs.FinMap as files
-use Rattle.feed_csv.specs.File.{feed, longest, most as most_entries}
+use Rattle.feed_csv.specs.File.{feed, longest}
 use Rattle.geo_outside.specs.Files.{Told}
 use Rattle.geo_terms.specs.SourceForm.{FeedParts}
-use Rattle.source_changes.specs.Changes.{Change, SetFeed}
+use Rattle.source_changes.specs.Changes.{SetFeed}
 use Rattle.update_session.specs.Kept.{Held as Session}
 use Rattle.update_session.specs.Calls.{HasChanged}
 use Rattle.update_session.specs.Standing.{Standing, Stands, StandingStays, changed}
@@ -24,24 +24,23 @@ use Rattle.job_lines.specs.declared.act.Act.TheVariants.{Feed, Emit}
 use Rattle.job_lines.specs.declared.job.Step.{Step}
 use Rattle.job_run.specs.declared.feeds.Held.{Held}
 use Rattle.job_run.specs.declared.stop.Cause.{Cause}
-use Rattle.job_run.specs.declared.stop.Cause.TheVariants.{Missing}
 use Rattle.job_run.specs.declared.stop.Stop.{Stop}
 use Rattle.job_run.specs.declared.stop.Stop.TheVariants.{Blocked, ReadFailed, PutFailed, SinkFailed}
 use Rattle.job_run.specs.declared.stop.Stop.TheVariants.{Memory}
 use Rattle.job_run.specs.Acts.{Move, looks, counts, does, act_effect, after, blocked, effect}
 use Rattle.job_run.specs.Acts.{step_of}
-use Rattle.job_run.specs.Course.{Outcome, course, ended, unless, IsAt}
+use Rattle.job_run.specs.Course.{course, ended, unless}
 use Rattle.job_run.specs.Feeds.{HaltsReading, IsFirstNoFeed, IsFirstRefused, IsNoFeed, IsRead}
 use Rattle.job_run.specs.Feeds.{Parses, RefusesParsing, no_read, with_feeds}
 use Rattle.job_run.specs.Moves.{sets_feed, together}
 use Rattle.job_run.specs.Parts.{DoesPart, FailsAt, FailsPart}
 use Rattle.job_run.specs.Published.{Publishes}
 use Rattle.job_run.specs.Seen.{Seen}
-use Rattle.job_run.specs.Sources.{change_by, entries_of, file_named, no_feed, no_source}
+use Rattle.job_run.specs.Sources.{file_named, no_feed, no_source}
 use Rattle.job_run.specs.Sources.{sourced, unreadable}
 use Rattle.job_run.specs.Stops.{Fails, Halts, IsHindered, IsIn, Tail}
-use Rattle.job_run.specs.World.{World, Effect, file_in, made}
-use Rattle.job_run.proofs.ActLemmas.{append_nil, prints_none, unreadable-none, unusable-unread}
+use Rattle.job_run.specs.World.{World, file_in, made}
+use Rattle.job_run.proofs.ActLemmas.{append_nil, prints_none}
 use Rattle.job_run.proofs.RunLemmas.{fails_before, fails_later, part_more}
 
 -- members of lists that are made of others

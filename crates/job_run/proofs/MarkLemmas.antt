@@ -1,5 +1,5 @@
 -- What the lines on marks and nodes do, and why they stop.
-use Rattle.std.proofs.Common.{◌≡◌, ◌+◌, ◌≤◌, ◌⊎◌, inl, inr, Bool, true, false, cond, ℕ, List, []}
+use Rattle.std.proofs.Common.{◌≡◌, ◌+◌, ◌≤◌, ◌⊎◌, inl, inr, true, cond, ℕ, List, []}
 use Rattle.std.proofs.Common.{length, Option, Some, None, refl, sym, ◌∙◌, ap, subst, arith}
 use Rattle.std.specs.Prelude.{is_some}
 use Rattle.job_lines.specs.declared.act.Act.{Act}
@@ -9,10 +9,10 @@ use Rattle.source_changes.specs.Changes.{named}
 use Rattle.update_session.specs.Calls.{HasCompacted, HasGoneBack, HasMarked}
 use Rattle.update_session.specs.Kept.{Held}
 use Rattle.update_session.specs.Standing.{Standing, StandingMark, StandingStays, at_mark}
-use Rattle.update_session.specs.Standing.{compact_count, mark_named, went_back}
+use Rattle.update_session.specs.Standing.{compact_count, mark_named}
 use Rattle.job_run.specs.Acts.{compact_line, does, effect}
 use Rattle.job_run.specs.Seen.{Prints, Seen}
-use Rattle.job_run.specs.Stops.{Does, Fails, Halts, IsIn, IsPaid, Tail}
+use Rattle.job_run.specs.Stops.{Does, Fails, IsIn, IsPaid, Tail}
 use Rattle.job_run.specs.World.{World}
 use Rattle.job_run.specs.declared.stop.Cause.TheVariants.{NoMark}
 use Rattle.job_run.specs.declared.stop.Stop.{Stop}

@@ -1,9 +1,8 @@
 -- The moves of a job, part by part.
-use Rattle.std.proofs.Common.{◌≡◌, ℕ, zero, suc, ◌+◌, ◌<◌, ◌≤◌, ◌⊎◌, inl, inr, List, [], ◌∷◌, ◌++◌}
-use Rattle.std.proofs.Common.{length, take, drop, Option, Some, refl, sym, ◌∙◌, ap, subst, arith}
+use Rattle.std.proofs.Common.{◌≡◌, ℕ, zero, suc, ◌+◌, ◌⊎◌, inl, inr, List, [], ◌∷◌, ◌++◌}
+use Rattle.std.proofs.Common.{length, take, Option, Some, refl, sym, ◌∙◌, ap, subst, arith}
 use Rattle.std.proofs.Common.{append_assoc}
 use Rattle.std.specs.Prelude.{slice_get}
-use Rattle.geo_outside.specs.Files.{Told}
 use Rattle.update_session.specs.Kept.{Held}
 use Rattle.job_lines.specs.declared.act.Act.{Act}
 use Rattle.job_lines.specs.declared.act.Act.TheVariants as acts
@@ -11,7 +10,7 @@ use Rattle.job_lines.specs.declared.job.Step.{Step}
 use Rattle.job_run.specs.declared.stop.Stop.{Stop}
 use Rattle.job_run.specs.declared.stop.Stop.TheVariants.{Blocked, ReadFailed, PutFailed, SinkFailed}
 use Rattle.job_run.specs.declared.stop.Stop.TheVariants.{Memory}
-use Rattle.job_run.specs.Acts.{Move, looks, counts, does, sets, shows, act_effect, after, blocked}
+use Rattle.job_run.specs.Acts.{Move, looks, counts, does, sets, shows, act_effect, after}
 use Rattle.job_run.specs.Acts.{effect, step_of}
 use Rattle.job_run.specs.Course.{Outcome, course, ended, go_on, unless, IsAt}
 use Rattle.job_run.specs.Parts.{DoesPart, FailsAt, FailsPart}

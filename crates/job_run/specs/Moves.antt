@@ -1,6 +1,6 @@
 -- The moves that the lines of a job make.
-use Rattle.std.specs.Prelude.{◌≡◌, ℕ, ◌+◌, Bool, true, false, nat_lt, List, [], ◌∷◌, ◌++◌, length}
-use Rattle.std.specs.Prelude.{map, slice_get, Some, if◌then◌else◌}
+use Rattle.std.specs.Prelude.{ℕ, ◌+◌, Bool, true, false, nat_lt, List, [], ◌∷◌, ◌++◌, length}
+use Rattle.std.specs.Prelude.{map, if◌then◌else◌}
 use Rattle.job_lines.specs.declared.act.Act.{Act}
 use Rattle.job_lines.specs.declared.act.Act.TheVariants.{Rpsl, Stats, Feed, Overrides, Drop, Emit}
 use Rattle.job_lines.specs.declared.act.Act.TheVariants.{Report, Mark, Back, Compact}

@@ -1,6 +1,5 @@
 -- Where the session stands after three sources were set.
 use Rattle.std.proofs.Common.{ap, false, subst}
-use Rattle.std.specs.Prelude.{OnOk}
 use Rattle.source_changes.specs.Changes.{Change, SetDump, SetFeed, SetStats}
 use Rattle.update_session.specs.Calls.{HasChanged}
 use Rattle.update_session.specs.Standing.{changed}

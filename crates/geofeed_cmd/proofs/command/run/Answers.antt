@@ -1,10 +1,7 @@
 -- What follows from what there is at each answer.
-use Rattle.std.proofs.Common.{ap, subst}
-use Rattle.std.specs.Prelude.{map, string_bytes, Option}
+use Rattle.std.specs.Prelude.{map, string_bytes}
 use Rattle.geofeed_cmd.specs.declared.status.Status.TheVariants as statuses
-use Rattle.job_lines.specs.Commands.{Command, command_of}
-use Rattle.geofeed_cmd.specs.Run.Answers.{IsAnswer}
-use Rattle.geofeed_cmd.specs.Run.Plans.{reads_folder}
+use Rattle.job_lines.specs.Commands.{command_of}
 use Rattle.geofeed_cmd.proofs.AnswerLemmas.{answered}
 use Rattle.geofeed_cmd.proofs.CauseLemmas.{caused, certain}
 use Rattle.geofeed_cmd.proofs.HeadlineLemmas.{done_of, least_by_value, no_fault, published_at}

@@ -1,6 +1,5 @@
 -- What a last move does, from what its own function does.
-use Rattle.std.proofs.Common.{ℕ, List, [], inl, inr, refl, subst}
-use Rattle.std.specs.Prelude.{Err}
+use Rattle.std.proofs.Common.{[], inr, refl, subst}
 use Rattle.geo_terms.specs.Precedence.{reasons_at}
 use Rattle.explained.specs.Explanation.{explanation}
 use Rattle.update_session.specs.State.{State}

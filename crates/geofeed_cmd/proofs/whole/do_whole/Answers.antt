@@ -1,5 +1,5 @@
 -- The answer of a job from what its steps left.
-use Rattle.std.proofs.Common.{inl, inr, arith}
+use Rattle.std.proofs.Common.{arith}
 use Rattle.geo_outside.specs.Count.{Rose}
 use Rattle.job_run.specs.Moves.{moves_of}
 use Rattle.geofeed_cmd.proofs.AnswerLemmas.{comes_done, comes_stop}

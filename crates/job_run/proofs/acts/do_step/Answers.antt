@@ -1,4 +1,4 @@
-use Rattle.std.proofs.Common.{◌∙◌, ap, Err, ◌≡◌, refl}
+use Rattle.std.proofs.Common.{◌∙◌, ap, Err, refl}
 use Rattle.job_lines.specs.declared.act.Act.TheVariants.{Overrides, Rpsl, Stats}
 use Rattle.job_run.specs.Seen.{seen}
 use Rattle.job_run.proofs.ActLemmas.{both_ok, does_drop, does_report, does_set, fails_drop}

@@ -1,6 +1,5 @@
-use Rattle.std.proofs.Common.{◌≡◌, ◌∷◌, [], List, refl, sym, subst, rules}
+use Rattle.std.proofs.Common.{List, refl, sym, subst, rules}
 use Rattle.job_run.specs.Acts.{Move, does}
-use Rattle.job_run.specs.Moves.{alone}
 use Rattle.job_run.specs.Parts.{DoesPart, FailsPart}
 use Rattle.job_run.specs.Seen.{seen}
 use Rattle.job_run.proofs.ActLemmas.{for_err, for_ok}

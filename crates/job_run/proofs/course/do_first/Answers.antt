@@ -1,11 +1,10 @@
-use Rattle.std.proofs.Common.{◌≡◌, ◌+◌, ◌≤◌, Option, arith, refl, rules, subst, sym, take}
+use Rattle.std.proofs.Common.{Option, arith, refl, rules, subst, sym, take}
 use Rattle.geo_outside.specs.Files.{Told}
 use Rattle.job_run.specs.Moves.{together}
 use Rattle.job_run.specs.Parts.{DoesPart, FailsAt}
 use Rattle.job_run.specs.Seen.{seen}
-use Rattle.job_run.proofs.ActLemmas.{for_err, for_ok}
 use Rattle.job_run.proofs.MoveLemmas.{fails_first_alone, fails_together, first_alone_of}
-use Rattle.job_run.proofs.MoveLemmas.{first_together, no_feed_first, rooms-first, rooms-split}
+use Rattle.job_run.proofs.MoveLemmas.{first_together, no_feed_first, rooms-split}
 use Rattle.job_run.proofs.course.do_first.Goals as goal
 
 pub returns-in-Ok-clause-done : goal.returns-in-Ok-clause-done

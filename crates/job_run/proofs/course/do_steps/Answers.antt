@@ -1,4 +1,4 @@
-use Rattle.std.proofs.Common.{◌≡◌, ◌+◌, ◌∙◌, ◌≤◌, List, ap, arith, drop, refl, rules, subst}
+use Rattle.std.proofs.Common.{◌+◌, ◌∙◌, List, ap, arith, drop, refl, rules, subst}
 use Rattle.job_lines.specs.declared.job.Step.{Step}
 use Rattle.job_run.specs.Moves.{moves_by, read_rooms}
 use Rattle.job_run.specs.Parts.{DoesFirst, FailsAt}

@@ -1,4 +1,4 @@
-use Rattle.std.proofs.Common.{◌≡◌, ◌≢◌, [], ◌+◌, ◌-◌, ◌≤◌, drop, length}
+use Rattle.std.proofs.Common.{◌≡◌, ◌+◌, ◌-◌, ◌≤◌, drop, length}
 use Rattle.job_run.specs.Moves.{read_rooms}
 use Rattle.job_run.specs.Parts.{DoesFirst}
 use Rattle.job_run.specs.Seen.{seen}

@@ -1,8 +1,7 @@
-use Rattle.std.proofs.Common.{◌≡◌, ◌∙◌, ◌⊎◌, inl, List, Result, Some, Err, length, map, take, arith}
-use Rattle.std.proofs.Common.{ap, sym, refl, rules}
+use Rattle.std.proofs.Common.{inl}
+use Rattle.std.proofs.Common.{rules}
 use Rattle.std.proofs.lemmas.Iterator.Adapters.{YieldsList-from_vec}
 use Rattle.std.proofs.lemmas.Iterator.Consumers.{YieldsList-so_far, YieldsList-turn}
-use Rattle.std.proofs.lemmas.List.{length-map}
 use Rattle.job_run.proofs.FeedLemmas.{first_of}
 use Rattle.job_run.proofs.feeds.all_feeds.Goals as goal
 

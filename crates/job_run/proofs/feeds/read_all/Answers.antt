@@ -1,9 +1,7 @@
-use Rattle.std.proofs.Common.{◌⊎◌, inl, inr, Err, ◌≡◌, ◌∙◌, ◌∷◌, ◌++◌, [], ap, arith, length, refl}
+use Rattle.std.proofs.Common.{◌≡◌, ◌∙◌, ◌∷◌, ◌++◌, [], ap, arith, length, refl}
 use Rattle.std.proofs.Common.{rules}
 use Rattle.std.proofs.lemmas.List.{length_push}
 use Rattle.std.proofs.lemmas.Option.{slice_get_read}
-use Rattle.std.specs.Prelude.{slice_get}
-use Rattle.geo_outside.specs.Count.{Rose}
 use Rattle.job_run.proofs.FeedLemmas.{read_before, reads_pushed}
 use Rattle.job_run.proofs.MoveLemmas.{rooms-after}
 use Rattle.job_run.proofs.feeds.read_all.Goals as goal

@@ -1,4 +1,4 @@
-use Rattle.std.proofs.Common.{◌≡◌, ◌≢◌, [], ◌+◌, ◌≤◌, Some, drop, length, take}
+use Rattle.std.proofs.Common.{◌≡◌, ◌+◌, ◌≤◌, Some, drop, length, take}
 use Rattle.std.specs.List.{AllZip}
 use Rattle.geo_outside.specs.Files.{Told}
 use Rattle.job_run.specs.Feeds.{IsRead}

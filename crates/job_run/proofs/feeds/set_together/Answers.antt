@@ -1,5 +1,4 @@
-use Rattle.std.proofs.Common.{◌≡◌, ◌∙◌, Some, sym, rules}
-use Rattle.job_run.proofs.ActLemmas.{for_ok}
+use Rattle.std.proofs.Common.{◌∙◌, sym, rules}
 use Rattle.job_run.proofs.FeedLemmas.{counting_fails, group_done, memory_fails, reading_fails}
 use Rattle.job_run.proofs.FeedLemmas.{within_group}
 use Rattle.job_run.proofs.feeds.set_together.Goals as goal

@@ -1,9 +1,6 @@
-use Rattle.std.proofs.Common.{◌≡◌, ap, Err}
 use Rattle.nro_stats.specs.File.{longest, most}
 use Rattle.job_run.specs.Sources.{rows_of}
-use Rattle.job_run.specs.declared.stop.Cause.TheVariants.{Missing}
-use Rattle.job_run.specs.declared.stop.Stop.TheVariants.{Blocked}
-use Rattle.job_run.proofs.ActLemmas.{hindered, lacks, unusable-unread}
+use Rattle.job_run.proofs.ActLemmas.{hindered, unusable-unread}
 use Rattle.job_run.proofs.setting.set_stats.Goals as goal
 
 pub returns-in-Err-clause-unset : goal.returns-in-Err-clause-unset

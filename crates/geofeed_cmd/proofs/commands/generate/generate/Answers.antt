@@ -1,5 +1,5 @@
 -- The answer of `gen` from that of its moves.
-use Rattle.std.proofs.Common.{◌≤◌, ◌+◌, inl, inr, refl, sym, ◌∙◌, ap, arith, subst}
+use Rattle.std.proofs.Common.{inl, inr, refl, sym, ◌∙◌, ap, arith, subst}
 use Rattle.std.specs.Prelude.{Some}
 use Rattle.geo_outside.specs.Count.{Rose}
 use Rattle.job_lines.specs.Commands.{gen}

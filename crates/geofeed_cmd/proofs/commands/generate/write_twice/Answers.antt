@@ -1,6 +1,5 @@
 -- What the moves of the generated job leave, from what each call does.
-use Rattle.std.proofs.Common.{◌≡◌, Err, ap, cond, refl}
-use Rattle.std.specs.Prelude.{None}
+use Rattle.std.proofs.Common.{Err, ap, refl}
 use Rattle.job_run.proofs.ActLemmas.{for_ok}
 use Rattle.job_run.specs.Seen.{seen}
 use Rattle.job_run.specs.Stops.{IsIn}
