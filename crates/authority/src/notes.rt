@@ -13,9 +13,9 @@ ghost use Rattle.authority.specs.Ranked.{behind, is_behind, joint_in, leader, no
 ghost use Rattle.authority.specs.Ranked.{outranked_in, ranked_cmp, uncovered_note, unfed_in};
 
 use crate::ready::ReadyFeed;
+use first_index::inetnums::Index;
 use geo_addr::{Block, Memory};
 use geo_terms::{Feed, Note, Origin, Reference, Rule, Statement};
-use first_index::inetnums::Index;
 use source_changes::{push_borrows, shelf};
 use std::alloc::Global;
 use std::cmp::Ordering;

@@ -10,10 +10,10 @@ ghost use Rattle.geo_terms.specs.Report.{covers};
 ghost use Rattle.source_changes.specs.CutPoints.{AreCutsOf, whole};
 ghost use Rattle.authority.specs.Held.{AreSpeakers, references_in};
 
+use first_index::inetnums::Index;
 use first_index::plain;
 use geo_addr::{Addr, Block, Memory, Range, range_of};
 use geo_terms::{Dump, Reference, Statement};
-use first_index::inetnums::Index;
 use split_core::cuts;
 use std::alloc::Global;
 use std::sync::Arc;

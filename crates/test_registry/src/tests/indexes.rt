@@ -1,10 +1,10 @@
 //! The index of references beside the plain look-up. The lines that are wanted of the worked
 //! references were told from their ranges and dates by hand.
 use super::if_done;
+use first_index::inetnums::Index;
 use first_index::plain::first_at;
 use geo_addr::{Addr, Range, Text, parse_block};
 use geo_terms::Reference;
-use first_index::inetnums::Index;
 use std::alloc::Global;
 use std::mem::drop;
 use std::test::Fail;
