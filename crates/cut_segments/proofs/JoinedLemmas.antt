@@ -1,6 +1,6 @@
 -- Grounds that are joined, or left out where others have their addresses.
 use Rattle.std.proofs.Common.{◌≡◌, ◌∙◌, ℕ, ◌+◌, ◌-◌, ◌^◌, ◌<◌, ◌≤◌, Bool, true, false, cond, ◌&&◌}
-use Rattle.std.proofs.Common.{◌||◌, ltb, leb, max, List, [], ◌∷◌, ◌++◌, length, get_or, count_by}
+use Rattle.std.proofs.Common.{◌||◌, ltb, leb, max, min, List, [], ◌∷◌, ◌++◌, length, get_or, count_by}
 use Rattle.std.proofs.Common.{refl, sym, ap, arith, not}
 use Rattle.std.specs.Bool.{beq}
 use Rattle.std.proofs.lemmas.Bool.Decides.{nat_tests}
@@ -95,6 +95,22 @@ with_one xs r a = list_any-append (λ x. holds x a) xs (r ∷ []) ∙ last (is_t
 pub behind : (xs ys : List Ends) (a : ℕ)
     → is_touched (xs ++ ys) a ≡ (is_touched xs a || is_touched ys a)
 behind xs ys a = list_any-append (λ x. holds x a) xs ys
+
+-- what a ground holds of a chunk
+pub part_none : (f l c d a : ℕ) → min l d < max f c
+    → false ≡ ((leb f a && leb a l) && (leb c a && leb a d))
+part_none f l c d a lt = grind (arith, nat_tests)
+
+pub part_some : (f l c d a : ℕ) → ((leb (max f c) a && leb a (min l d)) || false)
+    ≡ ((leb f a && leb a l) && (leb c a && leb a d))
+part_some f l c d a = grind (arith, nat_tests)
+
+-- the part of a ground in a chunk is its own ground
+pub part_first : (g c : Ends) → max (ground_first g) c.first ≤ min g.last c.last
+    → ground_first (record { first = max (ground_first g) c.first; last = min g.last c.last })
+    ≡ max (ground_first g) c.first
+unfolding ground_first
+part_first g c le = grind (arith, nat_tests)
 
 pub le_from_test : (x y : ℕ) → leb x y ≡ true → x ≤ y
 le_from_test x y e = grind (arith, nat_tests)

@@ -3,8 +3,8 @@ use Rattle.geo_addr.specs.Ranges.{Ends, ground_first, holds, is_v4}
 use Rattle.cut_segments.proofs.JoinedLemmas.{joined_holds, same_if}
 use Rattle.cut_segments.proofs.joined.both_of.Goals as goal
 
-pub returns : goal.returns
-returns c a =
+pub returns-clause-held : goal.returns-clause-held
+returns-clause-held c a =
     let first : c.growing.inside.first ≡ c.args.growing.first =
     ap (λ (r : Ends). r.first) c.growing.view_is in
     let growing : c.growing.inside.last ≡ c.args.growing.last =
