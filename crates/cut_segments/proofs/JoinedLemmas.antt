@@ -1,14 +1,21 @@
 -- Grounds that are joined, or left out where others have their addresses.
 use Rattle.std.proofs.Common.{◌≡◌, ◌∙◌, ℕ, ◌+◌, ◌-◌, ◌^◌, ◌<◌, ◌≤◌, Bool, true, false, cond, ◌&&◌}
 use Rattle.std.proofs.Common.{◌||◌, ltb, leb, max, min, List, [], ◌∷◌, ◌++◌, length, get_or, count_by}
-use Rattle.std.proofs.Common.{refl, sym, ap, arith, not}
+use Rattle.std.proofs.Common.{refl, sym, ap, arith, not, take, add-one, subst, Contains, Option}
+use Rattle.std.proofs.Common.{None, Some}
+use Rattle.std.specs.Option.{option_to_list}
+use Rattle.std.specs.Prelude.{IfSome}
+use Rattle.std.proofs.Math.ListN.{get_or-map}
+use Rattle.std.proofs.Math.Seq.{take-suc}
+use Rattle.std.proofs.lemmas.List.{length-map}
+use Rattle.std.proofs.lemmas.List.Elements.{All-from_recursion}
 use Rattle.std.specs.Bool.{beq}
 use Rattle.std.proofs.lemmas.Bool.Decides.{nat_tests}
 use Rattle.std.proofs.lemmas.List.Folds.{list_any-append, list_any_at}
 use Rattle.std.proofs.lemmas.List.Sums.{sum_by-cons}
 use Rattle.geo_addr.specs.Ranges.{Ends, ground_first, holds, is_v4}
 use Rattle.source_changes.specs.Touched.{is_touched}
-use Rattle.cut_segments.specs.Segments.{AreSegments}
+use Rattle.cut_segments.specs.Segments.{AreSegments, BeginIn, starts_in}
 
 -- tests that pass alike are the same
 alike : (x y : Bool) → (x ≡ true → y ≡ true) → (y ≡ true → x ≡ true) → x ≡ y
@@ -111,6 +118,46 @@ pub part_first : (g c : Ends) → max (ground_first g) c.first ≤ min g.last c.
     ≡ max (ground_first g) c.first
 unfolding ground_first
 part_first g c le = grind (arith, nat_tests)
+
+-- one ground more
+pub touched_more : (gs : List Ends) (i : ℕ) (g : Ends) → i < length gs → g ≡ get_or gs i g
+    → (a : ℕ) → is_touched (take (i + 1) gs) a ≡ (is_touched (take i gs) a || holds g a)
+touched_more gs i g below is a =
+    ap (λ (xs : List Ends). is_touched xs a)
+    (ap (λ n. take n gs) (add-one i) ∙ take-suc gs i g below
+    ∙ ap (λ (y : Ends). take i gs ++ y ∷ []) (sym is))
+    ∙ with_one (take i gs) g a
+
+pub and_or : (t h c : Bool) → ((t && c) || (h && c)) ≡ ((t || h) && c)
+and_or true true true = refl
+and_or true true false = refl
+and_or true false true = refl
+and_or true false false = refl
+and_or false true true = refl
+and_or false true false = refl
+and_or false false true = refl
+and_or false false false = refl
+
+-- what a ground holds of a chunk begins where the ground does, or the chunk
+pub part_begins : (gs : List Ends) (chunk : Ends) (i : ℕ) (g : Ends) (part : Option Ends)
+    → i < length gs → g ≡ get_or gs i g
+    → IfSome part (λ r. ground_first r ≡ max (ground_first g) chunk.first)
+    → BeginIn (starts_in gs chunk) (option_to_list part)
+part_begins gs chunk i g None below is first =
+    All-from_recursion (λ (r : Ends). Contains (starts_in gs chunk) (ground_first r)) [] tt
+part_begins gs chunk i g (Some r) below is first =
+    All-from_recursion (λ (r : Ends). Contains (starts_in gs chunk) (ground_first r)) (r ∷ [])
+    ((subst (Contains (starts_in gs chunk)) (sym first) there), tt)
+  where
+    start : Ends → ℕ
+    start x = max (ground_first x) chunk.first
+
+    there : Contains (starts_in gs chunk) (max (ground_first g) chunk.first)
+    there = (
+      i,
+      omega (arith, length-map gs start, below),
+      get_or-map start gs i g ∙ ap start (sym is),
+    )
 
 pub le_from_test : (x y : ℕ) → leb x y ≡ true → x ≤ y
 le_from_test x y e = grind (arith, nat_tests)
