@@ -18,8 +18,8 @@ use geo_outside::{Gate, MemFolder, MemSink, OpenGate, Steps};
 use geofeed_cmd::{Status, run};
 use std::alloc::{AllocError, Global};
 use std::marker::{Brand, Sync};
+use std::mem::drop;
 use std::sync::ledger::{Blank, Ledger};
-use std::test::Fail;
 use std::thread::Threads;
 
 /// Names and bytes of files.
@@ -48,6 +48,18 @@ struct Left {
     out: MemSink,
 }
 
+/// What was made, unless what was done to it since failed. What goes here is of any type, so that
+/// no proof takes it apart, as it does where a folder goes by itself at each way out.
+fn if_done<T: Drop>(made: T, done: Result<(), Memory>) -> Result<T, Memory> {
+    match done {
+        Ok(()) => Ok(made),
+        Err(fault) => {
+            drop(made);
+            Err(fault)
+        }
+    }
+}
+
 /// A list of one number.
 fn list_of(alloc: Global, number: u64) -> Result<Vec<u64>, AllocError> {
     let mut list = Vec::new(alloc);
@@ -70,13 +82,18 @@ fn empty_sink(alloc: Global, print: u64) -> Result<MemSink, AllocError> {
 
 /// An empty folder, and nothing printed.
 fn nothing(alloc: Global, faults: Faults) -> Result<Left, AllocError> {
-    let folder = empty_folder(alloc, faults.read, faults.put)?;
     let out = empty_sink(alloc, faults.print)?;
-    Ok(Left {
-        status: Status::Done,
-        folder,
-        out,
-    })
+    match empty_folder(alloc, faults.read, faults.put) {
+        Ok(folder) => Ok(Left {
+            status: Status::Done,
+            folder,
+            out,
+        }),
+        Err(fault) => {
+            drop(out);
+            Err(fault)
+        }
+    }
 }
 
 /// Sets a file.
@@ -92,19 +109,24 @@ fn hold_all(folder: &mut MemFolder, files: Files) -> Result<(), Memory> {
 }
 
 /// A folder of these files, and nothing printed.
-fn start(alloc: Global, files: Files, faults: Faults) -> Result<Left, Fail> {
+fn start(alloc: Global, files: Files, faults: Faults) -> Result<Left, Memory> {
     let mut left = nothing(alloc, faults)?;
-    hold_all(&mut left.folder, files)?;
-    Ok(left)
+    let held = hold_all(&mut left.folder, files);
+    if_done(left, held)
 }
 
-/// The words of a command.
-fn words_of(alloc: Global, command: &str) -> Result<Vec<String>, AllocError> {
-    let mut words = Vec::new(alloc);
+fn push_words(alloc: Global, command: &str, words: &mut Vec<String>) -> Result<(), Memory> {
     for word in command.split_whitespace() {
         words.push(String::from_str(alloc, word)?)?;
     }
-    Ok(words)
+    Ok(())
+}
+
+/// The words of a command.
+fn words_of(alloc: Global, command: &str) -> Result<Vec<String>, Memory> {
+    let mut words = Vec::new(alloc);
+    let pushed = push_words(alloc, command, &mut words);
+    if_done(words, pushed)
 }
 
 /// Does the command of these words.
@@ -150,9 +172,10 @@ fn speak_at<R: Threads + Sync, G: Gate>(
     command: &str,
     left: &mut Left,
     gate: &G,
-) -> Result<(), AllocError> {
+) -> Result<(), Memory> {
     let words = words_of(alloc, command)?;
     left.status = ended(rt, alloc, words.as_slice(), left, gate);
+    drop(words);
     Ok(())
 }
 
@@ -162,7 +185,7 @@ fn speak<R: Threads + Sync>(
     alloc: Global,
     command: &str,
     left: &mut Left,
-) -> Result<(), AllocError> {
+) -> Result<(), Memory> {
     speak_at(rt, alloc, command, left, &OpenGate)
 }
 
@@ -173,10 +196,10 @@ fn left_by<R: Threads + Sync>(
     files: Files,
     command: &str,
     faults: Faults,
-) -> Result<Left, Fail> {
+) -> Result<Left, Memory> {
     let mut left = start(alloc, files, faults)?;
-    speak(rt, alloc, command, &mut left)?;
-    Ok(left)
+    let spoken = speak(rt, alloc, command, &mut left);
+    if_done(left, spoken)
 }
 
 /// Whether it ended so, and this was printed.

@@ -2,9 +2,11 @@
 //! files and reckoned by hand: a file has 6 bytes for each of its nodes, 16 zero bytes, its data
 //! section, and 203 bytes from the marker on, three less where the epoch has one byte.
 use super::{Faults, Files, Left, NONE, is_so, left_by, stands};
+use geo_addr::Memory;
 use geofeed_cmd::Status;
 use std::alloc::Global;
 use std::marker::Sync;
+use std::mem::drop;
 use std::test::Fail;
 use std::thread::Threads;
 
@@ -322,9 +324,11 @@ pub(super) fn stand(left: &Left, a: bool, b: bool) -> bool {
     stands(left, "a") == a && stands(left, "b") == b
 }
 
-fn ends_so<R: Threads + Sync>(rt: &R, alloc: Global, row: &Row) -> Result<bool, Fail> {
+fn ends_so<R: Threads + Sync>(rt: &R, alloc: Global, row: &Row) -> Result<bool, Memory> {
     let left = left_by(rt, alloc, row.files, row.command, row.faults)?;
-    Ok(is_so(&left, row.status, row.printed) && stand(&left, row.a, row.b))
+    let ends_so = is_so(&left, row.status, row.printed) && stand(&left, row.a, row.b);
+    drop(left);
+    Ok(ends_so)
 }
 
 #[test]

@@ -1,8 +1,10 @@
 //! The parallel map is used for what a job asks: two pieces are in it at once.
 use super::{Files, Left, NONE, speak_at, start};
+use geo_addr::Memory;
 use geofeed_cmd::Status;
 use std::alloc::Global;
 use std::marker::Sync;
+use std::mem::drop;
 use std::test::Fail;
 use std::thread::Threads;
 use test_base::Looking;
@@ -25,17 +27,19 @@ fn meetings<R: Threads + Sync>(
     alloc: Global,
     command: &str,
     left: &mut Left,
-) -> Result<u64, Fail> {
+) -> Result<u64, Memory> {
     let gate = Looking::waiting();
     speak_at(rt, alloc, command, left, &gate)?;
     Ok(gate.met())
 }
 
 /// Whether two pieces met twice.
-fn meet<R: Threads + Sync>(rt: &R, alloc: Global, command: &str) -> Result<bool, Fail> {
+fn meet<R: Threads + Sync>(rt: &R, alloc: Global, command: &str) -> Result<bool, Memory> {
     let mut left = start(alloc, JOBS, NONE)?;
-    let met = meetings(rt, alloc, command, &mut left)?;
-    Ok(left.status == Status::Done && met == 2)
+    let met = meetings(rt, alloc, command, &mut left);
+    let status = left.status;
+    drop(left);
+    Ok(status == Status::Done && met? == 2)
 }
 
 #[test]

@@ -3,6 +3,7 @@
 use geo_addr::Memory;
 use job_lines::{JobFault, feed_key, is_name, is_slot, read_job};
 use std::alloc::{AllocError, Global};
+use std::mem::drop;
 use std::test::Fail;
 
 /// A job, its epoch, its database type, its number of pieces, and how many steps it has.
@@ -64,7 +65,9 @@ fn is_read(alloc: Global, row: &Row) -> Result<bool, JobFault> {
     let has_settings = job.meta.epoch == row.epoch
         && job.meta.name.as_str() == row.name
         && job.pieces == row.pieces;
-    Ok(has_settings && job.steps.as_slice().len() == row.steps)
+    let has_steps = job.steps.as_slice().len() == row.steps;
+    drop(job);
+    Ok(has_settings && has_steps)
 }
 
 #[test]

@@ -2,8 +2,9 @@
 //! as the names of the faults are.
 use super::words_of;
 use geo_addr::Memory;
-use job_lines::{LineFault, Reason, command_or_reason, job_or_reason};
-use std::alloc::{AllocError, Global};
+use job_lines::{JobRefusal, LineFault, Reason, command_or_reason, job_or_reason};
+use std::alloc::Global;
+use std::mem::drop;
 use std::test::Fail;
 
 /// A job or words, and the fault that is told of them.
@@ -62,15 +63,23 @@ fn before() -> &'static [Row] {
     &BEFORE
 }
 
-fn is_before(alloc: Global, row: &Row) -> Result<bool, Memory> {
-    let words = words_of(alloc, row.0)?;
-    match command_or_reason(words.as_slice()) {
+fn is_before_in(alloc: Global, words: &[String], wanted: &str) -> Result<bool, Memory> {
+    match command_or_reason(words) {
         Ok(_) => Ok(false),
         Err(fault) => {
-            let reason = Reason::of_words(alloc, words.as_slice(), fault)?;
-            Ok(reason.before.text.as_str() == row.1)
+            let reason = Reason::of_words(alloc, words, fault)?;
+            let is_before = reason.before.text.as_str() == wanted;
+            drop(reason);
+            Ok(is_before)
         }
     }
+}
+
+fn is_before(alloc: Global, row: &Row) -> Result<bool, Memory> {
+    let words = words_of(alloc, row.0)?;
+    let is_before = is_before_in(alloc, words.as_slice(), row.1);
+    drop(words);
+    is_before
 }
 
 fn lines() -> &'static [Row] {
@@ -81,13 +90,24 @@ fn words() -> &'static [Row] {
     &WORDS
 }
 
+fn fault_in(refusal: &JobRefusal) -> Option<LineFault> {
+    match &refusal.reason {
+        Some(reason) => Some(reason.fault),
+        None => None,
+    }
+}
+
 fn fault_of_line(alloc: Global, job: &str) -> Option<LineFault> {
     match job_or_reason(alloc, job.as_bytes()) {
-        Ok(_) => None,
-        Err(refusal) => match &refusal.reason {
-            Some(reason) => Some(reason.fault),
-            None => None,
-        },
+        Ok(job) => {
+            drop(job);
+            None
+        }
+        Err(refusal) => {
+            let fault = fault_in(&refusal);
+            drop(refusal);
+            fault
+        }
     }
 }
 
@@ -98,14 +118,16 @@ fn fault_of_words(words: &[String]) -> Option<LineFault> {
     }
 }
 
-fn is_line_told(alloc: Global, row: &Row) -> Result<bool, AllocError> {
+fn is_line_told(alloc: Global, row: &Row) -> Result<bool, Memory> {
     let told = format!(in alloc; "{:?}", fault_of_line(alloc, row.0))?;
     Ok(told.as_str() == row.1)
 }
 
-fn are_words_told(alloc: Global, row: &Row) -> Result<bool, AllocError> {
+fn are_words_told(alloc: Global, row: &Row) -> Result<bool, Memory> {
     let words = words_of(alloc, row.0)?;
-    let told = format!(in alloc; "{:?}", fault_of_words(words.as_slice()))?;
+    let fault = fault_of_words(words.as_slice());
+    drop(words);
+    let told = format!(in alloc; "{fault:?}")?;
     Ok(told.as_str() == row.1)
 }
 

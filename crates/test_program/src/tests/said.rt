@@ -4,6 +4,7 @@ use geo_addr::{Memory, Text};
 use job_run::{ActKind, Cause, Journal, NotDone, Stop};
 use std::alloc::Global;
 use std::io::ErrorKind;
+use std::mem::drop;
 use std::test::Fail;
 use stop_words::{System, stop_text};
 
@@ -76,10 +77,11 @@ fn rows() -> &'static [Row] {
 
 /// What a command tells that ends so.
 fn journal_of(alloc: Global, row: &Row) -> Result<Journal, Memory> {
+    let name = Text::of(alloc, row.name)?;
     let mut journal = Journal::new(alloc);
     journal.begin(alloc, "job");
     journal.end(row.stop);
-    journal.name = Some(Text::of(alloc, row.name)?);
+    journal.name = Some(name);
     if let Some((line, kind)) = row.step {
         journal.step = Some(NotDone { line, kind });
     }
@@ -92,7 +94,9 @@ fn is_said(alloc: Global, row: &Row) -> Result<bool, Memory> {
         kind: ErrorKind::Other,
         text: "why",
     };
-    Ok(stop_text(alloc, &journal, Some(system))?.as_str() == row.said)
+    let said = stop_text(alloc, &journal, Some(system));
+    drop(journal);
+    Ok(said?.as_str() == row.said)
 }
 
 #[test]

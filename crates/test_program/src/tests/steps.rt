@@ -2,11 +2,11 @@
 //! it stops was counted by hand.
 ghost use Rattle.std.specs.Prelude.{◌≡◌, ◌<◌, ◌≤◌, length, IfOk};
 
-use super::{Files, empty_folder, empty_sink, hold_all};
+use super::{Files, empty_folder, empty_sink, hold_all, if_done};
 use fan_work::Forks;
 use geo_addr::{Bytes, Memory, Text};
 use geo_outside::{MemFolder, MemSink, OpenGate, Steps};
-use job_lines::{Job, read_job};
+use job_lines::{Step, read_job};
 use job_run::{Apart, Cause, Journal, Scope, StepStop, Stop, do_steps};
 use mmdb_file::Meta;
 use std::alloc::Global;
@@ -106,18 +106,23 @@ fn one_apart(alloc: Global, name: &str, bytes: &[u8]) -> Result<Apart, Memory> {
     })
 }
 
-fn apart_of(alloc: Global, files: Files) -> Result<Vec<Apart>, Memory> {
-    let mut apart = Vec::new(alloc);
+fn push_apart(alloc: Global, files: Files, apart: &mut Vec<Apart>) -> Result<(), Memory> {
     for file in files {
         apart.push(one_apart(alloc, file.0, file.1)?)?;
     }
-    Ok(apart)
+    Ok(())
+}
+
+fn apart_of(alloc: Global, files: Files) -> Result<Vec<Apart>, Memory> {
+    let mut apart = Vec::new(alloc);
+    let pushed = push_apart(alloc, files, &mut apart);
+    if_done(apart, pushed)
 }
 
 fn folder_of(alloc: Global, files: Files) -> Result<MemFolder, Memory> {
     let mut folder = empty_folder(alloc, 0, 0)?;
-    hold_all(&mut folder, files)?;
-    Ok(folder)
+    let held = hold_all(&mut folder, files);
+    if_done(folder, held)
 }
 
 fn meta(alloc: Global) -> Result<Meta, Memory>
@@ -134,37 +139,54 @@ fn session_of(alloc: Global) -> Result<Session, Memory> {
     Session::new(alloc, meta)
 }
 
+/// How much of which steps is done, and the files that stand apart.
+#[derive(Clone, Copy)]
+struct Given<'a> {
+    scope: Scope,
+    apart: &'a [Apart],
+    steps: &'a [Step],
+}
+
 /// What the steps of the job are done with.
 #[derive(Drop)]
 struct World {
-    apart: Vec<Apart>,
-    job: Job,
     session: Session,
     folder: MemFolder,
     out: MemSink,
 }
 
-fn world_of(alloc: Global, row: &Row) -> Result<World, Fail> {
-    let apart = apart_of(alloc, row.apart)?;
-    let job = read_job(alloc, job().as_bytes())?;
-    let folder = folder_of(alloc, row.held)?;
+/// The session is made last, so that it is let go on no way out.
+fn with_session(alloc: Global, folder: MemFolder, out: MemSink) -> Result<World, Memory> {
+    match session_of(alloc) {
+        Ok(session) => Ok(World {
+            session,
+            folder,
+            out,
+        }),
+        Err(fault) => {
+            drop(folder);
+            drop(out);
+            Err(fault)
+        }
+    }
+}
+
+fn world_of(alloc: Global, files: Files) -> Result<World, Memory> {
     let out = empty_sink(alloc, 0)?;
-    // The session last, so that it is let go on no way out.
-    let session = session_of(alloc)?;
-    Ok(World {
-        apart,
-        job,
-        session,
-        folder,
-        out,
-    })
+    match folder_of(alloc, files) {
+        Ok(folder) => with_session(alloc, folder, out),
+        Err(fault) => {
+            drop(out);
+            Err(fault)
+        }
+    }
 }
 
 /// Does the steps.
 fn done<R: Threads + Sync, L: Ledger>(
     rt: &R,
     alloc: Global,
-    scope: Scope,
+    given: &Given<'_>,
     world: &mut World,
     blank: Blank,
 ) -> Result<(), StepStop>
@@ -179,22 +201,31 @@ fn done<R: Threads + Sync, L: Ledger>(
         gate: &OpenGate,
         pieces: 3,
     };
-    do_steps(
+    let mut journal = Journal::new(alloc);
+    let ended = do_steps(
         &forks,
-        world.apart.as_slice(),
-        scope,
-        world.job.steps.as_slice(),
+        given.apart,
+        given.scope,
+        given.steps,
         &mut world.session,
         &mut world.folder,
         &mut world.out,
         &mut steps,
-        &mut Journal::new(alloc),
-    )
+        &mut journal,
+    );
+    drop(journal);
+    ended
 }
 
 /// Whether they end as the row has it.
-fn ends_so<R: Threads + Sync>(rt: &R, alloc: Global, row: &Row, world: &mut World) -> bool {
-    let ended = done::<R, Brand>(rt, alloc, row.scope, world, Blank::new(1));
+fn ends_so<R: Threads + Sync>(
+    rt: &R,
+    alloc: Global,
+    row: &Row,
+    given: &Given<'_>,
+    world: &mut World,
+) -> bool {
+    let ended = done::<R, Brand>(rt, alloc, given, world, Blank::new(1));
     word_of(ended) == (row.at, row.way)
 }
 
@@ -202,12 +233,43 @@ fn is_printed(world: &World, printed: &str) -> bool {
     world.out.written() == printed.as_bytes()
 }
 
-fn comes_out<R: Threads + Sync>(rt: &R, alloc: Global, row: &Row) -> Result<bool, Fail> {
-    let mut world = world_of(alloc, row)?;
-    let comes = ends_so(rt, alloc, row, &mut world) && is_printed(&world, row.printed);
+/// Whether what is given comes out as the row has it.
+fn comes_out_with<R: Threads + Sync>(
+    rt: &R,
+    alloc: Global,
+    row: &Row,
+    given: &Given<'_>,
+) -> Result<bool, Memory> {
+    let mut world = world_of(alloc, row.held)?;
+    let comes = ends_so(rt, alloc, row, given, &mut world) && is_printed(&world, row.printed);
     // By name: a world that goes at the end of each way out costs the proof a quarter of a minute.
     drop(world);
     Ok(comes)
+}
+
+/// The same, for the steps of the job.
+fn comes_out_of_job<R: Threads + Sync>(
+    rt: &R,
+    alloc: Global,
+    row: &Row,
+    apart: &[Apart],
+) -> Result<bool, Fail> {
+    let job = read_job(alloc, job().as_bytes())?;
+    let given = Given {
+        scope: row.scope,
+        apart,
+        steps: job.steps.as_slice(),
+    };
+    let comes = comes_out_with(rt, alloc, row, &given);
+    drop(job);
+    Ok(comes?)
+}
+
+fn comes_out<R: Threads + Sync>(rt: &R, alloc: Global, row: &Row) -> Result<bool, Fail> {
+    let apart = apart_of(alloc, row.apart)?;
+    let comes = comes_out_of_job(rt, alloc, row, apart.as_slice());
+    drop(apart);
+    comes
 }
 
 #[test]

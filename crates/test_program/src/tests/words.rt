@@ -1,7 +1,9 @@
 //! Words that are a command, and which one, told by hand: a prefix of IPv4 is 96 bits longer there.
 use super::words_of;
+use geo_addr::Memory;
 use job_lines::command_in;
 use std::alloc::{AllocError, Global};
+use std::mem::drop;
 use std::test::Fail;
 
 /// Words, and the command that they are.
@@ -42,9 +44,11 @@ fn spelt(alloc: Global, words: &[String]) -> Result<String, AllocError> {
     format!(in alloc; "{:?}", command_in(words))
 }
 
-fn is_spelt(alloc: Global, row: &Row) -> Result<bool, AllocError> {
+fn is_spelt(alloc: Global, row: &Row) -> Result<bool, Memory> {
     let words = words_of(alloc, row.0)?;
-    Ok(spelt(alloc, words.as_slice())?.as_str() == row.1)
+    let spelt = spelt(alloc, words.as_slice());
+    drop(words);
+    Ok(spelt?.as_str() == row.1)
 }
 
 #[test]
