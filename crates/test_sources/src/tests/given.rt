@@ -30,27 +30,34 @@ fn dump(alloc: Global, slot: &str, text: &str) -> Option<Dump> {
     reader.finish().ok()
 }
 
+// Whether a source was there, which goes.
+fn was_there<T: Drop>(old: Option<T>) -> bool {
+    let was_there = old.is_some();
+    drop(old);
+    was_there
+}
+
 fn set_dump(sources: &mut Sources, alloc: Global, slot: &str, text: &str) -> Option<bool> {
     let old = sources.set_rpsl(dump(alloc, slot, text)?).ok()?;
-    Some(old.is_some())
+    Some(was_there(old))
 }
 
 fn set_stats(sources: &mut Sources, alloc: Global, slot: &str, text: &str) -> Option<bool> {
     let stats = read_stats(alloc, slot, text.as_bytes()).ok()?;
     let old = sources.set_stats(stats).ok()?;
-    Some(old.is_some())
+    Some(was_there(old))
 }
 
 fn set_feed(sources: &mut Sources, alloc: Global, url: &str, text: &str) -> Option<bool> {
     let feed = read_feed(alloc, url, text.as_bytes()).ok()?;
     let old = sources.set_feed(feed).ok()?;
-    Some(old.is_some())
+    Some(was_there(old))
 }
 
 fn set_overrides(sources: &mut Sources, alloc: Global, text: &str) -> Option<bool> {
     let rows = read_overrides(alloc, text.as_bytes()).ok()?;
     let old = sources.set_overrides(rows).ok()?;
-    Some(old.is_some())
+    Some(was_there(old))
 }
 
 /// Sets a source, and says whether another one was there.

@@ -7,6 +7,7 @@ use first_index::plain::{AllSources, entry_at, speaker_at};
 use geo_addr::Addr;
 use geo_terms::{Dump, Feed};
 use std::alloc::Global;
+use std::mem::drop;
 
 const TOP_V4: u128 = 0xFFFF_FFFF;
 
@@ -24,30 +25,63 @@ fn url_of(alloc: Global, number: u64) -> Option<String> {
     format!(in alloc; "https://e.example/{number}").ok()
 }
 
-fn made_dump(alloc: Global, line: u64, number: &mut u64) -> Option<Dump> {
+// A row of a slot, as yet without a URL.
+fn made_row<'a>(slot: &'a str, line: u64, number: &mut u64) -> Row<'a> {
     let first = (TOP_V4 - 0x200).wrapping_add(u128::from(next(number) & 0x3FF));
     let last = first.saturating_add(u128::from(next(number) & 0x7F));
-    let slot = format!(in alloc; "{line}").ok()?;
     let modified = next(number) & 3;
-    let url = url_of(alloc, next(number))?;
-    let row = Row {
-        slot: slot.as_str(),
+    Row {
+        slot,
         line,
         first,
         last,
         modified,
-        url: url.as_str(),
-    };
-    dump(alloc, row)
+        url: "",
+    }
+}
+
+fn dump_in(alloc: Global, slot: &str, line: u64, number: &mut u64) -> Option<Dump> {
+    let row = made_row(slot, line, number);
+    let url = url_of(alloc, next(number))?;
+    let dump = dump(
+        alloc,
+        Row {
+            url: url.as_str(),
+            ..row
+        },
+    );
+    drop(url);
+    dump
+}
+
+fn made_dump(alloc: Global, line: u64, number: &mut u64) -> Option<Dump> {
+    let slot = format!(in alloc; "{line}").ok()?;
+    let dump = dump_in(alloc, slot.as_str(), line, number);
+    drop(slot);
+    dump
+}
+
+fn set_dump(sources: &mut Authority, dump: Dump) -> Option<()> {
+    let old = sources.set_dump(dump).ok()?;
+    drop(old);
+    Some(())
+}
+
+fn feed_of(alloc: Global, line: u64, block: &str) -> Option<Feed> {
+    let url = url_of(alloc, line)?;
+    let feed = feed(alloc, url.as_str(), line.saturating_add(1), block);
+    drop(url);
+    feed
 }
 
 fn made_feed(alloc: Global, line: u64, number: &mut u64) -> Option<Feed> {
-    let url = url_of(alloc, line)?;
     let low = next(number) & 0xFF;
     let length = if next(number) & 1 == 1 { 25 } else { 32 };
     let low = if length == 25 { 128 } else { low };
     let block = format!(in alloc; "255.255.255.{low}/{length}").ok()?;
-    feed(alloc, url.as_str(), line.saturating_add(1), block.as_str())
+    let feed = feed_of(alloc, line, block.as_str());
+    drop(block);
+    feed
 }
 
 // Dumps whose references nest, overlap and repeat on both sides of the border of the families, set
@@ -57,7 +91,7 @@ fn make_dumps(alloc: Global, sources: &mut Authority, dumps: &mut Vec<Dump>) -> 
     for line in 0..2000 {
         let mut again = number;
         dumps.push(made_dump(alloc, line, &mut number)?).ok()?;
-        sources.set_dump(made_dump(alloc, line, &mut again)?).ok()?;
+        set_dump(sources, made_dump(alloc, line, &mut again)?)?;
     }
     Some(())
 }
@@ -103,8 +137,9 @@ fn as_the_plain_look_ups(rt: HostRuntime) {
     assert!(rt; make_dumps(rt.alloc(), &mut sources, &mut dumps).is_some());
     assert!(rt; make_feeds(rt.alloc(), &mut sources, &mut feeds).is_some());
     assert!(rt; sources.make_ready().is_ok());
-    assert_eq!(rt;
-        first_wrong(&sources, dumps.as_slice(), feeds.as_slice()),
-        1200
-    );
+    let wrong = first_wrong(&sources, dumps.as_slice(), feeds.as_slice());
+    drop(feeds);
+    drop(dumps);
+    drop(sources);
+    assert_eq!(rt; wrong, 1200);
 }

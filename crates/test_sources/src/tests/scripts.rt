@@ -1,6 +1,6 @@
 //! What is done with sources and asked of them, step by step.
 use crate::tests::given::{Given, drop_one, set};
-use crate::tests::told::{reasons, records, report, segments};
+use crate::tests::told::{is_text, reasons, records, report, segments};
 use precedence::{DropFault, Sources};
 use std::alloc::Global;
 use std::mem::drop;
@@ -51,14 +51,6 @@ fn done(sources: &mut Sources, alloc: Global, given: Given) -> Option<&'static s
 fn is_done(sources: &mut Sources, alloc: Global, given: Given, wanted: &str) -> bool {
     match done(sources, alloc, given) {
         Some(what) => what == wanted,
-        None => false,
-    }
-}
-
-// Whether a text is there and is the one that is wanted.
-fn is_text(found: Option<String>, wanted: &str) -> bool {
-    match found {
-        Some(text) => text.as_str() == wanted,
         None => false,
     }
 }

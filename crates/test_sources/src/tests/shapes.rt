@@ -161,7 +161,8 @@ fn stats(alloc: Global, shape: &Shape) -> Option<Stats> {
 
 fn set_stats(alloc: Global, sources: &mut Sources, shape: &Shape) -> Option<()> {
     let file = stats(alloc, shape)?;
-    sources.set_stats(file).ok()?;
+    let old = sources.set_stats(file).ok()?;
+    drop(old);
     Some(())
 }
 

@@ -1,10 +1,11 @@
 //! Objects and feeds: who speaks at an address, by which entry, and the notes on both. What is
 //! wanted was told from the ranges, dates and URLs by hand.
-use crate::tests::told::{entry_line, push_notes};
+use crate::tests::told::{entry_line, is_text, text_of_notes};
 use authority::{Authority, DropFault};
 use geo_addr::{List, Range, Text, parse_addr, parse_block};
 use geo_terms::{Dump, Entry, Feed, Reference, Said};
 use std::alloc::Global;
+use std::mem::drop;
 
 const A: &str = "https://e.example/a.csv";
 
@@ -323,7 +324,11 @@ fn set_dump(sources: &mut Authority, alloc: Global, row: Row<'_>) -> Option<bool
 /// Sets a feed, and says whether another one was there.
 pub fn set_feed(sources: &mut Authority, feed: Feed) -> Option<bool> {
     match sources.set_feed(feed) {
-        Ok(old) => Some(old.is_some()),
+        Ok(old) => {
+            let replaces = old.is_some();
+            drop(old);
+            Some(replaces)
+        }
         Err(_) => None,
     }
 }
@@ -356,9 +361,9 @@ fn both_say(sources: &mut Authority, address: &str, speaker: u64, entry: u64) ->
 
 fn has_notes(alloc: Global, sources: &Authority, wanted: &str) -> Option<bool> {
     let notes = sources.notes().ok()?;
-    let mut text = String::new(alloc);
-    push_notes(alloc, notes.as_slice(), &mut text)?;
-    Some(text.as_str() == wanted)
+    let text = text_of_notes(alloc, notes.as_slice());
+    drop(notes);
+    Some(is_text(text, wanted))
 }
 
 // The lines of who covers 192.0.2.0/25 by A and by B.
@@ -418,7 +423,10 @@ fn agree_in_turn(sources: &mut Authority, alloc: Global, script: &Script) -> boo
     }
     match sources.snapshot() {
         Ok(mut kept) => {
-            agree(sources, alloc, script.then) && agree(&mut kept, alloc, script.before)
+            let agrees = agree(sources, alloc, script.then);
+            let agreed = agree(&mut kept, alloc, script.before);
+            drop(kept);
+            agrees && agreed
         }
         Err(_) => false,
     }
@@ -426,7 +434,9 @@ fn agree_in_turn(sources: &mut Authority, alloc: Global, script: &Script) -> boo
 
 fn is_done(alloc: Global, script: &Script) -> bool {
     let mut sources = Authority::new(alloc);
-    agree_in_turn(&mut sources, alloc, script)
+    let agree = agree_in_turn(&mut sources, alloc, script);
+    drop(sources);
+    agree
 }
 
 #[test]

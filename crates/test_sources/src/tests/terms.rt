@@ -7,6 +7,7 @@ use geo_terms::{
     place_of,
 };
 use std::alloc::Global;
+use std::mem::drop;
 
 // The country and the region of a place.
 fn fields_of(place: &Place) -> (&str, &str) {
@@ -93,7 +94,10 @@ fn fields() -> &'static [PlaceRow] {
 fn name_a_place(alloc: Global, row: &PlaceRow) -> Option<bool> {
     let city = row.city.repeat(alloc, row.count).ok()?;
     let said = place_of(alloc, row.country, row.region, city.as_str(), "");
-    Some(shown(&said) == row.wanted)
+    drop(city);
+    let names = shown(&said) == row.wanted;
+    drop(said);
+    Some(names)
 }
 
 #[test]
@@ -106,7 +110,9 @@ fn fields_name_places(rt: HostRuntime) {
 // The number that the place of a country gets.
 fn number(texts: &mut Texts, places: &mut Places, country: &[u8]) -> Option<u32> {
     let place = country_place(texts, country).ok()??;
-    places.intern(&place).ok()
+    let number = places.intern(&place);
+    drop(place);
+    number.ok()
 }
 
 // The country of the place with a number.
@@ -130,7 +136,10 @@ fn are_numbered(texts: &mut Texts, places: &mut Places) -> bool {
 fn equal_places_have_one_number(rt: HostRuntime) {
     let mut texts = Texts::new(rt.alloc());
     let mut places = Places::new(rt.alloc());
-    assert!(rt; are_numbered(&mut texts, &mut places));
+    let are_numbered = are_numbered(&mut texts, &mut places);
+    drop(places);
+    drop(texts);
+    assert!(rt; are_numbered);
 }
 
 static WORDS: [&str; 6] = ["Zürich", "", "ZH", "Zürich", "", "ZH"];
@@ -335,7 +344,9 @@ fn push_statements(statements: &mut Vec<Override>, ranges: &[(u128, u128)]) -> O
 
 fn index_of(alloc: Global, statements: &[Override]) -> Option<FirstIndex> {
     let borrowed: Vec<&Override> = statements.iter().collect(alloc).ok()?;
-    FirstIndex::of(alloc, borrowed.as_slice()).ok()
+    let index = FirstIndex::of(alloc, borrowed.as_slice());
+    drop(borrowed);
+    index.ok()
 }
 
 fn finds(index: &FirstIndex, firsts: &[(u128, Option<usize>)]) -> bool {
@@ -354,12 +365,16 @@ fn has_cuts(index: &FirstIndex, points: &[u128]) -> bool {
 fn tells(alloc: Global, statements: &mut Vec<Override>, row: &Firsts) -> Option<bool> {
     push_statements(statements, row.0)?;
     let index = index_of(alloc, statements.as_slice())?;
-    Some(finds(&index, row.1) && has_cuts(&index, row.2))
+    let tells = finds(&index, row.1) && has_cuts(&index, row.2);
+    drop(index);
+    Some(tells)
 }
 
 fn is_told(alloc: Global, row: &Firsts) -> Option<bool> {
     let mut statements = Vec::new(alloc);
-    tells(alloc, &mut statements, row)
+    let told = tells(alloc, &mut statements, row);
+    drop(statements);
+    told
 }
 
 #[test]

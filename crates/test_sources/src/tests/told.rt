@@ -3,6 +3,28 @@ use geo_addr::{Range, parse_addr, parse_span};
 use geo_terms::{Delegation, Entry, Note, Override, Place, Reference, note_text};
 use precedence::Sources;
 use std::alloc::Global;
+use std::mem::drop;
+
+// What goes is let go by name here: a text that goes by itself at each way out costs the proof of
+// each.
+
+// Pushes a text, which goes.
+fn push_text(made: String, text: &mut String) -> Option<()> {
+    let pushed = text.push_str(made.as_str()).ok();
+    drop(made);
+    pushed
+}
+
+// A text, where all was pushed to it.
+fn if_pushed(text: String, pushed: Option<()>) -> Option<String> {
+    match pushed {
+        Some(()) => Some(text),
+        None => {
+            drop(text);
+            None
+        }
+    }
+}
 
 // The four fields of a place, as a feed has them, or a dash.
 fn place_text(alloc: Global, place: Option<&Place>) -> Option<String> {
@@ -19,7 +41,7 @@ fn place_text(alloc: Global, place: Option<&Place>) -> Option<String> {
 fn push_record(alloc: Global, sources: &Sources, address: &str, text: &mut String) -> Option<()> {
     let at = parse_addr(address.as_bytes()).ok()?;
     let record = place_text(alloc, sources.record_at(at))?;
-    text.push_str(record.as_str()).ok()?;
+    push_text(record, text)?;
     text.push(';').ok()
 }
 
@@ -37,8 +59,8 @@ fn push_records(
 
 fn records_by(alloc: Global, sources: &Sources, addresses: &[&str]) -> Option<String> {
     let mut text = String::new(alloc);
-    push_records(alloc, sources, addresses, &mut text)?;
-    Some(text)
+    let pushed = push_records(alloc, sources, addresses, &mut text);
+    if_pushed(text, pushed)
 }
 
 // The records by the same sources made ready.
@@ -47,17 +69,35 @@ fn ready_records(alloc: Global, sources: &Sources, addresses: &[&str]) -> Option
     let made = ready.make_ready().is_ok();
     let text = records_by(alloc, &ready, addresses);
     drop(ready);
-    if made { text } else { None }
+    if made {
+        text
+    } else {
+        drop(text);
+        None
+    }
+}
+
+// A text, where the other one is the same.
+fn if_alike(text: String, other: String) -> Option<String> {
+    let is_alike = other.as_str() == text.as_str();
+    drop(other);
+    if is_alike {
+        Some(text)
+    } else {
+        drop(text);
+        None
+    }
 }
 
 /// The records of several addresses, which are the same by sources that are ready.
 pub fn records(alloc: Global, sources: &Sources, addresses: &[&str]) -> Option<String> {
     let text = records_by(alloc, sources, addresses)?;
-    let ready = ready_records(alloc, sources, addresses)?;
-    if ready.as_str() == text.as_str() {
-        Some(text)
-    } else {
-        None
+    match ready_records(alloc, sources, addresses) {
+        Some(ready) => if_alike(text, ready),
+        None => {
+            drop(text);
+            None
+        }
     }
 }
 
@@ -98,33 +138,49 @@ pub fn reasons(alloc: Global, sources: &Sources, address: &str) -> Option<String
     let (dump, speaker) = reference_line(why.speaker);
     let entry = entry_line(why.entry);
     let (stats, row) = row_line(why.delegation);
-    let place = place_text(alloc, why.place)?;
-    let place = place.as_str();
-    format!(in alloc; "{over}; {dump} {speaker}; {entry}; {stats} {row}; {place}").ok()
+    let record = place_text(alloc, why.place)?;
+    let place = record.as_str();
+    let text = format!(in alloc; "{over}; {dump} {speaker}; {entry}; {stats} {row}; {place}");
+    drop(record);
+    text.ok()
 }
 
-/// Pushes notes as a report prints them.
-pub fn push_notes(alloc: Global, notes: &[Note], text: &mut String) -> Option<()> {
+fn push_note(alloc: Global, note: &Note, text: &mut String) -> Option<()> {
+    let line = note_text(alloc, note).ok()?;
+    let pushed = text.push_str(line.as_str()).ok();
+    drop(line);
+    pushed
+}
+
+// Pushes notes as a report prints them.
+fn push_notes(alloc: Global, notes: &[Note], text: &mut String) -> Option<()> {
     for note in notes {
-        let line = note_text(alloc, note).ok()?;
-        text.push_str(line.as_str()).ok()?;
+        push_note(alloc, note, text)?;
     }
     Some(())
+}
+
+/// Notes as a report prints them.
+pub fn text_of_notes(alloc: Global, notes: &[Note]) -> Option<String> {
+    let mut text = String::new(alloc);
+    let pushed = push_notes(alloc, notes, &mut text);
+    if_pushed(text, pushed)
 }
 
 /// The report as it is printed.
 pub fn report(alloc: Global, sources: &Sources) -> Option<String> {
     let notes = sources.report().ok()?;
-    let mut text = String::new(alloc);
-    push_notes(alloc, notes.as_slice(), &mut text)?;
-    Some(text)
+    let text = text_of_notes(alloc, notes.as_slice());
+    drop(notes);
+    text
 }
 
 fn push_segment(alloc: Global, sources: &Sources, segment: Range, text: &mut String) -> Option<()> {
     let place = place_text(alloc, sources.choice(segment))?;
     let (first, last) = (segment.first, segment.last);
-    let line = format!(in alloc; "{first:x}-{last:x} {};", place.as_str()).ok()?;
-    text.push_str(line.as_str()).ok()
+    let line = format!(in alloc; "{first:x}-{last:x} {};", place.as_str());
+    drop(place);
+    push_text(line.ok()?, text)
 }
 
 fn push_segments(
@@ -139,11 +195,29 @@ fn push_segments(
     Some(())
 }
 
+fn text_of_segments(alloc: Global, sources: &Sources, segments: &[Range]) -> Option<String> {
+    let mut text = String::new(alloc);
+    let pushed = push_segments(alloc, sources, segments, &mut text);
+    if_pushed(text, pushed)
+}
+
 /// The ends of the segments of a range, and what is said on each.
 pub fn segments(alloc: Global, sources: &Sources, range: &str) -> Option<String> {
     let touched = parse_span(range.as_bytes()).ok()?;
     let segments = sources.segments(&[touched]).ok()?;
-    let mut text = String::new(alloc);
-    push_segments(alloc, sources, segments.as_slice(), &mut text)?;
-    Some(text)
+    let text = text_of_segments(alloc, sources, segments.as_slice());
+    drop(segments);
+    text
+}
+
+/// Whether a text, which goes, is there and is the one that is wanted.
+pub fn is_text(found: Option<String>, wanted: &str) -> bool {
+    match found {
+        Some(text) => {
+            let is_wanted = text.as_str() == wanted;
+            drop(text);
+            is_wanted
+        }
+        None => false,
+    }
 }
