@@ -9,6 +9,7 @@ mod jobs;
 mod reads;
 mod reasons;
 mod said;
+mod statuses;
 mod steps;
 mod texts;
 mod words;
