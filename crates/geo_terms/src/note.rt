@@ -7,7 +7,7 @@ use geo_addr::{Memory, Text};
 use std::alloc::Global;
 use std::cmp::Ordering;
 
-/// The source that a note is about.
+/// Which source it is: one that a note is about, or one that is removed.
 #[derive(Debug, Drop, PartialEq, Eq)]
 pub enum Origin {
     /// The dump in this slot.

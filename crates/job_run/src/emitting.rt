@@ -27,6 +27,10 @@ use update_session::laws::standing_stays;
 use update_session::{EmitFault, Session};
 
 /// Writes the file of the sources in force under this name, and prints its line.
+///
+/// `Blocked(TooLarge)` where the tree has too many nodes or the data section too many bytes for
+/// the format, `PutFailed` where the folder does not take the file, `SinkFailed` where the output
+/// does not take its line, and `Memory`.
 pub fn emit<R: Threads + Sync, F: Folder, O: Sink, G: Gate, L: Ledger>(
     forks: &Forks<R, G>,
     name: &str,
