@@ -1,11 +1,10 @@
 //! Texts of addresses, prefixes and spans, read and printed. The numbers are put together by hand
 //! from the digits of the texts; what is printed has the form of RFC 5952, which has one of them.
 use geo_addr::{
-    Addr, AddrFault, Block, BlockFault, Range, addr_text, block_text, parse_addr, parse_block,
-    parse_span, range_of, range_text,
+    Addr, AddrFault, Block, BlockFault, Memory, Range, Text, addr_text, block_text, parse_addr,
+    parse_block, parse_span, range_of, range_text,
 };
-use std::alloc::Global;
-use std::test::Fail;
+use std::mem::drop;
 
 type AddressRow = (&'static [u8], Result<Addr, AddrFault>);
 
@@ -177,43 +176,46 @@ fn printed() -> &'static [PrintedRow] {
     &PRINTED
 }
 
-fn prints_address(alloc: Global, row: &PrintedRow) -> Result<bool, Fail> {
-    Ok(addr_text(alloc, Addr(row.0))?.as_str() == row.1)
+// Whether a text, which goes, was made and is this one.
+fn is_text(made: Result<Text, Memory>, wanted: &str) -> bool {
+    match made {
+        Ok(text) => {
+            let is_wanted = text.as_str() == wanted;
+            drop(text);
+            is_wanted
+        }
+        Err(_) => false,
+    }
 }
 
 #[test]
-fn printed_addresses(rt: HostRuntime) -> Result<(), Fail> {
-    for (at, row) in printed().iter().enumerate() {
-        assert!(rt; prints_address(rt.alloc(), row)?, "row {at}");
+fn printed_addresses(rt: HostRuntime) {
+    for (at, (number, wanted)) in printed().iter().enumerate() {
+        let made = addr_text(rt.alloc(), Addr(*number));
+        assert!(rt; is_text(made, wanted), "row {at}");
     }
-    Ok(())
-}
-
-fn prints_block(alloc: Global, block: Block, text: &str) -> Result<bool, Fail> {
-    Ok(block_text(alloc, block)?.as_str() == text)
-}
-
-fn prints_range(alloc: Global, range: Range, text: &str) -> Result<bool, Fail> {
-    Ok(range_text(alloc, range)?.as_str() == text)
 }
 
 const V4: Block = Block { first: 0, len: 96 };
 
 #[test]
-fn printed_blocks(rt: HostRuntime) -> Result<(), Fail> {
+fn printed_blocks(rt: HostRuntime) {
     let all = Block { first: 0, len: 0 };
-    assert!(rt; prints_block(rt.alloc(), all, "::/0")?);
-    assert!(rt; prints_block(rt.alloc(), V4, "0.0.0.0/0")?);
-    Ok(())
+    assert!(rt; is_text(block_text(rt.alloc(), all), "::/0"));
+    assert!(rt; is_text(block_text(rt.alloc(), V4), "0.0.0.0/0"));
 }
 
 #[test]
-fn printed_ranges(rt: HostRuntime) -> Result<(), Fail> {
+fn printed_ranges(rt: HostRuntime) {
     let mixed = Range {
         first: 5,
         last: 1 << 32,
     };
-    assert!(rt; prints_range(rt.alloc(), mixed, "::5-::1:0:0")?);
-    assert!(rt; prints_range(rt.alloc(), range_of(V4), "0.0.0.0-255.255.255.255")?);
-    Ok(())
+    assert!(rt; is_text(range_text(rt.alloc(), mixed), "::5-::1:0:0"));
+    assert!(rt;
+        is_text(
+            range_text(rt.alloc(), range_of(V4)),
+            "0.0.0.0-255.255.255.255"
+        )
+    );
 }

@@ -1,12 +1,11 @@
 //! The parallel map: its results, and what its gates see.
-ghost use Rattle.std.specs.Prelude.{◌<◌, ◌≤◌};
-
 use crate::Looking;
 use fan_work::{Work, map_pieces};
 use geo_addr::Memory;
-use geo_outside::OpenGate;
+use geo_outside::{Gate, OpenGate};
 use std::alloc::Global;
 use std::marker::Sync;
+use std::mem::drop;
 use std::thread::Threads;
 
 /// Work that adds one.
@@ -40,91 +39,97 @@ impl Work<usize, bool> for Witness<'_> {
     }
 }
 
-// The numbers after these, by so many pieces.
-fn added<R: Threads + Sync>(
+// Whether so many pieces add one to each of these numbers.
+fn adds<R: Threads + Sync, G: Gate>(
     rt: &R,
     alloc: Global,
+    gate: &G,
     pieces: u32,
     items: &[u32],
-) -> Result<Vec<u64>, Memory>
-    requires some { 0 < pieces }
-    requires few { pieces ≤ 64 }
-{
-    map_pieces(rt, alloc, &OpenGate, pieces, items, &AddOne)
+    wanted: &[u64],
+) -> bool {
+    if pieces == 0 || pieces > 64 {
+        return false;
+    }
+    match map_pieces(rt, alloc, gate, pieces, items, &AddOne) {
+        Ok(results) => {
+            let are_these = results.as_slice() == wanted;
+            drop(results);
+            are_these
+        }
+        Err(_) => false,
+    }
 }
+
+static PIECES: [u32; 3] = [1, 3, 64];
 
 #[test]
-fn results_stand_in_the_items_order(rt: HostRuntime) -> Result<(), Memory> {
-    let alloc = rt.alloc();
-    for pieces in [1u32, 3, 64] {
-        let results = added(&rt, alloc, pieces, &[1, 2, 3, 4, 5])?;
-        let is_right = results.as_slice() == [2, 3, 4, 5, 6].as_slice();
-        assert!(rt; is_right, "{pieces} pieces");
+fn results_stand_in_the_items_order(rt: HostRuntime) {
+    for pieces in &PIECES {
+        let n = *pieces;
         assert!(rt;
-            added(&rt, alloc, pieces, &[])?.is_empty(),
-            "{pieces} pieces"
+            adds(
+                &rt,
+                rt.alloc(),
+                &OpenGate,
+                n,
+                &[1, 2, 3, 4, 5],
+                &[2, 3, 4, 5, 6]
+            ),
+            "{n} pieces"
         );
+        assert!(rt; adds(&rt, rt.alloc(), &OpenGate, n, &[], &[]), "{n} pieces");
     }
-    Ok(())
 }
 
-// For each of five items, whether its piece had entered before it.
-fn seen<R: Threads + Sync>(
-    rt: &R,
-    alloc: Global,
-    gate: &Looking,
-    pieces: u32,
-    of_items: [u32; 5],
-) -> Result<Vec<bool>, Memory>
-    requires some { 0 < pieces }
-    requires few { pieces ≤ 64 }
-{
-    let work = Witness {
-        gate,
-        pieces: of_items,
-    };
-    map_pieces(rt, alloc, gate, pieces, &[0, 1, 2, 3, 4], &work)
+// Whether for each of five items its piece had entered before it.
+fn are_seen<R: Threads + Sync>(rt: &R, alloc: Global, pieces: u32, work: &Witness<'_>) -> bool {
+    if pieces == 0 || pieces > 64 {
+        return false;
+    }
+    match map_pieces(rt, alloc, work.gate, pieces, &[0, 1, 2, 3, 4], work) {
+        Ok(seen) => {
+            let are_seen = seen.as_slice() == [true; 5].as_slice();
+            drop(seen);
+            are_seen
+        }
+        Err(_) => false,
+    }
 }
 
 // Whether each piece with items enters once, before its first item.
-fn enters_once<R: Threads + Sync>(
-    rt: &R,
-    alloc: Global,
-    pieces: u32,
-    of_items: [u32; 5],
-) -> Result<bool, Memory>
-    requires some { 0 < pieces }
-    requires few { pieces ≤ 64 }
-{
+fn enters_once<R: Threads + Sync>(rt: &R, alloc: Global, pieces: u32, of_items: [u32; 5]) -> bool {
     let gate = Looking::new();
-    let seen = seen(rt, alloc, &gate, pieces, of_items)?;
+    let work = Witness {
+        gate: &gate,
+        pieces: of_items,
+    };
+    let are_seen = are_seen(rt, alloc, pieces, &work);
     let wanted = pieces.min(5);
     let each_once = gate.pieces() == wanted && gate.calls() == u64::from(wanted);
-    Ok(seen.as_slice() == [true; 5].as_slice() && each_once)
+    drop(gate);
+    are_seen && each_once
 }
 
 // The piece of each of 5 items, reckoned by hand: piece j of n begins with the item j * 5 / n.
+static OF_ITEMS: [(u32, [u32; 5]); 4] = [
+    (1, [0, 0, 0, 0, 0]),
+    (3, [0, 1, 1, 2, 2]),
+    (7, [1, 2, 4, 5, 6]),
+    (64, [12, 25, 38, 51, 63]),
+];
+
 #[test]
-fn each_piece_with_items_enters_once_before_its_first(rt: HostRuntime) -> Result<(), Memory> {
-    let cases: [(u32, [u32; 5]); 4] = [
-        (1, [0, 0, 0, 0, 0]),
-        (3, [0, 1, 1, 2, 2]),
-        (7, [1, 2, 4, 5, 6]),
-        (64, [12, 25, 38, 51, 63]),
-    ];
-    for (pieces, of_items) in cases {
-        assert!(rt;
-            enters_once(&rt, rt.alloc(), pieces, of_items)?,
-            "{pieces} pieces"
-        );
+fn each_piece_with_items_enters_once_before_its_first(rt: HostRuntime) {
+    for (pieces, of_items) in &OF_ITEMS {
+        let n = *pieces;
+        assert!(rt; enters_once(&rt, rt.alloc(), n, *of_items), "{n} pieces");
     }
-    Ok(())
 }
 
 #[test]
-fn two_pieces_meet(rt: HostRuntime) -> Result<(), Memory> {
+fn two_pieces_meet(rt: HostRuntime) {
     let gate = Looking::waiting();
-    map_pieces(&rt, rt.alloc(), &gate, 2, &[1, 2], &AddOne)?;
+    assert!(rt; adds(&rt, rt.alloc(), &gate, 2, &[1, 2], &[2, 3]));
     assert_eq!(rt; gate.met(), 2);
-    Ok(())
 }

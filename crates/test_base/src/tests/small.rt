@@ -3,7 +3,8 @@ use geo_addr::{
     Addr, Block, Bytes, Line, Lines, List, Memory, Range, Text, cut_at, decimal, is_blank,
     range_of, trim_blanks,
 };
-use std::test::Fail;
+use std::alloc::Global;
+use std::mem::drop;
 
 type FileRow = (&'static [u8], &'static [&'static [u8]]);
 
@@ -113,30 +114,98 @@ fn ranges_and_blocks(rt: HostRuntime) {
     assert!(rt; one.is_v4() && holds(one, v4 - 1) && !holds(one, v4));
 }
 
-#[test]
-fn texts(rt: HostRuntime) -> Result<(), Fail> {
-    let text = Text::of(rt.alloc(), "Zürich")?;
-    assert!(rt; text.copied()? == text);
-    assert!(rt; text.clone()?.as_str() == "Zürich");
-    assert!(rt; Text::from_string(String::new(rt.alloc()))? < text);
-    Ok(())
+// Whether a text, which goes, was made, and is the same as this one or else less.
+fn compares(made: Result<Text, Memory>, text: &Text, is_same: bool) -> bool {
+    match made {
+        Ok(other) => {
+            let compares = (other == *text) == is_same && (other < *text) != is_same;
+            drop(other);
+            compares
+        }
+        Err(_) => false,
+    }
+}
+
+fn is_cloned(text: &Text, wanted: &str) -> bool {
+    match text.clone() {
+        Ok(other) => {
+            let is_wanted = other.as_str() == wanted;
+            drop(other);
+            is_wanted
+        }
+        Err(_) => false,
+    }
 }
 
 #[test]
-fn byte_strings(rt: HostRuntime) -> Result<(), Fail> {
+fn texts(rt: HostRuntime) -> Result<(), Memory> {
+    let text = Text::of(rt.alloc(), "Zürich")?;
+    assert!(rt; compares(text.copied(), &text, true));
+    assert!(rt; is_cloned(&text, "Zürich"));
+    assert!(rt; compares(Text::from_string(String::new(rt.alloc())), &text, false));
+    Ok(())
+}
+
+fn are_copied(alloc: Global, bytes: &Bytes) -> bool {
+    match bytes.copied(alloc) {
+        Ok(other) => {
+            let are_same = other == *bytes;
+            drop(other);
+            are_same
+        }
+        Err(_) => false,
+    }
+}
+
+fn are_cloned(bytes: &Bytes, wanted: &[u8]) -> bool {
+    match bytes.clone() {
+        Ok(other) => {
+            let are_wanted = other.as_slice() == wanted;
+            drop(other);
+            are_wanted
+        }
+        Err(_) => false,
+    }
+}
+
+#[test]
+fn byte_strings(rt: HostRuntime) -> Result<(), Memory> {
     let bytes = Bytes::of(rt.alloc(), b"\xFF")?;
-    assert!(rt; bytes.copied(rt.alloc())? == bytes);
-    assert!(rt; bytes.clone()?.as_slice() == b"\xFF".as_slice());
+    assert!(rt; are_copied(rt.alloc(), &bytes));
+    assert!(rt; are_cloned(&bytes, b"\xFF"));
     assert!(rt; Bytes::from_vec(Vec::new(rt.alloc())) < bytes);
     Ok(())
 }
 
+fn is_list_cloned(list: &List<u8>) -> bool {
+    match list.clone() {
+        Ok(other) => {
+            let is_same = other.as_slice() == [1, 2].as_slice();
+            drop(other);
+            is_same
+        }
+        Err(_) => false,
+    }
+}
+
+// Whether a list of 1 and 2 is cloned and taken apart.
+fn is_list(alloc: Global) -> bool {
+    match vec![in alloc; 1u8, 2] {
+        Ok(numbers) => {
+            let list = List::of(numbers);
+            let is_cloned = is_list_cloned(&list);
+            let numbers = list.into_vec();
+            let are_two = numbers.len() == 2;
+            drop(numbers);
+            is_cloned && are_two
+        }
+        Err(_) => false,
+    }
+}
+
 #[test]
-fn lists_and_memory(rt: HostRuntime) -> Result<(), Fail> {
-    let list = List::of(vec![in rt.alloc(); 1u8, 2]?);
-    assert!(rt; list.clone()?.as_slice() == [1, 2].as_slice());
-    assert!(rt; list.into_vec().len() == 2);
+fn lists_and_memory(rt: HostRuntime) {
+    assert!(rt; is_list(rt.alloc()));
     let memory: Memory = std::alloc::AllocError.into();
     assert!(rt; memory == Memory);
-    Ok(())
 }
