@@ -11,7 +11,7 @@ use rpsl_reader::{AttributeSight, Sight, Sights};
 use std::alloc::Global;
 
 /// References and notes.
-#[derive(Debug, Drop)]
+#[derive(Drop)]
 pub(crate) struct RefsAndNotes {
     pub refs: Vec<Reference>,
     pub notes: Vec<LineNote>,

@@ -11,7 +11,7 @@ use geo_addr::{is_blank, trim_blanks};
 use rpsl_reader::AttributeSight;
 
 /// The two kinds of references: `geofeed` attributes, and remarks of the form that stands for them.
-#[derive(Clone, Copy, Debug, PartialEq, Eq)]
+#[derive(Clone, Copy)]
 pub(crate) enum RefKind {
     Geofeed,
     Remark,

@@ -44,7 +44,7 @@ pub struct FoundRef {
 }
 
 // The addresses of an object of a class that has some.
-#[derive(Clone, Copy, Debug, PartialEq, Eq)]
+#[derive(Clone, Copy)]
 enum Class {
     Other,
     Unread,
