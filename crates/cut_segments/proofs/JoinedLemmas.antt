@@ -1,14 +1,23 @@
 -- Grounds that are joined, or left out where others have their addresses.
 use Rattle.std.proofs.Common.{◌≡◌, ◌∙◌, ℕ, ◌+◌, ◌-◌, ◌^◌, ◌<◌, ◌≤◌, Bool, true, false, cond, ◌&&◌}
-use Rattle.std.proofs.Common.{◌||◌, ltb, leb, max, List, [], ◌∷◌, ◌++◌, length, get_or, count_by}
-use Rattle.std.proofs.Common.{refl, sym, ap, arith, not}
+use Rattle.std.proofs.Common.{◌||◌, ltb, leb, max, min, List, [], ◌∷◌, ◌++◌, length, get_or}
+use Rattle.std.proofs.Common.{count_by}
+use Rattle.std.proofs.Common.{refl, sym, ap, arith, not, take, add-one, subst, Contains, Option}
+use Rattle.std.proofs.Common.{None, Some}
+use Rattle.std.specs.Option.{option_to_list}
+use Rattle.std.specs.Prelude.{IfSome, IsTrue}
+use Rattle.std.proofs.Math.ListN.{get_or-map}
+use Rattle.std.proofs.Math.Seq.{take-suc}
+use Rattle.std.proofs.lemmas.List.{length-map}
+use Rattle.std.proofs.lemmas.List.Elements.{All-append, All-from_recursion}
 use Rattle.std.specs.Bool.{beq}
 use Rattle.std.proofs.lemmas.Bool.Decides.{nat_tests}
 use Rattle.std.proofs.lemmas.List.Folds.{list_any-append, list_any_at}
 use Rattle.std.proofs.lemmas.List.Sums.{sum_by-cons}
 use Rattle.geo_addr.specs.Ranges.{Ends, ground_first, holds, is_v4}
+use Rattle.source_changes.specs.CutPoints.{whole}
 use Rattle.source_changes.specs.Touched.{is_touched}
-use Rattle.cut_segments.specs.Segments.{AreSegments}
+use Rattle.cut_segments.specs.Segments.{AreSegments, BeginIn, starts_in}
 
 -- tests that pass alike are the same
 alike : (x y : Bool) → (x ≡ true → y ≡ true) → (y ≡ true → x ≡ true) → x ≡ y
@@ -45,6 +54,12 @@ joined_holds g n same le near a =
     ap (λ f. leb f a && leb a (max g.last n.last))
     (same_first g.first g.last (max g.last n.last) (max_family g.last n.last same))
     ∙ covers (ground_first g) (ground_first n) g.last n.last a le near
+
+-- the joined range begins where the first one does
+pub joined_first : (g n : Ends) → is_v4 g ≡ is_v4 n
+    → ground_first (record { first = g.first; last = max g.last n.last }) ≡ ground_first g
+joined_first g n same =
+    same_first g.first g.last (max g.last n.last) (max_family g.last n.last same)
 
 -- a ground that lies in one of several
 pub touched_by_one : (kept : List Ends) (at : ℕ) (d ground : Ends) → at < length kept
@@ -95,6 +110,131 @@ with_one xs r a = list_any-append (λ x. holds x a) xs (r ∷ []) ∙ last (is_t
 pub behind : (xs ys : List Ends) (a : ℕ)
     → is_touched (xs ++ ys) a ≡ (is_touched xs a || is_touched ys a)
 behind xs ys a = list_any-append (λ x. holds x a) xs ys
+
+-- what a ground holds of a chunk
+pub part_none : (f l c d a : ℕ) → min l d < max f c
+    → false ≡ ((leb f a && leb a l) && (leb c a && leb a d))
+part_none f l c d a lt = grind (arith, nat_tests)
+
+pub part_some : (f l c d a : ℕ) → ((leb (max f c) a && leb a (min l d)) || false)
+    ≡ ((leb f a && leb a l) && (leb c a && leb a d))
+part_some f l c d a = grind (arith, nat_tests)
+
+-- the part of a ground in a chunk is its own ground
+pub part_first : (g c : Ends) → max (ground_first g) c.first ≤ min g.last c.last
+    → ground_first (record { first = max (ground_first g) c.first; last = min g.last c.last })
+    ≡ max (ground_first g) c.first
+unfolding ground_first
+part_first g c le = grind (arith, nat_tests)
+
+pub part_holds : (g c : Ends) (a : ℕ) → max (ground_first g) c.first ≤ min g.last c.last
+    → (holds (record { first = max (ground_first g) c.first; last = min g.last c.last }) a || false)
+    ≡ (holds g a && (leb c.first a && leb a c.last))
+unfolding holds
+part_holds g c a le =
+    ap (λ f. (leb f a && leb a (min g.last c.last)) || false) (part_first g c le)
+    ∙ part_some (ground_first g) g.last c.first c.last a
+
+-- one ground more
+pub touched_more : (gs : List Ends) (i : ℕ) (g : Ends) → i < length gs → g ≡ get_or gs i g
+    → (a : ℕ) → is_touched (take (i + 1) gs) a ≡ (is_touched (take i gs) a || holds g a)
+touched_more gs i g below is a =
+    ap (λ (xs : List Ends). is_touched xs a)
+    (ap (λ n. take n gs) (add-one i) ∙ take-suc gs i g below
+    ∙ ap (λ (y : Ends). take i gs ++ y ∷ []) (sym is))
+    ∙ with_one (take i gs) g a
+
+within_test : (f l a : ℕ) → (leb f a && leb a l) ≡ true → a ≤ l
+within_test f l a e = grind (arith, nat_tests)
+
+held_below : (g : Ends) (a : ℕ) → holds g a ≡ true → a ≤ g.last
+unfolding holds
+held_below g a e = within_test (ground_first g) g.last a e
+
+-- what the grounds so far have are addresses
+pub below_more : (gs : List Ends) (i : ℕ) (g : Ends) → i < length gs → g ≡ get_or gs i g
+    → g.last < 2 ^ 128 → ((a : ℕ) → IsTrue (is_touched (take i gs) a) → a < 2 ^ 128)
+    → (a : ℕ) → IsTrue (is_touched (take (i + 1) gs) a) → a < 2 ^ 128
+below_more gs i g below is last so_far a touched =
+    by (is_touched (take i gs) a) refl (sym (touched_more gs i g below is a) ∙ touched)
+  where
+    by : (b : Bool) → is_touched (take i gs) a ≡ b → (b || holds g a) ≡ true → a < 2 ^ 128
+    by true before e = so_far a before
+    by false before e = omega (arith, held_below g a e, last)
+
+in_whole : (a : ℕ) → a < 2 ^ 128 → (leb whole.first a && leb a whole.last) ≡ true
+in_whole a below = grind (arith, nat_tests)
+
+-- all that the grounds have is in the whole address space
+pub all_in_whole : (touched fewer : List Ends) (chunk : Ends) → chunk ≡ whole
+    → ((a : ℕ) → is_touched fewer a
+    ≡ (is_touched touched a && (leb chunk.first a && leb a chunk.last)))
+    → ((a : ℕ) → IsTrue (is_touched touched a) → a < 2 ^ 128)
+    → (a : ℕ) → is_touched fewer a ≡ is_touched touched a
+all_in_whole touched fewer chunk is same below a =
+    same a
+    ∙ subst
+    (λ (c : Ends). (is_touched touched a && (leb c.first a && leb a c.last)) ≡ is_touched touched a)
+    (sym is) (by (is_touched touched a) (below a))
+  where
+    by : (b : Bool) → (b ≡ true → a < 2 ^ 128)
+        → (b && (leb whole.first a && leb a whole.last)) ≡ b
+    by true h = in_whole a (h refl)
+    by false h = refl
+
+-- ranges of which each begins at one of these points, and one more
+pub begin_one : (starts : List ℕ) (r : Ends) → Contains starts (ground_first r)
+    → BeginIn starts (r ∷ [])
+begin_one starts r one =
+    All-from_recursion (λ (x : Ends). Contains starts (ground_first x)) (r ∷ []) (one, tt)
+
+pub begin_more : (starts : List ℕ) (xs : List Ends) (r : Ends) → BeginIn starts xs
+    → Contains starts (ground_first r) → BeginIn starts (xs ++ r ∷ [])
+begin_more starts xs r all one =
+    All-append (λ (x : Ends). Contains starts (ground_first x)) xs (r ∷ []) all
+    (begin_one starts r one)
+
+pub begins_at : (starts : List ℕ) (o : Option Ends) (r : Ends) → o ≡ Some r
+    → BeginIn starts (option_to_list o) → Contains starts (ground_first r)
+begins_at starts o r is all =
+    let one : BeginIn starts (r ∷ []) =
+    subst (λ (x : Option Ends). BeginIn starts (option_to_list x)) is all in
+    one 0 r (omega arith)
+
+pub one_at_most : (o : Option Ends) → length (option_to_list o) ≤ 1
+one_at_most None = omega arith
+one_at_most (Some r) = omega arith
+
+pub and_or : (t h c : Bool) → ((t && c) || (h && c)) ≡ ((t || h) && c)
+and_or true true true = refl
+and_or true true false = refl
+and_or true false true = refl
+and_or true false false = refl
+and_or false true true = refl
+and_or false true false = refl
+and_or false false true = refl
+and_or false false false = refl
+
+-- what a ground holds of a chunk begins where the ground does, or the chunk
+pub part_begins : (gs : List Ends) (chunk : Ends) (i : ℕ) (g : Ends) (part : Option Ends)
+    → i < length gs → g ≡ get_or gs i g
+    → IfSome part (λ r. ground_first r ≡ max (ground_first g) chunk.first)
+    → BeginIn (starts_in gs chunk) (option_to_list part)
+part_begins gs chunk i g None below is first =
+    All-from_recursion (λ (r : Ends). Contains (starts_in gs chunk) (ground_first r)) [] tt
+part_begins gs chunk i g (Some r) below is first =
+    All-from_recursion (λ (r : Ends). Contains (starts_in gs chunk) (ground_first r)) (r ∷ [])
+    ((subst (Contains (starts_in gs chunk)) (sym first) there), tt)
+  where
+    start : Ends → ℕ
+    start x = max (ground_first x) chunk.first
+
+    there : Contains (starts_in gs chunk) (max (ground_first g) chunk.first)
+    there = (
+      i,
+      omega (arith, length-map gs start, below),
+      get_or-map start gs i g ∙ ap start (sym is),
+    )
 
 pub le_from_test : (x y : ℕ) → leb x y ≡ true → x ≤ y
 le_from_test x y e = grind (arith, nat_tests)

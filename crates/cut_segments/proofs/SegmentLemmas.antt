@@ -5,9 +5,12 @@ use Rattle.std.proofs.Common.{Contains, count_by, refl, sym, subst, ap, ◌∙�
 use Rattle.std.specs.List.{All, Any, AllByRecursion, AllAdjacentBelow, list_any}
 use Rattle.std.specs.List.Sorted.{IsNonDecreasing, IsNonDecreasingBy, IsPermutation}
 use Rattle.std.proofs.lemmas.Bool.Decides.{nat_tests}
-use Rattle.std.proofs.lemmas.List.Elements.{All-from_recursion}
+use Rattle.std.proofs.lemmas.List.Elements.{All-append, All-contains_itself, All-from_recursion}
+use Rattle.std.proofs.lemmas.List.Elements.{All-weaker, Contains-append_left}
+use Rattle.std.proofs.lemmas.List.Elements.{Contains-append_right, recursion_from_All}
 use Rattle.std.proofs.lemmas.List.Folds.{list_any-append, list_any-from_Any, Any-from_list_any}
-use Rattle.std.proofs.lemmas.List.Sorted.{Contains-permutation, IsPermutation-append_left}
+use Rattle.std.proofs.lemmas.List.Sorted.{All-permutation, Contains-permutation}
+use Rattle.std.proofs.lemmas.List.Sorted.{IsPermutation-append_left}
 use Rattle.std.proofs.lemmas.List.Sorted.{IsPermutation-cons, IsPermutation-map, IsPermutation-refl}
 use Rattle.std.proofs.lemmas.List.Sorted.{IsPermutation-to_front, IsPermutation-trans}
 use Rattle.std.proofs.lemmas.List.Sorted.{list_any-IsPermutation, sum_by-IsPermutation}
@@ -16,7 +19,7 @@ use Rattle.geo_addr.specs.Ranges.{Ends, IsRange, IsWithin, ground_first, holds}
 use Rattle.cut_segments.specs.Marks.{ground_mark, cut_mark, from_ground, marks_of, merged, past_of}
 use Rattle.cut_segments.specs.Marks.{stop_at, piece, next_at, sweep}
 use Rattle.source_changes.specs.Touched.{is_touched}
-use Rattle.cut_segments.specs.Segments.{AreSegments}
+use Rattle.cut_segments.specs.Segments.{AreSegments, starts_of}
 use Rattle.cut_segments.specs.declared.segments.Mark.{Mark}
 
 -- the marks ascend, from this point on
@@ -44,7 +47,7 @@ piece_cases f s P some none =
     ] refl
 
 -- ranges that are not empty and ascend, from this point on
-abbrev Ascending : ℕ → List Ends → Type 0
+abbrev pub Ascending : ℕ → List Ends → Type 0
 Ascending low [] = Unit {0}
 Ascending low (r ∷ rs) = (low ≤ r.first) × (r.first ≤ r.last) × Ascending (r.last + 1) rs
 
@@ -292,7 +295,7 @@ apart_from r (s ∷ rs) h (suc k) d below =
     let e : suc k + 1 ≡ suc (k + 1) = omega arith in
     rw e (apart_from s rs h.2 k d (omega arith))
 
-apart : (low : ℕ) (rs : List Ends) → Ascending low rs
+pub apart : (low : ℕ) (rs : List Ends) → Ascending low rs
     → AllAdjacentBelow (λ r s. r.last < s.first) rs (length rs)
 apart low [] h k d below = absurd (omega arith)
 apart low (r ∷ rs) h k d below = apart_from r rs h.2 k d below
@@ -494,3 +497,58 @@ segments_of_any touched out cuts points same h = record {
       subst (λ (n : ℕ). length out ≤ length touched + n)
       (sum_by-IsPermutation (λ x. cond (is_touched touched x) 1 0) cuts points same) h.few;
 }
+
+-- each piece begins at a mark
+begun_sweep : (P : ℕ → Type 0) (past : ℕ) (ms : List Mark) → AllByRecursion (λ m. P m.at) ms
+    → AllByRecursion (λ r. P r.first) (sweep past ms)
+begun_sweep P past [] h = tt
+begun_sweep P past (m ∷ ms) h =
+    let far : ℕ = max past (past_of m.reach) in
+    let later : AllByRecursion (λ r. P r.first) (sweep far ms) = begun_sweep P far ms h.1 in
+    piece_cases m.at (stop_at far (next_at ms))
+    (λ q. AllByRecursion (λ r. P r.first) (q ++ sweep far ms))
+    (λ lt. (h.0, later)) (λ ge. later)
+
+begin_grounds : (P : ℕ → Type 0) (rs : List Ends) → AllByRecursion (λ r. P (ground_first r)) rs
+    → AllByRecursion (λ m. P m.at) (map ground_mark rs)
+begin_grounds P [] h = tt
+begin_grounds P (r ∷ rs) h = (h.0, begin_grounds P rs h.1)
+
+stand_cuts : (P : ℕ → Type 0) (cs : List ℕ) → AllByRecursion P cs
+    → AllByRecursion (λ m. P m.at) (map cut_mark cs)
+stand_cuts P [] h = tt
+stand_cuts P (c ∷ cs) h = (h.0, stand_cuts P cs h.1)
+
+-- what a pass over sorted grounds and cut points finds begins where a ground does, or at a point
+pub begun_of_sorted : (grounds : List Ends) (points : List ℕ)
+    → All (λ r. Contains (starts_of grounds points) r.first) (sweep 0 (merged grounds points))
+begun_of_sorted grounds points =
+    All-from_recursion (λ (r : Ends). P r.first) (sweep 0 (merged grounds points))
+    (begun_sweep P 0 (merged grounds points)
+    (recursion_from_All (λ (m : Mark). P m.at) (merged grounds points)
+    (All-permutation (λ (m : Mark). P m.at) (marks_of grounds points) (merged grounds points)
+    (same_merged grounds points)
+    (All-append (λ (m : Mark). P m.at) (map ground_mark grounds) (map cut_mark points)
+    (All-from_recursion (λ (m : Mark). P m.at) (map ground_mark grounds)
+    (begin_grounds P grounds (ground_starts grounds
+    (λ c is. Contains-append_left (map (λ r. ground_first r) grounds) points c is))))
+    (All-from_recursion (λ (m : Mark). P m.at) (map cut_mark points)
+    (stand_cuts P points (recursion_from_All P points (point_starts points))))))))
+  where
+    P : ℕ → Type 0
+    P c = Contains (starts_of grounds points) c
+
+    ground_starts : (rs : List Ends) → ((c : ℕ) → Contains (map (λ r. ground_first r) rs) c → P c)
+        → AllByRecursion (λ r. P (ground_first r)) rs
+    ground_starts [] all = tt
+    ground_starts (r ∷ rs) all = (
+      all (ground_first r) (0, omega arith, refl),
+      ground_starts rs (λ c is. all c (Contains-append_right (ground_first r ∷ [])
+          (map (λ r. ground_first r) rs) c is)),
+    )
+
+    point_starts : (cs : List ℕ) → All P points
+    point_starts cs =
+        All-weaker (Contains points) P
+        (λ c is. Contains-append_right (map (λ r. ground_first r) grounds) points c is) points
+        (All-contains_itself points)

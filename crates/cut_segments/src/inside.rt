@@ -35,6 +35,13 @@ fn push_by_range(found: &mut Vec<u128>, points: &[u128], ranges: &[Range]) -> Re
     Ok(())
 }
 
+/// About how much room the points inside a range take: as many as there are, where points ascend.
+pub fn room_inside(points: &[u128], range: Range) -> usize {
+    let below = points.partition_point(|point| *point < range.first);
+    let upto = points.partition_point(|point| *point <= range.last);
+    upto.saturating_sub(below)
+}
+
 // The part of ascending points that lies inside a range.
 fn part_inside(points: &[u128], range: Range) -> &[u128]
     requires { IsStrictlyIncreasing points.now }

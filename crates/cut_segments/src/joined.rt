@@ -1,33 +1,102 @@
 //! Touched grounds in fewer ranges: those of one source mostly lie in those of another.
-ghost use Rattle.std.specs.Prelude.{◌≡◌, ◌+◌, ◌≤◌, ◌||◌, ℕ, true, IfOk, IfSome, IsTrue, OnOk};
-ghost use Rattle.std.specs.Prelude.{length};
-ghost use Rattle.geo_addr.specs.Ranges.{holds};
+ghost use Rattle.std.specs.Prelude.{◌≡◌, ◌+◌, ◌^◌, ◌<◌, ◌≤◌, ◌||◌, ◌&&◌, ℕ, List, true, IfOk};
+ghost use Rattle.std.specs.Prelude.{Contains, IfSome, IsTrue, OnOk, length, max, nat_le};
+ghost use Rattle.std.specs.List.Sorted.{IsNonDecreasingBy};
+ghost use Rattle.std.specs.Option.{option_to_list};
+ghost use Rattle.geo_addr.specs.Ranges.{ground_first, holds};
+ghost use Rattle.cut_segments.specs.Segments.{BeginIn, starts_in};
 ghost use Rattle.source_changes.specs.Touched.{is_touched};
 
 use geo_addr::{Memory, Range};
 use std::alloc::Global;
 
-/// Ranges that hold the same addresses, no more of them than there are grounds.
+/// Ranges that hold the same addresses of a chunk, and no others, in the order in which they begin.
+/// There are no more of them than grounds, and each begins where a ground does, or the chunk.
 ///
 /// In one pass neighbours become one range, and grounds that lie in an earlier one are left out.
-pub(crate) fn joined(alloc: Global, grounds: &[Range]) -> Result<Vec<Range>, Memory>
-    ensures same { IfOk result
-        (λ fewer. (a : ℕ) → is_touched fewer.items a ≡ is_touched grounds.now a) }
+pub fn grounds_in(alloc: Global, touched: &[Range], chunk: Range) -> Result<Vec<Range>, Memory>
+    ensures same { IfOk result (λ fewer. (a : ℕ) → is_touched fewer.items a
+        ≡ (is_touched touched.now a && (nat_le chunk.first a && nat_le a chunk.last))) }
+    ensures below { IfOk result
+        (λ fewer. (a : ℕ) → IsTrue (is_touched touched.now a) → a < 2 ^ 128) }
+    ensures few { IfOk result (λ fewer. length fewer.items ≤ length touched.now) }
+    ensures begun { IfOk result (λ fewer. BeginIn (starts_in touched.now chunk) fewer.items) }
+    ensures order { IfOk result
+        (λ fewer. IsNonDecreasingBy (λ r. ground_first r) fewer.items) }
+{
+    let mut grounds = joined(alloc, touched, chunk)?;
+    grounds.sort_by_key(|range| range.ground_first())?;
+    Ok(grounds)
+}
+
+// The same in the order of the grounds, where that serves.
+fn joined(alloc: Global, grounds: &[Range], chunk: Range) -> Result<Vec<Range>, Memory>
+    ensures same { IfOk result (λ fewer. (a : ℕ) → is_touched fewer.items a
+        ≡ (is_touched grounds.now a && (nat_le chunk.first a && nat_le a chunk.last))) }
+    ensures below { IfOk result
+        (λ fewer. (a : ℕ) → IsTrue (is_touched grounds.now a) → a < 2 ^ 128) }
     ensures few { IfOk result (λ fewer. length fewer.items ≤ length grounds.now) }
+    ensures begun { IfOk result (λ fewer. BeginIn (starts_in grounds.now chunk) fewer.items) }
 {
     let mut kept = Vec::new(alloc);
     let mut rest = Vec::new(alloc);
-    let Some((first, others)) = grounds.split_first() else {
-        return Ok(kept);
-    };
-    let mut growing = *first;
+    let mut growing = None;
     let mut near = 0;
-    for next in others {
-        growing = take_in(&mut kept, &mut rest, growing, *next, &mut near)?;
+    for next in grounds {
+        let part = part_in(*next, chunk);
+        growing = grown_by(&mut kept, &mut rest, growing, part, &mut near)?;
     }
-    kept.push(growing)?;
+    if let Some(last) = growing {
+        kept.push(last)?;
+    }
     kept.append(&mut rest)?;
     Ok(kept)
+}
+
+// What a ground holds of a chunk.
+fn part_in(ground: Range, chunk: Range) -> Option<Range>
+    ensures held { (a : ℕ) → is_touched (option_to_list result) a
+        ≡ (holds ground a && (nat_le chunk.first a && nat_le a chunk.last)) }
+    ensures begun { IfSome result (λ r. ground_first r ≡ max (ground_first ground) chunk.first) }
+    ensures within { ground.last < 2 ^ 128 }
+{
+    let first = ground.ground_first().max(chunk.first);
+    let last = ground.last.min(chunk.last);
+    if first > last {
+        return None;
+    }
+    Some(Range { first, last })
+}
+
+// Takes a ground in, if there is one more, and hands back the range that grows from then on.
+fn grown_by(
+    kept: &mut Vec<Range>,
+    rest: &mut Vec<Range>,
+    growing: Option<Range>,
+    next: Option<Range>,
+    near: &mut usize,
+) -> Result<Option<Range>, Memory>
+    ensures same { IfOk result (λ grown. (a : ℕ) → (is_touched kept.new.items a
+        || (is_touched (option_to_list grown) a || is_touched rest.new.items a))
+        ≡ ((is_touched kept.old.items a
+        || (is_touched (option_to_list growing) a || is_touched rest.old.items a))
+        || is_touched (option_to_list next) a)) }
+    ensures few { IfOk result (λ grown. length kept.new.items + length rest.new.items
+        + length (option_to_list grown) ≤ length kept.old.items + length rest.old.items
+        + length (option_to_list growing) + length (option_to_list next)) }
+    ensures begun { IfOk result (λ grown. (starts : List ℕ) → BeginIn starts kept.old.items
+        → BeginIn starts rest.old.items → BeginIn starts (option_to_list growing)
+        → BeginIn starts (option_to_list next) → BeginIn starts kept.new.items
+        × BeginIn starts rest.new.items × BeginIn starts (option_to_list grown)) }
+{
+    match (growing, next) {
+        (Some(range), Some(more)) => {
+            let grown = take_in(kept, rest, range, more, near)?;
+            Ok(Some(grown))
+        }
+        (None, next) => Ok(next),
+        (growing, None) => Ok(growing),
+    }
 }
 
 // Takes one more ground in, and hands back the range that grows from then on. The kept ones stand
@@ -45,6 +114,10 @@ fn take_in(
         || holds next a)) }
     ensures few { OnOk result (length kept.new.items + length rest.new.items
         ≤ length kept.old.items + length rest.old.items + 1) }
+    ensures begun { IfOk result (λ grown. (starts : List ℕ) → BeginIn starts kept.old.items
+        → BeginIn starts rest.old.items → Contains starts (ground_first growing)
+        → Contains starts (ground_first next) → BeginIn starts kept.new.items
+        × BeginIn starts rest.new.items × Contains starts (ground_first grown)) }
 {
     if let Some(both) = both_of(growing, next) {
         return Ok(both);
@@ -61,7 +134,9 @@ fn take_in(
 
 // Two grounds as one, where the second begins in the first one or right behind it.
 fn both_of(growing: Range, next: Range) -> Option<Range>
-    ensures { IfSome result (λ both. (a : ℕ) → holds both a ≡ (holds growing a || holds next a)) }
+    ensures held { IfSome result
+        (λ both. (a : ℕ) → holds both a ≡ (holds growing a || holds next a)) }
+    ensures begun { IfSome result (λ both. ground_first both ≡ ground_first growing) }
 {
     let begins = next.ground_first();
     if growing.is_v4() != next.is_v4() || begins < growing.ground_first() {

@@ -1,15 +1,16 @@
 //! Touched grounds cut into segments.
 ghost use Rattle.std.specs.Prelude.{◌≡◌, ◌∷◌, ◌+◌, ◌<◌, ◌≤◌, [], All, IfOk, IfSome, IsSome, IsTrue};
-ghost use Rattle.std.specs.Prelude.{MatchOption, length, max};
+ghost use Rattle.std.specs.Prelude.{Contains, MatchOption, length, max};
 ghost use Rattle.std.specs.List.{AllAdjacentBelow};
-ghost use Rattle.std.specs.List.Sorted.{IsNonDecreasing};
+ghost use Rattle.std.specs.List.Sorted.{IsNonDecreasing, IsNonDecreasingBy};
 ghost use Rattle.std.specs.Option.{option_to_list};
 ghost use Rattle.geo_addr.specs.Ranges.{IsRange, ground_first};
 ghost use Rattle.cut_segments.specs.Marks.{ground_mark, cut_mark, merged, next_at, past_of};
 ghost use Rattle.cut_segments.specs.Marks.{piece, stop_at, sweep};
-ghost use Rattle.cut_segments.specs.Segments.{AreSegments};
+ghost use Rattle.cut_segments.specs.Segments.{AreSegments, starts_of};
 
-use crate::joined::joined;
+use crate::joined::grounds_in;
+use crate::points::whole;
 use geo_addr::{Memory, Range};
 use std::alloc::Global;
 
@@ -33,13 +34,24 @@ pub fn segments_between(
     ensures { IfOk result (λ segments. AreSegments touched.now points.now segments.items) }
 {
     if are_in_order(touched) {
-        let pieces = sweep(alloc, touched, points)?;
-        return Ok(pieces);
+        return segments_of(alloc, touched, points);
     }
-    let mut grounds = joined(alloc, touched)?;
-    grounds.sort_by_key(|range| range.ground_first())?;
-    let segments = sweep(alloc, grounds.as_slice(), points)?;
+    let grounds = grounds_in(alloc, touched, whole())?;
+    let segments = segments_of(alloc, grounds.as_slice(), points)?;
     Ok(segments)
+}
+
+/// The touched grounds, in the order in which they begin, as ascending ranges that are disjoint,
+/// cut at ascending points: each begins where a ground does, or at a point.
+pub fn segments_of(alloc: Global, touched: &[Range], points: &[u128]) -> Result<Vec<Range>, Memory>
+    requires order { IsNonDecreasingBy (λ r. ground_first r) touched.now }
+    requires ascending { IsNonDecreasing points.now }
+    ensures segments { IfOk result (λ segments. AreSegments touched.now points.now segments.items) }
+    ensures begun { IfOk result (λ segments.
+        All (λ r. Contains (starts_of touched.now points.now) r.first) segments.items) }
+{
+    let pieces = sweep(alloc, touched, points)?;
+    Ok(pieces)
 }
 
 // Whether each ground begins where the one before it does, or behind that.

@@ -1,3 +1,4 @@
+pub mod ChunkLemmas
 pub mod FeedLemmas
 pub mod NoteLemmas
 pub mod RowLemmas

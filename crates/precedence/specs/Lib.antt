@@ -1,3 +1,4 @@
+pub mod Chunks
 pub mod CutPoints
 pub mod Delegations
 pub mod Rows

@@ -3,6 +3,7 @@
 #![tactic(auto)]
 
 mod aliases;
+mod chunks;
 mod delegations;
 mod near;
 mod notes;

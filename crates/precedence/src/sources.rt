@@ -4,14 +4,18 @@ ghost use Rattle.std.specs.Option.{option_copied};
 ghost use Rattle.geo_terms.specs.Precedence.{said_place};
 
 use crate::aliases::{push_dump_aliases, push_feed_aliases, push_file_aliases};
+use crate::chunks::{begins_of, chunks_at};
+use crate::delegations::Delegations;
 use crate::near::Near;
 use crate::notes::{push_dump_notes, push_feed_notes, push_file_notes};
 use crate::overriding::Overriding;
 use crate::points::{push_feed_inside, push_feeds_inside};
 use crate::statistics::Statistics;
 use crate::why::Why;
-use authority::{Authority, DropFault, ReadyFeed};
-use cut_segments::{cut_points, push_inside, segments_between, whole};
+use authority::{Authority, DropFault, ReadyFeed, Speakers};
+use cut_segments::{
+    cut_points, grounds_in, push_inside, room_inside, segments_between, segments_of, whole,
+};
 use geo_addr::{Addr, Block, Memory, Range};
 use geo_terms::{
     Delegation, Dump, Entry, Feed, Note, Override, Overrides, Place, Reference, Said, Stats, home,
@@ -69,6 +73,7 @@ impl Sources {
     ghost use Rattle.source_changes.specs.Changes.{after, named};
     ghost use Rattle.source_changes.specs.CutPoints.{whole};
     ghost use Rattle.cut_segments.specs.CutPoints.{AreCutsInside};
+    ghost use Rattle.precedence.specs.Chunks.{AreChunks, AreSegmentsIn};
     ghost use Rattle.precedence.specs.CutPoints.{AreSourceSegments, IsConstantBetween};
     ghost use Rattle.source_changes.specs.Touched.{is_touched};
     ghost use Rattle.precedence.specs.Why.{reasons_of};
@@ -479,6 +484,37 @@ impl Sources {
         Ok(segments)
     }
 
+    /// The address space in neighbouring chunks, at most so many, each with about as much to cut.
+    ///
+    /// A chunk begins where a touched ground does or at a cut point, so that no segment is cut for
+    /// it.
+    pub fn chunks(&self, touched: &[Range], pieces: u32) -> Result<Vec<Range>, Memory>
+        requires { 0 < pieces }
+        ensures { IfOk result (λ chunks. AreChunks self.now touched.now chunks.items) }
+    {
+        if self.is_most(touched) {
+            let begins = begins_of(self.alloc, touched)?;
+            let chunks = chunks_at(self.alloc, begins.as_slice(), pieces)?;
+            return Ok(chunks);
+        }
+        let bounds = segments_between(self.alloc, touched, &[])?;
+        let points = self.points_in(bounds.as_slice())?;
+        let chunks = chunks_at(self.alloc, points.as_slice(), pieces)?;
+        Ok(chunks)
+    }
+
+    /// The segments of a chunk: those of the touched addresses that it has.
+    pub fn segments_in(&self, touched: &[Range], chunk: Range) -> Result<Vec<Range>, Memory>
+        ensures { IfOk result
+            (λ segments. AreSegmentsIn self.now touched.now chunk segments.items) }
+    {
+        let grounds = grounds_in(self.alloc, touched, chunk)?;
+        let bounds = self.bounds_in(touched, grounds.as_slice(), chunk)?;
+        let points = self.points_in(bounds.as_slice())?;
+        let segments = segments_of(self.alloc, grounds.as_slice(), points.as_slice())?;
+        Ok(segments)
+    }
+
     /// The same sources once more: each of them and each index is shared,
     /// so the cost is their number.
     pub fn snapshot(&self) -> Result<Sources, Memory>
@@ -519,12 +555,40 @@ impl Sources {
         ensures covered { IfOk result (λ bounds. (a : ℕ) → IsWithin whole a
             → IsTrue (is_touched touched.now a) → Any (λ r. IsWithin r a) bounds.items) }
     {
-        if self.count() / 4 <= touched.len() {
+        if self.is_most(touched) {
             let bounds = vec![in self.alloc; whole()]?;
             return Ok(bounds);
         }
         let bounds = segments_between(self.alloc, touched, &[])?;
         Ok(bounds)
+    }
+
+    // Ascending ranges that are disjoint and have these grounds, which lie in a chunk: the grounds,
+    // or, where much is touched, the chunk.
+    fn bounds_in(
+        &self,
+        touched: &[Range],
+        grounds: &[Range],
+        chunk: Range,
+    ) -> Result<Vec<Range>, Memory>
+        requires { (a : ℕ) → IsTrue (is_touched grounds.now a) → IsWithin chunk a }
+        ensures ranges { IfOk result (λ bounds. All IsRange bounds.items) }
+        ensures apart { IfOk result (λ bounds. AllAdjacentBelow (λ r t. r.last < t.first)
+            bounds.items (length bounds.items)) }
+        ensures covered { IfOk result (λ bounds. (a : ℕ) → IsWithin whole a
+            → IsTrue (is_touched grounds.now a) → Any (λ r. IsWithin r a) bounds.items) }
+    {
+        if self.is_most(touched) {
+            let bounds = vec![in self.alloc; chunk]?;
+            return Ok(bounds);
+        }
+        let bounds = segments_between(self.alloc, grounds, &[])?;
+        Ok(bounds)
+    }
+
+    // Whether most of the address space may be touched.
+    fn is_most(&self, touched: &[Range]) -> bool {
+        self.count() / 4 <= touched.len()
     }
 
     // About how many cut points the sources have, those of each kind by themselves.
@@ -540,9 +604,24 @@ impl Sources {
     }
 
     // How much room to make for the cut points inside ascending ranges. One range is mostly the
-    // whole address space.
-    fn room_in(&self, bounds: &[Range]) -> usize {
-        if bounds.len() == 1 { self.count() } else { 0 }
+    // whole address space, or a chunk of it.
+    fn room_in(
+        &self,
+        speakers: &Arc<Speakers>,
+        delegations: &Arc<Delegations>,
+        bounds: &[Range],
+    ) -> usize {
+        if bounds.len() != 1 {
+            return 0;
+        }
+        let range = bounds[0];
+        let mut room = room_inside(speakers.cuts.as_slice(), range);
+        room = room.saturating_add(room_inside(delegations.index.cuts(), range));
+        room = room.saturating_add(room_inside(self.overriding.cuts(), range));
+        for feed in self.authority.feeds() {
+            room = room.saturating_add(room_inside(feed.cuts(), range));
+        }
+        room
     }
 
     // The cut points of all sources that lie inside one of ascending ranges: ascending, each once.
@@ -555,7 +634,10 @@ impl Sources {
     {
         let speakers = self.authority.speakers()?;
         let delegations = self.statistics.delegations()?;
-        let mut points = Vec::with_capacity(self.alloc, self.room_in(bounds))?;
+        let mut points = Vec::with_capacity(
+            self.alloc,
+            self.room_in(&speakers, &delegations, bounds),
+        )?;
         push_inside(&mut points, speakers.cuts.as_slice(), bounds)?;
         push_feeds_inside(&mut points, self.authority.feeds(), bounds)?;
         push_inside(&mut points, delegations.index.cuts(), bounds)?;

@@ -13,6 +13,7 @@ use Rattle.geo_addr.specs.Ranges.{Ends, IsRange, IsWithin}
 use Rattle.geo_terms.specs.Numbers.{place_at}
 use Rattle.geo_terms.specs.PlaceForm.{PlaceParts}
 use Rattle.geo_terms.specs.Alias.{is_alias}
+use Rattle.geo_terms.specs.Cuts.{statement_ranges}
 use Rattle.geo_terms.specs.Precedence.{spoken_at}
 use Rattle.geo_terms.specs.Sources.{InForce}
 use Rattle.source_changes.specs.Touched.{is_touched}
@@ -22,7 +23,7 @@ use Rattle.trie_core.specs.declared.paint.Part.{Part}
 use Rattle.trie_core.specs.Paint.{IsAscending, leaf_in, over}
 use Rattle.trie_core.specs.Store.{leaf_at}
 use Rattle.update_session.specs.Build.{AreSteady, HasNumber}
-use Rattle.update_session.specs.Touch.{bound, few_places}
+use Rattle.update_session.specs.Touch.{bound, few_places, touch}
 use Rattle.update_session.specs.Kept.{Answers, AnswersSpoken, GrowsBy}
 
 -- ---- a list of places that grows
@@ -50,17 +51,17 @@ GrowsBy-trans x y z m n all (more, y-is, few) (late, z-is, few') le = (
   omega (arith, few, few', le, length-append more late),
 )
 
--- where something is touched, an emit gives numbers to no more places than the segments are,
+-- where something is touched, an emit gives numbers to no more places than the touch,
 -- and paints no more parts
-pub few_places_of : (s : InForce) (touched segments : List Ends) (n : ℕ)
-    (before after : List PlaceParts) → eqb (length touched) 0 ≡ false
-    → AreSteady s touched segments → n ≡ length segments → GrowsBy before after n
+pub few_places_of : (s : InForce) (touched : List Ends) (before after : List PlaceParts)
+    → eqb (length touched) 0 ≡ false
+    → GrowsBy before after (touch touched (statement_ranges s))
     → GrowsBy before after (few_places touched s)
 unfolding few_places
-few_places_of s [] segments n before after some steady is grown =
+few_places_of s [] before after some grown =
     absurd (let this : true ≡ false = some in cc)
-few_places_of s (r ∷ rs) segments n before after some steady is (more, after-is, few) =
-    (more, after-is, omega (arith, few, is, steady.few))
+few_places_of s (r ∷ rs) before after some (more, after-is, few) =
+    (more, after-is, omega (arith, few))
 
 pub few_parts : (s : InForce) (touched segments : List Ends) (ps : List Part)
     → eqb (length touched) 0 ≡ false → AreSteady s touched segments
@@ -170,7 +171,7 @@ AnswersSpoken-painted s touched segments parts old new before after n root paint
         by : (b : Bool) → is_touched touched a ≡ b → is_touched touched a ≡ false
         by true is =
             absurd (leaf_missed parts a none (subst (λ (rs : List Ends). Any (λ r. IsWithin r a) rs)
-            (sym ranges) (steady.covered a is)))
+            (sym ranges) (steady.covered a below is)))
         by false is = is
 
     by : (found : Option ℕ) → leaf_in parts a ≡ found → Answers new after painted (spoken_at s a) a

@@ -1,6 +1,7 @@
 pub mod AliasLemmas
 pub mod BuildLemmas
 pub mod ChangeLemmas
+pub mod ChunkLemmas
 pub mod CompactLemmas
 pub mod KeptLemmas
 pub mod MarkLemmas

@@ -8,7 +8,6 @@ use Rattle.std.specs.Prelude.{slice_get, flat_map}
 use Rattle.std.specs.Prelude.{All}
 use Rattle.std.specs.List.{AllByRecursion, AllZip}
 use Rattle.std.proofs.lemmas.List.Elements.{All-from_recursion}
-use Rattle.std.specs.Borrow.{Bor}
 use Rattle.geo_addr.specs.Ranges.{Ends}
 use Rattle.trie_core.specs.declared.paint.Part.{Part}
 use Rattle.geo_terms.specs.Precedence.{spoken_at}
@@ -18,8 +17,8 @@ use Rattle.std.proofs.Math.Seq.{take-suc}
 use Rattle.std.proofs.Math.ListN.{get_or-map}
 use Rattle.geo_terms.specs.Numbers.{place_at}
 use Rattle.geo_terms.specs.PlaceForm.{PlaceParts}
-use Rattle.update_session.specs.Build.{HasNumber, IsChosen, IsKnown, StandFor, places_in}
-use Rattle.update_session.specs.Build.{renamed, said_in}
+use Rattle.update_session.specs.Build.{HasNumber, IsChosenIn, IsKnown, StandFor, places_in}
+use Rattle.update_session.specs.Build.{renamed, said_in, segments_of}
 use Rattle.update_session.specs.Kept.{GrowsBy}
 use Rattle.update_session.proofs.BuildLemmas.{place_at-grown}
 use Rattle.update_session.specs.declared.choosing.Chosen.{Chosen}
@@ -188,6 +187,23 @@ places_more chosen i one below is =
     ap places_in (run_more chosen i one below is) ∙ places_both (take i chosen) (one ∷ [])
     ∙ ap (λ n. places_in (take i chosen) + n) last
 
+segments_both : (xs ys : List Chosen)
+    → flat_map segments_of (xs ++ ys) ≡ flat_map segments_of xs ++ flat_map segments_of ys
+segments_both [] ys = refl
+segments_both (x ∷ xs) ys =
+    ap (λ (zs : List Ends). segments_of x ++ zs) (segments_both xs ys)
+    ∙ sym (append_assoc (segments_of x) (flat_map segments_of xs) (flat_map segments_of ys))
+
+pub segments_more : (chosen : List Chosen) (i : ℕ) (one : Chosen) → i < length chosen
+    → one ≡ get_or chosen i one
+    → flat_map segments_of (take i chosen) ++ segments_of one
+    ≡ flat_map segments_of (take (i + 1) chosen)
+segments_more chosen i one below is =
+    let last : flat_map segments_of (one ∷ []) ≡ segments_of one = append-nil (segments_of one) in
+    ap (λ (zs : List Ends). flat_map segments_of (take i chosen) ++ zs) (sym last)
+    ∙ sym (segments_both (take i chosen) (one ∷ []))
+    ∙ ap (flat_map segments_of) (sym (run_more chosen i one below is))
+
 -- so many runs have no more places than all
 pub places_within : (chosen : List Chosen) (n : ℕ) → places_in (take n chosen) ≤ places_in chosen
 places_within [] zero = omega arith
@@ -203,52 +219,42 @@ take_whole (x ∷ xs) (suc n) few = ap (λ (ys : List _). x ∷ ys) (take_whole 
 
 -- ---- what all runs say
 
--- what runs say of the segments that they cut
-pub record RunsSay (s : InForce) (segments : List Ends) (chosen : List Chosen) : Type 0 where
-  pub known : AllByRecursion IsKnown chosen
-  pub said : flat_map said_in chosen ≡ map (λ r. spoken_at s r.first) segments
-  pub few : places_in chosen ≤ length segments
-
-runs_say : (s : InForce) (runs : List (Bor (List Ends))) (chosen : List Chosen)
-    → AllZip (λ run one. IsChosen s run.now one) runs chosen
-    → RunsSay s (flat_map (λ r. r.now) runs) chosen
-runs_say s [] [] h = record { known = tt; said = refl; few = omega arith }
-runs_say s [] (c ∷ cs) h = absurd h
-runs_say s (r ∷ rs) [] h = absurd h
-runs_say s (r ∷ rs) (c ∷ cs) h =
-    let rest = runs_say s rs cs h.1 in
-    record {
-      known = (h.0.stands.known, rest.known);
-      said =
-          ap₂ (λ (xs ys : List (Option PlaceParts)). xs ++ ys) h.0.stands.means rest.said
-          ∙ sym (map-append (λ (e : Ends). spoken_at s e.first) r.now (flat_map (λ x. x.now) rs));
-      few = omega (arith, h.0.few, rest.few, length-append r.now (flat_map (λ x. x.now) rs));
-    }
-
-pub runs_say_all : (s : InForce) (segments : List Ends) (runs runs' : List (Bor (List Ends)))
-    (chosen chosen' : List Chosen) → flat_map (λ r. r.now) runs ≡ segments → runs' ≡ runs
-    → chosen' ≡ chosen → AllZip (λ run one. IsChosen s run.now one) runs' chosen
-    → RunsSay s segments chosen'
-runs_say_all s segments runs runs' chosen chosen' whole same same' h =
-    subst (λ (cs : List Chosen). RunsSay s segments cs) (sym same')
-    (subst (λ (es : List Ends). RunsSay s es chosen) whole
-    (runs_say s runs chosen
-    (subst (λ (rs : List (Bor (List Ends))). AllZip (λ run one. IsChosen s run.now one) rs chosen)
-    same h)))
-
 stand_for_each : (places : List PlaceParts) (leaves : List ℕ) (said : List (Option PlaceParts))
     → map (place_at places) leaves ≡ said → length leaves ≡ length said
 stand_for_each places leaves said means =
     sym (length-map leaves (place_at places)) ∙ ap length means
 
--- there is a number for each segment
-pub leaves_long : (s : InForce) (places : List PlaceParts) (segments : List Ends)
-    (chosen : List Chosen)
-    (leaves : List ℕ) → RunsSay s segments chosen → StandFor places leaves (flat_map said_in chosen)
-    → length leaves ≡ length segments
-leaves_long s places segments chosen leaves runs stands =
-    stand_for_each places leaves (flat_map said_in chosen) stands.means ∙ ap length runs.said
-    ∙ length-map segments (λ (r : Ends). spoken_at s r.first)
+-- what chunks say of their segments
+pub record RunsSay (s : InForce) (segments : List Ends) (chosen : List Chosen) : Type 0 where
+  pub known : AllByRecursion IsKnown chosen
+  pub said : flat_map said_in chosen ≡ map (λ r. spoken_at s r.first) segments
+  pub few : places_in chosen ≤ length segments
+
+pub runs_say : (s : InForce) (touched chunks : List Ends) (chosen : List Chosen)
+    → AllZip (λ chunk one. IsChosenIn s touched chunk one) chunks chosen
+    → RunsSay s (flat_map segments_of chosen) chosen
+runs_say s touched [] [] h = record { known = tt; said = refl; few = omega arith }
+runs_say s touched [] (c ∷ cs) h = absurd h
+runs_say s touched (r ∷ rs) [] h = absurd h
+runs_say s touched (r ∷ rs) (c ∷ cs) h =
+    let one = h.0.chosen in
+    let rest = runs_say s touched rs cs h.1 in
+    let said = λ (e : Ends). spoken_at s e.first in
+    let long : length c.leaves.items ≡ length c.segments.items =
+    stand_for_each c.places c.leaves.items (map said c.segments.items) one.stands.means
+    ∙ length-map c.segments.items said in
+    record {
+      known = ((one.stands.known, long), rest.known);
+      said =
+          ap₂ (λ (xs ys : List (Option PlaceParts)). xs ++ ys) one.stands.means rest.said
+          ∙ sym (map-append said c.segments.items (flat_map segments_of cs));
+      few = omega (
+        arith,
+        one.few,
+        rest.few,
+        length-append c.segments.items (flat_map segments_of cs),
+      );
+    }
 
 numbers_by_recursion : (s : InForce) (places : List PlaceParts) (ps : List Part)
     → Known places (map (λ p. p.leaf) ps)
@@ -266,15 +272,14 @@ numbers_by_recursion s places (p ∷ ps) known means =
 
 -- the parts of the segments have the numbers of what is said of these
 pub numbers_of_parts : (s : InForce) (places : List PlaceParts) (segments : List Ends)
-    (chosen : List Chosen) (leaves : List ℕ) (ps : List Part) → map (λ p. p.range) ps ≡ segments
-    → map (λ p. p.leaf) ps ≡ leaves → RunsSay s segments chosen
-    → StandFor places leaves (flat_map said_in chosen) → All (HasNumber s places) ps
-numbers_of_parts s places segments chosen leaves ps ranges are runs stands =
+    (chosen : List Chosen) (ps : List Part) → map (λ p. p.range) ps ≡ segments
+    → RunsSay s segments chosen
+    → StandFor places (map (λ p. p.leaf) ps) (flat_map said_in chosen)
+    → All (HasNumber s places) ps
+numbers_of_parts s places segments chosen ps ranges runs stands =
     All-from_recursion (HasNumber s places) ps
-    (numbers_by_recursion s places ps
-    (subst (λ (ls : List ℕ). Known places ls) (sym are) stands.known)
-    (ap (map (place_at places)) are ∙ stands.means ∙ runs.said
-    ∙ ap (map (λ (r : Ends). spoken_at s r.first)) (sym ranges)))
+    (numbers_by_recursion s places ps stands.known
+    (stands.means ∙ runs.said ∙ ap (map (λ (r : Ends). spoken_at s r.first)) (sym ranges)))
 
 pub GrowsBy-wider : (before after : List PlaceParts) (n m : ℕ) → GrowsBy before after n → n ≤ m
     → GrowsBy before after m

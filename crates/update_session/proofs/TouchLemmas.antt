@@ -1,22 +1,19 @@
 -- There are no more segments than the touch.
 use Rattle.std.proofs.Common.{◌≡◌, ℕ, ◌*◌, zero, suc, ◌+◌, ◌≤◌, Bool, true, false, cond, eqb, List}
-use Rattle.std.proofs.Common.{[], ◌∷◌, length, Contains, refl, sym, ap, ◌∙◌, inl, inr, arith}
-use Rattle.std.specs.List.{All, filter, flat_map, count_by}
-use Rattle.std.specs.List.Sorted.{IsPermutation, IsStrictlyIncreasing}
+use Rattle.std.proofs.Common.{[], ◌∷◌, length, refl, sym, ap, ◌∙◌, inl, inr, arith}
+use Rattle.std.specs.List.{filter, flat_map, count_by}
+use Rattle.std.specs.List.Sorted.{IsPermutation}
 use Rattle.std.proofs.lemmas.Bool.Decides.{Decides-eqb}
 use Rattle.std.proofs.lemmas.List.Sums.{length-filter, count_by-le-length}
-use Rattle.geo_addr.specs.Ranges.{Ends, IsCut, IsWithin, ground_first, edges_of}
+use Rattle.geo_addr.specs.Ranges.{Ends, IsCut, ground_first, edges_of}
 use Rattle.geo_terms.specs.Cuts.{statement_ranges}
-use Rattle.geo_terms.specs.Precedence.{spoken_at}
 use Rattle.geo_terms.specs.Sources.{InForce}
 use Rattle.mmdb_file.proofs.WritingLemmas.{length-each_once}
-use Rattle.least_nodes.proofs.Elements.{In, In-each_once-new}
-use Rattle.geo_terms.proofs.Members.{Among, contains_from_among, among_filter}
-use Rattle.geo_terms.proofs.Ascending.{Up, up_from, up_above}
-use Rattle.precedence.specs.CutPoints.{AreSourceSegments}
+use Rattle.least_nodes.proofs.Elements.{In}
+use Rattle.geo_terms.proofs.Members.{Among}
+use Rattle.geo_terms.proofs.Ascending.{Up, up_above}
 use Rattle.source_changes.specs.Laws.{OrderDoesNotMatter}
 use Rattle.source_changes.specs.Touched.{is_touched}
-use Rattle.update_session.specs.Build.{AreSteady}
 use Rattle.update_session.specs.Touch.{edges, touch, few_places, bound}
 
 -- a list with a member taken out, where it first stands
@@ -49,7 +46,7 @@ among-taken x z (y ∷ ys) (inr later) other =
     ]
 
 -- different members of a list are no more than the list has
-different_are_few : (low : ℕ) (xs ys : List ℕ) → Up low xs
+pub different_are_few : (low : ℕ) (xs ys : List ℕ) → Up low xs
     → ((c : ℕ) → Among c xs → Among c ys) → length xs ≤ length ys
 different_are_few low [] ys up all = omega arith
 different_are_few low (x ∷ xs) ys up all =
@@ -59,82 +56,24 @@ different_are_few low (x ∷ xs) ys up all =
     (λ e. let above : x + 1 ≤ c = up_above (x + 1) c xs up.1 is in omega arith)) in
     omega arith
 
-weaker : (low high : ℕ) (xs : List ℕ) → low ≤ high → Up high xs → Up low xs
-weaker low high [] le up = tt
-weaker low high (x ∷ xs) le up = (omega (arith, up.0), up.1)
-
-up-filter : (p : ℕ → Bool) (low : ℕ) (xs : List ℕ) → Up low xs → Up low (filter p xs)
-up-filter p low [] up = tt
-up-filter p low (x ∷ xs) up =
-    elim (p x) as (λ b. Up low (cond b (x ∷ filter p xs) (filter p xs))) [
-      | true ↦ (up.0, up-filter p (x + 1) xs up.1)
-      | false ↦ weaker low (x + 1) (filter p xs) (omega (arith, up.0)) (up-filter p (x + 1) xs up.1)
-    ]
-
--- a member that is kept is a member, and passes
-kept : (p : ℕ → Bool) (c : ℕ) (xs : List ℕ) → Among c (filter p xs) → Among c xs × (p c ≡ true)
-kept p c [] is = absurd is
-kept p c (x ∷ xs) is = by (kept p c xs) (p x) refl is
-  where
-    by : (Among c (filter p xs) → Among c xs × (p c ≡ true)) → (b : Bool) → p x ≡ b
-        → Among c (cond b (x ∷ filter p xs) (filter p xs)) → Among c (x ∷ xs) × (p c ≡ true)
-    by rest true passes (inl e) = (inl e, sym (ap p e) ∙ passes)
-    by rest true passes (inr later) = let more = rest later in (inr more.0, more.1)
-    by rest false fails is = let more = rest is in (inr more.0, more.1)
-
-in_from_among : (c : ℕ) (xs : List ℕ) → Among c xs → In c xs
+pub in_from_among : (c : ℕ) (xs : List ℕ) → Among c xs → In c xs
 in_from_among c [] is = absurd is
 in_from_among c (x ∷ xs) (inl e) = inl (sym e)
 in_from_among c (x ∷ xs) (inr later) = inr (in_from_among c xs later)
 
-among_from_in : (c : ℕ) (xs : List ℕ) → In c xs → Among c xs
+pub among_from_in : (c : ℕ) (xs : List ℕ) → In c xs → Among c xs
 among_from_in c [] is = absurd is
 among_from_in c (x ∷ xs) (inl e) = inl (sym e)
 among_from_in c (x ∷ xs) (inr later) = inr (among_from_in c xs later)
 
 -- a cut point is an edge of a range
-among_edges : (c : ℕ) (rs : List Ends) → IsCut rs c → Among c (flat_map edges_of rs)
+pub among_edges : (c : ℕ) (rs : List Ends) → IsCut rs c → Among c (flat_map edges_of rs)
 among_edges c [] (k, x, below, is, e) = absurd (omega (arith, below))
 among_edges c (r ∷ rs) (zero, x, below, is, inl e) = inl (ap ground_first is ∙ sym e)
 among_edges c (r ∷ rs) (zero, x, below, is, inr e) =
     inr (inl (ap (λ (y : Ends). y.last + 1) is ∙ sym e))
 among_edges c (r ∷ rs) (suc k, x, below, is, e) =
     inr (inr (among_edges c rs (k, x, omega (arith, below), is, e)))
-
--- the cut points that a test passes are no more than the different edges that it passes
-few_cuts : (p : ℕ → Bool) (rs : List Ends) (cuts : List ℕ) → IsStrictlyIncreasing cuts
-    → ((c : ℕ) → Contains cuts c → IsCut rs c) → count_by p cuts ≤ length (filter p (edges rs))
-few_cuts p rs cuts up are =
-    let few : length (filter p cuts) ≤ length (filter p (edges rs)) =
-    different_are_few 0 (filter p cuts) (filter p (edges rs)) (up-filter p 0 cuts (up_from cuts up))
-    (λ c is. among_filter p c (edges rs) (edge c (kept p c cuts is).0) (kept p c cuts is).1) in
-    omega (arith, few, length-filter p cuts)
-  where
-    edge : (c : ℕ) → Among c cuts → Among c (edges rs)
-    edge c is =
-        among_from_in c
-        (edges rs) (In-each_once-new eqb Decides-eqb c [] (flat_map edges_of rs) (in_from_among c
-        (flat_map edges_of rs) (among_edges c rs (are c (contains_from_among c cuts is)))))
-
--- of all of a segment of the sources the same is said, and there are few segments
-pub AreSteady-from_segments : (s : InForce) (touched out : List Ends)
-    → AreSourceSegments s touched out
-    → All (λ r. (a : ℕ) → IsWithin r a → spoken_at s a ≡ spoken_at s r.first) out
-    → AreSteady s touched out
-unfolding touch
-AreSteady-from_segments s touched out segments steady =
-    let few : count_by (is_touched touched) segments.points
-    ≤ length (filter (is_touched touched) (edges (statement_ranges s))) =
-    few_cuts (is_touched touched) (statement_ranges s) segments.points segments.cuts.ascending
-    (λ c is. ((segments.cuts.exact c).0 is).0) in
-    record {
-      ranges = segments.ranges;
-      apart = segments.apart;
-      inside = segments.inside;
-      covered = segments.covered;
-      steady = steady;
-      few = let all = segments.few in omega (arith, few, all);
-    }
 
 length-edges : (rs : List Ends) → length (flat_map edges_of rs) ≡ 2 * length rs
 length-edges [] = refl

@@ -1,8 +1,7 @@
 -- How the tree is painted anew: the touched grounds are cut, each segment gets its place's number,
 -- and all are painted.
-use Rattle.std.specs.Prelude.{◌≡◌, ℕ, ◌+◌, ◌<◌, ◌≤◌, IsTrue, List, [], ◌∷◌, length, map, Option}
-use Rattle.std.specs.Prelude.{All}
-use Rattle.std.specs.Prelude.{Any, zero, suc, get_or}
+use Rattle.std.specs.Prelude.{◌≡◌, ℕ, ◌+◌, ◌^◌, ◌<◌, ◌≤◌, IsTrue, List, [], ◌∷◌, length, map}
+use Rattle.std.specs.Prelude.{All, Any, Option, zero, suc, get_or}
 use Rattle.std.specs.List.{AllAdjacentBelow, AllByRecursion}
 use Rattle.geo_addr.specs.Ranges.{Ends, IsRange, IsWithin}
 use Rattle.geo_terms.specs.Cuts.{statement_ranges}
@@ -10,6 +9,7 @@ use Rattle.geo_terms.specs.Numbers.{place_at}
 use Rattle.geo_terms.specs.PlaceForm.{PlaceParts}
 use Rattle.geo_terms.specs.Precedence.{spoken_at}
 use Rattle.geo_terms.specs.Sources.{InForce}
+use Rattle.precedence.specs.Chunks.{AreSegmentsIn}
 use Rattle.source_changes.specs.Touched.{is_touched}
 use Rattle.trie_core.specs.declared.paint.Part.{Part}
 use Rattle.update_session.specs.Touch.{touch}
@@ -21,7 +21,7 @@ pub record AreSteady (s : InForce) (touched out : List Ends) : Type 0 where
   pub ranges : All IsRange out
   pub apart : AllAdjacentBelow (λ r t. r.last < t.first) out (length out)
   pub inside : (a : ℕ) → Any (λ r. IsWithin r a) out → IsTrue (is_touched touched a)
-  pub covered : (a : ℕ) → IsTrue (is_touched touched a) → Any (λ r. IsWithin r a) out
+  pub covered : (a : ℕ) → a < 2 ^ 128 → IsTrue (is_touched touched a) → Any (λ r. IsWithin r a) out
   pub steady : All (λ r. (a : ℕ) → IsWithin r a → spoken_at s a ≡ spoken_at s r.first) out
   pub few : length out ≤ touch touched (statement_ranges s)
 
@@ -36,25 +36,36 @@ pub record StandFor (places : List PlaceParts) (leaves : List ℕ) (said : List 
   pub known : AllByRecursion (λ leaf. leaf ≤ length places) leaves
   pub means : map (place_at places) leaves ≡ said
 
--- what the numbers of a run stand for among its own places
+-- what the numbers of a chunk stand for among its own places
 abbrev pub said_in : Chosen → List (Option PlaceParts)
 said_in c = map (place_at c.places) c.leaves.items
 
--- each number of a run is one of its places, or 0
-abbrev pub IsKnown : Chosen → Type 0
-IsKnown c = AllByRecursion (λ leaf. leaf ≤ length c.places) c.leaves.items
+-- the segments of a chunk
+abbrev pub segments_of : Chosen → List Ends
+segments_of c = c.segments.items
 
--- how many places runs have together
+-- each number of a chunk is one of its places, or 0, and each segment has one
+abbrev pub IsKnown : Chosen → Type 0
+IsKnown c =
+    AllByRecursion (λ leaf. leaf ≤ length c.places) c.leaves.items
+    × (length c.leaves.items ≡ length c.segments.items)
+
+-- how many places chunks have together
 abbrev pub places_in : List Chosen → ℕ
 places_in [] = 0
 places_in (c ∷ cs) = length c.places + places_in cs
 
--- what is said in a run of segments: of each that of its first address; it has no more places
-pub record IsChosen (s : InForce) (run : List Ends) (c : Chosen) : Type 0 where
-  pub stands : StandFor c.places c.leaves.items (map (λ r. spoken_at s r.first) run)
-  pub few : length c.places ≤ length run
+-- what is said of segments: of each that of its first address; they have no more places
+pub record IsChosen (s : InForce) (c : Chosen) : Type 0 where
+  pub stands : StandFor c.places c.leaves.items (map (λ r. spoken_at s r.first) c.segments.items)
+  pub few : length c.places ≤ length c.segments.items
 
--- the number for one of a run, where the run's places have these numbers
+-- the segments of a chunk, and what is said of them
+pub record IsChosenIn (s : InForce) (touched : List Ends) (chunk : Ends) (c : Chosen) : Type 0 where
+  pub cut : AreSegmentsIn s touched chunk c.segments.items
+  pub chosen : IsChosen s c
+
+-- the number for one of a chunk, where the chunk's places have these numbers
 abbrev pub renamed : List ℕ → ℕ → ℕ
 renamed names zero = 0
 renamed names (suc at) = get_or names at 0

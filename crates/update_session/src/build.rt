@@ -11,15 +11,14 @@ ghost use Rattle.update_session.specs.Kept.{AnswersAll, GrowsBy as PlacesGrowBy,
 ghost use Rattle.update_session.specs.Touch.{bound, few_places, touch};
 
 use crate::alias::with_aliases;
-use crate::choosing::{choose, runs_of};
+use crate::choosing::choose;
 use crate::fault::EmitFault;
-use crate::numbering::leaves_of;
+use crate::numbering::parts_of;
 use fan_work::Forks;
-use geo_addr::{Memory, Range};
+use geo_addr::Range;
 use geo_outside::{Gate, Steps};
 use geo_terms::Places;
 use precedence::Sources;
-use std::alloc::Global;
 use std::marker::Sync;
 use std::sync::ledger::Ledger;
 use std::thread::Threads;
@@ -57,54 +56,30 @@ pub(crate) fn repaint<R: Threads + Sync, G: Gate, L: Ledger>(
     if touched.is_empty() {
         return Ok(root);
     }
-    let segments = cut(sources, touched)?;
-    let parts = numbered(forks, sources, segments.as_slice(), places)?;
-    drop(segments);
+    sources.make_ready()?;
+    let parts = numbered(forks, sources, touched, places)?;
     let painted = paint(store, root, parts.as_slice(), steps)?;
     with_aliases(store, painted, steps)
 }
 
-// The touched grounds, cut where something else may be said. From then on the sources are ready.
-fn cut(sources: &mut Sources, touched: &[Range]) -> Result<Vec<Range>, Memory>
-    ensures segments { IfOk result
-        (λ segments. AreSteady sources.old touched.now segments.items) }
-    ensures same { sources.new ≡ sources.old }
-{
-    sources.make_ready()?;
-    let segments = sources.segments(touched)?;
-    Ok(segments)
-}
-
-// Each segment with the number of what is said of it.
+// The touched grounds, cut where something else may be said, each part with the number of what is
+// said of it.
 fn numbered<R: Threads + Sync, G: Gate>(
     forks: &Forks<R, G>,
     sources: &Sources,
-    segments: &[Range],
+    touched: &[Range],
     places: &mut Places,
 ) -> Result<Vec<Part>, EmitFault>
-    ensures ranges { IfOk result (λ parts. map (λ p. p.range) parts.items ≡ segments.now) }
+    ensures segments { IfOk result
+        (λ parts. AreSteady sources.now touched.now (map (λ p. p.range) parts.items)) }
     ensures numbers { IfOk result (λ parts. All (HasNumber sources.now places.new) parts.items) }
-    ensures places { PlacesGrowBy places.old places.new (length segments.now) }
+    ensures places { PlacesGrowBy places.old places.new
+        (touch touched.now (statement_ranges sources.now)) }
     ensures full { result ≡ Err EmitFault.TooLarge → length places.new + 1 ≡ 2 ^ 32 }
 {
-    let runs = runs_of(forks.alloc, segments, forks.pieces)?;
-    let chosen = choose(forks, sources, runs.as_slice())?;
-    let leaves = leaves_of(forks.alloc, chosen.as_slice(), segments.len(), places)?;
-    let parts = parts_of(forks.alloc, segments, leaves.as_slice())?;
-    Ok(parts)
-}
-
-// Each segment with its number.
-fn parts_of(alloc: Global, segments: &[Range], leaves: &[u32]) -> Result<Vec<Part>, Memory>
-    requires { length leaves.now ≡ length segments.now }
-    ensures ranges { IfOk result (λ parts. map (λ p. p.range) parts.items ≡ segments.now) }
-    ensures leaves { IfOk result (λ parts. map (λ p. p.leaf) parts.items ≡ leaves.now) }
-{
-    let mut parts = Vec::with_capacity(alloc, segments.len())?;
-    for (at, range) in segments.iter().enumerate() {
-        let (range, leaf) = (*range, leaves[at]);
-        parts.push(Part { range, leaf })?;
-    }
+    let chunks = sources.chunks(touched, forks.pieces)?;
+    let chosen = choose(forks, sources, touched, chunks.as_slice())?;
+    let parts = parts_of(forks.alloc, chosen.as_slice(), places)?;
     Ok(parts)
 }
 

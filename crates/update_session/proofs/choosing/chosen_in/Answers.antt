@@ -10,7 +10,7 @@ use Rattle.update_session.proofs.choosing.chosen_in.Goals as goal
 pub loop-segment-preserved : goal.loop-segment-preserved
 loop-segment-preserved c =
     let said = λ (r : Ends). spoken_at c.args.sources.now r.first in
-    let run = c.args.run.now in
+    let run = c.args.segments.items in
     let segment = c.segment-item.result in
     record {
       stands =

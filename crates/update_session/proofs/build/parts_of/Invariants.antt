@@ -1,8 +1,0 @@
-use Rattle.std.proofs.Common.{◌≡◌, map, take}
-use Rattle.update_session.proofs.build.parts_of.Given as goal
-
-abbrev pub invariant-loop-at : goal.invariant-loop-at
-invariant-loop-at l = record {
-  ranges : map (λ p. p.range) l.parts.items ≡ take l.at l.segments;
-  leaves : map (λ p. p.leaf) l.parts.items ≡ take l.at l.leaves;
-}

@@ -1,0 +1,12 @@
+use Rattle.std.proofs.Common.{◌≡◌, ◌++◌, map, take}
+use Rattle.update_session.specs.Build.{renamed}
+use Rattle.update_session.proofs.numbering.push_parts.Given as goal
+
+abbrev pub invariant-loop-at : goal.invariant-loop-at
+invariant-loop-at l = record {
+  ranges : map (λ p. p.range) l.parts.items
+      ≡ map (λ p. p.range) l.fn.parts.items ++ take l.at l.one.segments.items;
+  leaves : map (λ p. p.leaf) l.parts.items
+      ≡ map (λ p. p.leaf) l.fn.parts.items
+      ++ map (renamed l.names.items) (take l.at l.one.leaves.items);
+}
