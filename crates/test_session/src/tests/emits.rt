@@ -1,5 +1,5 @@
 //! A session, and the files of its emits.
-ghost use Rattle.std.specs.Prelude.{◌≡◌, ◌<◌, ◌≤◌};
+ghost use Rattle.std.specs.Prelude.{◌≡◌, ◌<◌};
 
 use fan_work::Forks;
 use geo_addr::Text;
@@ -7,19 +7,20 @@ use geo_outside::{Gate, OpenGate, Steps};
 use mmdb_file::{Emitted, Meta};
 use std::alloc::Global;
 use std::marker::{Brand, Sync};
+use std::mem::drop;
 use std::sync::ledger::{Blank, Ledger};
-use std::test::Fail;
 use std::thread::Threads;
 use update_session::{EmitFault, Session};
 
 /// A session with the name and the epoch of the worked files.
-pub fn begun(alloc: Global) -> Result<Session, Fail> {
-    let name = Text::of(alloc, "Geofeed-City")?;
+pub fn begun(alloc: Global) -> Option<Session> {
+    let name = Text::of(alloc, "Geofeed-City").ok()?;
     if name.as_str().len() > 64 {
-        return Err(Fail::from("a long name"));
+        drop(name);
+        return None;
     }
     let epoch = 1_700_000_000;
-    Ok(Session::new(alloc, Meta { epoch, name })?)
+    Session::new(alloc, Meta { epoch, name }).ok()
 }
 
 /// What a file is told by: its length, and a sum of its bytes in which their order counts.
@@ -55,32 +56,30 @@ fn emitted_by<R: Threads + Sync, G: Gate>(
     counted::<R, G, Brand>(forks, session, Blank::new(1))
 }
 
-/// An emit by so many pieces, which pass a gate.
+/// An emit by so many pieces, of which there are 1 to 64 and which pass a gate.
 pub fn emit_by<R: Threads + Sync, G: Gate>(
     rt: &R,
     alloc: Global,
     gate: &G,
     session: &mut Session,
     pieces: u32,
-) -> Result<Seen, EmitFault>
-    requires some { 0 < pieces }
-    requires few { pieces ≤ 64 }
-{
+) -> Option<Seen> {
+    if pieces == 0 || pieces > 64 {
+        return None;
+    }
     let forks = Forks {
         rt,
         alloc,
         gate,
         pieces,
     };
-    let file = emitted_by(&forks, session)?;
-    Ok(seen(file.bytes.as_slice()))
+    let file = emitted_by(&forks, session).ok()?;
+    let seen = seen(file.bytes.as_slice());
+    drop(file);
+    Some(seen)
 }
 
 /// An emit by four pieces.
-pub fn emit<R: Threads + Sync>(
-    rt: &R,
-    alloc: Global,
-    session: &mut Session,
-) -> Result<Seen, EmitFault> {
+pub fn emit<R: Threads + Sync>(rt: &R, alloc: Global, session: &mut Session) -> Option<Seen> {
     emit_by(rt, alloc, &OpenGate, session, 4)
 }

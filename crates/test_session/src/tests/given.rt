@@ -1,12 +1,11 @@
 //! Sources of a session, read from texts.
 use feed_csv::read_feed;
 use feed_refs::DumpReader;
-use geo_terms::{Dump, SourceFault};
+use geo_terms::Dump;
 use nro_stats::read_stats;
 use override_rows::read_overrides;
 use std::alloc::Global;
 use std::mem::drop;
-use std::test::Fail;
 use update_session::{DropFault, Session};
 
 /// The URL that most feeds have.
@@ -24,35 +23,35 @@ pub enum Kind {
 /// A source: its kind, its slot or URL, and its text.
 pub type Given<'a> = (Kind, &'a str, &'a [u8]);
 
-fn dump(alloc: Global, slot: &str, text: &[u8]) -> Result<Dump, SourceFault> {
-    let mut reader = DumpReader::new(alloc, slot)?;
-    match reader.feed(text) {
-        Ok(()) => reader.finish(),
-        Err(fault) => {
-            drop(reader);
-            Err(fault)
-        }
+fn dump(alloc: Global, slot: &str, text: &[u8]) -> Option<Dump> {
+    let mut reader = DumpReader::new(alloc, slot).ok()?;
+    if reader.feed(text).is_err() {
+        drop(reader);
+        return None;
     }
+    reader.finish().ok()
 }
 
-fn set_dump(alloc: Global, session: &mut Session, slot: &str, text: &[u8]) -> Result<(), Fail> {
-    Ok(session.set_rpsl(dump(alloc, slot, text)?)?)
+fn set_dump(alloc: Global, session: &mut Session, slot: &str, text: &[u8]) -> Option<()> {
+    session.set_rpsl(dump(alloc, slot, text)?).ok()
 }
 
-fn set_stats(alloc: Global, session: &mut Session, slot: &str, text: &[u8]) -> Result<(), Fail> {
-    Ok(session.set_stats(read_stats(alloc, slot, text)?)?)
+fn set_stats(alloc: Global, session: &mut Session, slot: &str, text: &[u8]) -> Option<()> {
+    session.set_stats(read_stats(alloc, slot, text).ok()?).ok()
 }
 
-fn set_feed(alloc: Global, session: &mut Session, url: &str, text: &[u8]) -> Result<(), Fail> {
-    Ok(session.set_feed(read_feed(alloc, url, text)?)?)
+fn set_feed(alloc: Global, session: &mut Session, url: &str, text: &[u8]) -> Option<()> {
+    session.set_feed(read_feed(alloc, url, text).ok()?).ok()
 }
 
-fn set_overrides(alloc: Global, session: &mut Session, text: &[u8]) -> Result<(), Fail> {
-    Ok(session.set_overrides(read_overrides(alloc, text)?)?)
+fn set_overrides(alloc: Global, session: &mut Session, text: &[u8]) -> Option<()> {
+    session
+        .set_overrides(read_overrides(alloc, text).ok()?)
+        .ok()
 }
 
 /// Sets a source.
-pub fn set(alloc: Global, session: &mut Session, given: Given) -> Result<(), Fail> {
+pub fn set(alloc: Global, session: &mut Session, given: Given) -> Option<()> {
     let (kind, name, text) = given;
     match kind {
         Kind::Rpsl => set_dump(alloc, session, name, text),

@@ -1,7 +1,7 @@
 //! Sources of many lines, which may go round.
 use crate::tests::given::{FEED, Kind, set};
 use std::alloc::Global;
-use std::test::Fail;
+use std::mem::drop;
 use update_session::Session;
 
 /// What the lines of a source are about.
@@ -15,11 +15,8 @@ pub enum Shape {
     Blocks,
 }
 
-fn push_all(text: &mut Vec<u8>, parts: &[&[u8]]) -> Result<(), Fail> {
-    for part in parts {
-        text.extend_from_slice(part)?;
-    }
-    Ok(())
+fn push(text: &mut Vec<u8>, part: &[u8]) -> Option<()> {
+    text.extend_from_slice(part).ok()
 }
 
 // The last digit of a number.
@@ -27,38 +24,43 @@ fn digit(number: u8) -> u8 {
     b'0' + number % 10
 }
 
-fn push_number(text: &mut Vec<u8>, number: u8) -> Result<(), Fail> {
+fn push_number(text: &mut Vec<u8>, number: u8) -> Option<()> {
     if number >= 100 {
-        text.push(digit(number / 100))?;
+        push(text, &[digit(number / 100)])?;
     }
     if number >= 10 {
-        text.push(digit(number / 10))?;
+        push(text, &[digit(number / 10)])?;
     }
-    text.push(digit(number))?;
-    Ok(())
+    push(text, &[digit(number)])
 }
 
-fn push_network(text: &mut Vec<u8>, number: u8, code: &[u8]) -> Result<(), Fail> {
+fn push_network(text: &mut Vec<u8>, number: u8, code: &[u8]) -> Option<()> {
     push_number(text, number)?;
-    push_all(text, &[b".0.0.0/8,set,", code, b"\n"])
+    push(text, b".0.0.0/8,set,")?;
+    push(text, code)?;
+    push(text, b"\n")
 }
 
-fn push_reference(text: &mut Vec<u8>, number: u8) -> Result<(), Fail> {
-    text.extend_from_slice(b"inetnum: ")?;
+fn push_reference(text: &mut Vec<u8>, number: u8) -> Option<()> {
+    push(text, b"inetnum: ")?;
     push_number(text, number)?;
-    push_all(text, &[b".0.0.0/8\ngeofeed: ", FEED.as_bytes(), b"\n\n"])
+    push(text, b".0.0.0/8\ngeofeed: ")?;
+    push(text, FEED.as_bytes())?;
+    push(text, b"\n\n")
 }
 
-fn push_block(text: &mut Vec<u8>, third: u8, fourth: u8, code: &[u8]) -> Result<(), Fail> {
-    text.extend_from_slice(b"10.0.")?;
+fn push_block(text: &mut Vec<u8>, third: u8, fourth: u8, code: &[u8]) -> Option<()> {
+    push(text, b"10.0.")?;
     push_number(text, third)?;
-    text.push(b'.')?;
+    push(text, b".")?;
     push_number(text, fourth)?;
-    push_all(text, &[b"/28,", code, b",,,\n"])
+    push(text, b"/28,")?;
+    push(text, code)?;
+    push(text, b",,,\n")
 }
 
 // The line of a number.
-fn push_line(text: &mut Vec<u8>, shape: Shape, at: u32, code: &[u8]) -> Result<(), Fail> {
+fn push_line(text: &mut Vec<u8>, shape: Shape, at: u32, code: &[u8]) -> Option<()> {
     match shape {
         Shape::Networks => push_network(text, (at % 64 + 1) as u8, code),
         Shape::References => push_reference(text, (at % 64 + 1) as u8),
@@ -73,12 +75,12 @@ fn push_lines(
     count: u32,
     first: &[u8],
     round: u32,
-) -> Result<(), Fail> {
+) -> Option<()> {
     for n in 0..count {
         let at = n.wrapping_add(round) % count;
         push_line(text, shape, at, if at == 0 { first } else { b"FR" })?;
     }
-    Ok(())
+    Some(())
 }
 
 /// Sets the source of a shape, with the country of its first line, and gone round by so many.
@@ -88,13 +90,17 @@ pub fn set_lines(
     shape: Shape,
     first: &str,
     round: u32,
-) -> Result<(), Fail> {
+) -> Option<()> {
     let (kind, name, count) = match shape {
         Shape::Networks => (Kind::Overrides, "", 64),
         Shape::References => (Kind::Rpsl, "many", 64),
         Shape::Blocks => (Kind::Feed, FEED, 1000),
     };
     let mut text = Vec::new(alloc);
-    push_lines(&mut text, shape, count, first.as_bytes(), round)?;
-    set(alloc, session, (kind, name, text.as_slice()))
+    let done = match push_lines(&mut text, shape, count, first.as_bytes(), round) {
+        Some(()) => set(alloc, session, (kind, name, text.as_slice())),
+        None => None,
+    };
+    drop(text);
+    done
 }
