@@ -1,6 +1,9 @@
 //! Commands over a folder and a sink in memory, jobs, words, steps and what is said of stops, where
 //! the program cannot show it: calls that fail, reads that are short, gates; and each public call
 //! once. What it can show stands in checks/trials.
+//!
+//! A helper answers `None` where memory runs out, which no test expects. An error that `?` turns
+//! into another one, and what goes by itself at each way out, cost the proof of a function seconds.
 ghost use Rattle.std.specs.Prelude.{◌≡◌, ◌<◌};
 
 mod commands;
@@ -13,13 +16,13 @@ mod steps;
 mod texts;
 mod words;
 
-use geo_addr::Memory;
+use geo_addr::{Memory, Text};
 use geo_outside::{Gate, MemFolder, MemSink, OpenGate, Steps};
 use geofeed_cmd::{Status, run};
 use std::alloc::{AllocError, Global};
 use std::marker::{Brand, Sync};
+use std::mem::drop;
 use std::sync::ledger::{Blank, Ledger};
-use std::test::Fail;
 use std::thread::Threads;
 
 /// Names and bytes of files.
@@ -48,31 +51,42 @@ struct Left {
     out: MemSink,
 }
 
+/// What was made, if what was done to it since was done. Else it goes here, where it is of any
+/// type, so that no proof takes it apart.
+fn if_done<T: Drop>(made: T, done: bool) -> Option<T> {
+    if done {
+        return Some(made);
+    }
+    drop(made);
+    None
+}
+
 /// A list of one number.
-fn list_of(alloc: Global, number: u64) -> Result<Vec<u64>, AllocError> {
-    let mut list = Vec::new(alloc);
-    list.push(number)?;
-    Ok(list)
+fn list_of(alloc: Global, number: u64) -> Option<Vec<u64>> {
+    match vec![in alloc; number] {
+        Ok(list) => Some(list),
+        Err(_) => None,
+    }
 }
 
 /// An empty folder, of which the read and the put with these numbers fail.
-fn empty_folder(alloc: Global, read: u64, put: u64) -> Result<MemFolder, AllocError> {
+fn empty_folder(alloc: Global, read: u64, put: u64) -> Option<MemFolder> {
     let reads = list_of(alloc, read)?;
     let puts = list_of(alloc, put)?;
-    Ok(MemFolder::new(alloc, reads, puts))
+    Some(MemFolder::new(alloc, reads, puts))
 }
 
 /// An empty sink, of which the print with this number fails.
-fn empty_sink(alloc: Global, print: u64) -> Result<MemSink, AllocError> {
+fn empty_sink(alloc: Global, print: u64) -> Option<MemSink> {
     let prints = list_of(alloc, print)?;
-    Ok(MemSink::new(alloc, prints))
+    Some(MemSink::new(alloc, prints))
 }
 
 /// An empty folder, and nothing printed.
-fn nothing(alloc: Global, faults: Faults) -> Result<Left, AllocError> {
-    let folder = empty_folder(alloc, faults.read, faults.put)?;
+fn nothing(alloc: Global, faults: Faults) -> Option<Left> {
     let out = empty_sink(alloc, faults.print)?;
-    Ok(Left {
+    let folder = empty_folder(alloc, faults.read, faults.put)?;
+    Some(Left {
         status: Status::Done,
         folder,
         out,
@@ -80,31 +94,71 @@ fn nothing(alloc: Global, faults: Faults) -> Result<Left, AllocError> {
 }
 
 /// Sets a file.
-fn hold(folder: &mut MemFolder, name: &str, bytes: &[u8]) -> Result<(), Memory> {
-    folder.hold(name, bytes)
+fn hold(folder: &mut MemFolder, name: &str, bytes: &[u8]) -> bool {
+    folder.hold(name, bytes).is_ok()
 }
 
-fn hold_all(folder: &mut MemFolder, files: Files) -> Result<(), Memory> {
+fn hold_all(folder: &mut MemFolder, files: Files) -> bool {
     for file in files {
-        hold(folder, file.0, file.1)?;
+        if !hold(folder, file.0, file.1) {
+            return false;
+        }
     }
-    Ok(())
+    true
 }
 
 /// A folder of these files, and nothing printed.
-fn start(alloc: Global, files: Files, faults: Faults) -> Result<Left, Fail> {
+fn start(alloc: Global, files: Files, faults: Faults) -> Option<Left> {
     let mut left = nothing(alloc, faults)?;
-    hold_all(&mut left.folder, files)?;
-    Ok(left)
+    let held = hold_all(&mut left.folder, files);
+    if_done(left, held)
+}
+
+fn push_word(alloc: Global, word: &str, words: &mut Vec<String>) -> bool {
+    match String::from_str(alloc, word) {
+        Ok(word) => words.push(word).is_ok(),
+        Err(_) => false,
+    }
+}
+
+fn push_words(alloc: Global, command: &str, words: &mut Vec<String>) -> bool {
+    for word in command.split_whitespace() {
+        if !push_word(alloc, word, words) {
+            return false;
+        }
+    }
+    true
 }
 
 /// The words of a command.
-fn words_of(alloc: Global, command: &str) -> Result<Vec<String>, AllocError> {
+fn words_of(alloc: Global, command: &str) -> Option<Vec<String>> {
     let mut words = Vec::new(alloc);
-    for word in command.split_whitespace() {
-        words.push(String::from_str(alloc, word)?)?;
+    let pushed = push_words(alloc, command, &mut words);
+    if_done(words, pushed)
+}
+
+/// Whether a text, which goes, was made and is this one.
+fn is_text(made: Result<Text, Memory>, wanted: &str) -> bool {
+    match made {
+        Ok(text) => {
+            let is_wanted = text.as_str() == wanted;
+            drop(text);
+            is_wanted
+        }
+        Err(_) => false,
     }
-    Ok(words)
+}
+
+/// The same of a string.
+fn is_string(made: Result<String, AllocError>, wanted: &str) -> bool {
+    match made {
+        Ok(text) => {
+            let is_wanted = text.as_str() == wanted;
+            drop(text);
+            is_wanted
+        }
+        Err(_) => false,
+    }
 }
 
 /// Does the command of these words.
@@ -143,26 +197,26 @@ fn ended<R: Threads + Sync, G: Gate>(
     do_words::<R, G, Brand>(rt, alloc, words, left, gate, Blank::new(1))
 }
 
-/// Does a command at a gate.
+/// Does a command at a gate, and says whether its words could be made.
 fn speak_at<R: Threads + Sync, G: Gate>(
     rt: &R,
     alloc: Global,
     command: &str,
     left: &mut Left,
     gate: &G,
-) -> Result<(), AllocError> {
-    let words = words_of(alloc, command)?;
-    left.status = ended(rt, alloc, words.as_slice(), left, gate);
-    Ok(())
+) -> bool {
+    match words_of(alloc, command) {
+        Some(words) => {
+            left.status = ended(rt, alloc, words.as_slice(), left, gate);
+            drop(words);
+            true
+        }
+        None => false,
+    }
 }
 
 /// Does a command.
-fn speak<R: Threads + Sync>(
-    rt: &R,
-    alloc: Global,
-    command: &str,
-    left: &mut Left,
-) -> Result<(), AllocError> {
+fn speak<R: Threads + Sync>(rt: &R, alloc: Global, command: &str, left: &mut Left) -> bool {
     speak_at(rt, alloc, command, left, &OpenGate)
 }
 
@@ -173,10 +227,10 @@ fn left_by<R: Threads + Sync>(
     files: Files,
     command: &str,
     faults: Faults,
-) -> Result<Left, Fail> {
+) -> Option<Left> {
     let mut left = start(alloc, files, faults)?;
-    speak(rt, alloc, command, &mut left)?;
-    Ok(left)
+    let spoken = speak(rt, alloc, command, &mut left);
+    if_done(left, spoken)
 }
 
 /// Whether it ended so, and this was printed.

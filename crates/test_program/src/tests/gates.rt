@@ -3,7 +3,7 @@ use super::{Files, Left, NONE, speak_at, start};
 use geofeed_cmd::Status;
 use std::alloc::Global;
 use std::marker::Sync;
-use std::test::Fail;
+use std::mem::drop;
 use std::thread::Threads;
 use test_base::Looking;
 
@@ -25,22 +25,25 @@ fn meetings<R: Threads + Sync>(
     alloc: Global,
     command: &str,
     left: &mut Left,
-) -> Result<u64, Fail> {
+) -> Option<u64> {
     let gate = Looking::waiting();
-    speak_at(rt, alloc, command, left, &gate)?;
-    Ok(gate.met())
+    let spoken = speak_at(rt, alloc, command, left, &gate);
+    let met = gate.met();
+    drop(gate);
+    if spoken { Some(met) } else { None }
 }
 
 /// Whether two pieces met twice.
-fn meet<R: Threads + Sync>(rt: &R, alloc: Global, command: &str) -> Result<bool, Fail> {
+fn meet<R: Threads + Sync>(rt: &R, alloc: Global, command: &str) -> Option<bool> {
     let mut left = start(alloc, JOBS, NONE)?;
-    let met = meetings(rt, alloc, command, &mut left)?;
-    Ok(left.status == Status::Done && met == 2)
+    let met = meetings(rt, alloc, command, &mut left);
+    let is_done = left.status == Status::Done;
+    drop(left);
+    Some(is_done && met == Some(2))
 }
 
 #[test]
-fn two_pieces_meet(rt: HostRuntime) -> Result<(), Fail> {
-    assert!(rt; meet(&rt, rt.alloc(), "build f")?);
-    assert!(rt; meet(&rt, rt.alloc(), "build o")?);
-    Ok(())
+fn two_pieces_meet(rt: HostRuntime) {
+    assert!(rt; meet(&rt, rt.alloc(), "build f") == Some(true));
+    assert!(rt; meet(&rt, rt.alloc(), "build o") == Some(true));
 }

@@ -1,10 +1,9 @@
 //! Why lines and words are refused, as the readers say it: told from the words by hand, and spelt
 //! as the names of the faults are.
-use super::words_of;
-use geo_addr::Memory;
-use job_lines::{LineFault, Reason, command_or_reason, job_or_reason};
+use super::{is_string, words_of};
+use job_lines::{JobRefusal, LineFault, Reason, command_or_reason, job_or_reason};
 use std::alloc::{AllocError, Global};
-use std::test::Fail;
+use std::mem::drop;
 
 /// A job or words, and the fault that is told of them.
 type Row = (&'static str, &'static str);
@@ -62,15 +61,25 @@ fn before() -> &'static [Row] {
     &BEFORE
 }
 
-fn is_before(alloc: Global, row: &Row) -> Result<bool, Memory> {
-    let words = words_of(alloc, row.0)?;
-    match command_or_reason(words.as_slice()) {
-        Ok(_) => Ok(false),
-        Err(fault) => {
-            let reason = Reason::of_words(alloc, words.as_slice(), fault)?;
-            Ok(reason.before.text.as_str() == row.1)
+fn has_before(alloc: Global, words: &[String], fault: LineFault, wanted: &str) -> bool {
+    match Reason::of_words(alloc, words, fault) {
+        Ok(reason) => {
+            let is_wanted = reason.before.text.as_str() == wanted;
+            drop(reason);
+            is_wanted
         }
+        Err(_) => false,
     }
+}
+
+fn is_before(alloc: Global, row: &Row) -> Option<bool> {
+    let words = words_of(alloc, row.0)?;
+    let is_before = match fault_of_words(words.as_slice()) {
+        Some(fault) => has_before(alloc, words.as_slice(), fault, row.1),
+        None => false,
+    };
+    drop(words);
+    Some(is_before)
 }
 
 fn lines() -> &'static [Row] {
@@ -81,13 +90,24 @@ fn words() -> &'static [Row] {
     &WORDS
 }
 
+fn fault_in(refusal: &JobRefusal) -> Option<LineFault> {
+    match &refusal.reason {
+        Some(reason) => Some(reason.fault),
+        None => None,
+    }
+}
+
 fn fault_of_line(alloc: Global, job: &str) -> Option<LineFault> {
     match job_or_reason(alloc, job.as_bytes()) {
-        Ok(_) => None,
-        Err(refusal) => match &refusal.reason {
-            Some(reason) => Some(reason.fault),
-            None => None,
-        },
+        Ok(job) => {
+            drop(job);
+            None
+        }
+        Err(refusal) => {
+            let fault = fault_in(&refusal);
+            drop(refusal);
+            fault
+        }
     }
 }
 
@@ -98,32 +118,34 @@ fn fault_of_words(words: &[String]) -> Option<LineFault> {
     }
 }
 
-fn is_line_told(alloc: Global, row: &Row) -> Result<bool, AllocError> {
-    let told = format!(in alloc; "{:?}", fault_of_line(alloc, row.0))?;
-    Ok(told.as_str() == row.1)
+fn spelt(alloc: Global, fault: Option<LineFault>) -> Result<String, AllocError> {
+    format!(in alloc; "{fault:?}")
 }
 
-fn are_words_told(alloc: Global, row: &Row) -> Result<bool, AllocError> {
+fn is_line_told(alloc: Global, row: &Row) -> bool {
+    is_string(spelt(alloc, fault_of_line(alloc, row.0)), row.1)
+}
+
+fn are_words_told(alloc: Global, row: &Row) -> Option<bool> {
     let words = words_of(alloc, row.0)?;
-    let told = format!(in alloc; "{:?}", fault_of_words(words.as_slice()))?;
-    Ok(told.as_str() == row.1)
+    let fault = fault_of_words(words.as_slice());
+    drop(words);
+    Some(is_string(spelt(alloc, fault), row.1))
 }
 
 #[test]
-fn why_lines_and_words_are_refused(rt: HostRuntime) -> Result<(), Fail> {
+fn why_lines_and_words_are_refused(rt: HostRuntime) {
     for row in lines() {
-        assert!(rt; is_line_told(rt.alloc(), row)?, "{}", row.0);
+        assert!(rt; is_line_told(rt.alloc(), row), "{}", row.0);
     }
     for row in words() {
-        assert!(rt; are_words_told(rt.alloc(), row)?, "{}", row.0);
+        assert!(rt; are_words_told(rt.alloc(), row) == Some(true), "{}", row.0);
     }
-    Ok(())
 }
 
 #[test]
-fn words_before_those_that_are_refused(rt: HostRuntime) -> Result<(), Fail> {
+fn words_before_those_that_are_refused(rt: HostRuntime) {
     for row in before() {
-        assert!(rt; is_before(rt.alloc(), row)?, "{}", row.0);
+        assert!(rt; is_before(rt.alloc(), row) == Some(true), "{}", row.0);
     }
-    Ok(())
 }

@@ -1,10 +1,11 @@
 //! What is said of stops, where the program cannot be brought to them. The words are written here
 //! and in checks/trials alone.
-use geo_addr::{Memory, Text};
+use super::is_text;
+use geo_addr::Text;
 use job_run::{ActKind, Cause, Journal, NotDone, Stop};
 use std::alloc::Global;
 use std::io::ErrorKind;
-use std::test::Fail;
+use std::mem::drop;
 use stop_words::{System, stop_text};
 
 /// What ended `build job`, the line of the job and what it does, what it is about, and what is
@@ -75,30 +76,32 @@ fn rows() -> &'static [Row] {
 }
 
 /// What a command tells that ends so.
-fn journal_of(alloc: Global, row: &Row) -> Result<Journal, Memory> {
+fn journal_of(alloc: Global, row: &Row) -> Option<Journal> {
+    let name = Text::of(alloc, row.name).ok()?;
     let mut journal = Journal::new(alloc);
     journal.begin(alloc, "job");
     journal.end(row.stop);
-    journal.name = Some(Text::of(alloc, row.name)?);
+    journal.name = Some(name);
     if let Some((line, kind)) = row.step {
         journal.step = Some(NotDone { line, kind });
     }
-    Ok(journal)
+    Some(journal)
 }
 
-fn is_said(alloc: Global, row: &Row) -> Result<bool, Memory> {
+fn is_said(alloc: Global, row: &Row) -> Option<bool> {
     let journal = journal_of(alloc, row)?;
     let system = System {
         kind: ErrorKind::Other,
         text: "why",
     };
-    Ok(stop_text(alloc, &journal, Some(system))?.as_str() == row.said)
+    let said = stop_text(alloc, &journal, Some(system));
+    drop(journal);
+    Some(is_text(said, row.said))
 }
 
 #[test]
-fn what_is_said_of_stops(rt: HostRuntime) -> Result<(), Fail> {
+fn what_is_said_of_stops(rt: HostRuntime) {
     for row in rows() {
-        assert!(rt; is_said(rt.alloc(), row)?, "{}", row.said);
+        assert!(rt; is_said(rt.alloc(), row) == Some(true), "{}", row.said);
     }
-    Ok(())
 }

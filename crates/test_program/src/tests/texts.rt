@@ -1,10 +1,9 @@
 //! The texts of stops, where no command of the other tables comes to one: those of docs/stops.md.
-use geo_addr::Memory;
+use super::is_text;
 use geofeed_cmd::stop_line;
 use job_lines::JobFault;
 use job_run::{Cause, Stop};
 use std::alloc::Global;
-use std::test::Fail;
 
 /// A stop, its line and name, and what is printed.
 struct Row {
@@ -70,14 +69,13 @@ fn texts() -> &'static [Row] {
     &TEXTS
 }
 
-fn is_printed(alloc: Global, row: &Row) -> Result<bool, Memory> {
-    Ok(stop_line(alloc, row.stop, row.line, row.name)?.as_str() == row.printed)
+fn is_printed(alloc: Global, row: &Row) -> bool {
+    is_text(stop_line(alloc, row.stop, row.line, row.name), row.printed)
 }
 
 #[test]
-fn texts_of_stops(rt: HostRuntime) -> Result<(), Fail> {
+fn texts_of_stops(rt: HostRuntime) {
     for row in texts() {
-        assert!(rt; is_printed(rt.alloc(), row)?, "{}", row.printed);
+        assert!(rt; is_printed(rt.alloc(), row), "{}", row.printed);
     }
-    Ok(())
 }

@@ -1,8 +1,8 @@
 //! Words that are a command, and which one, told by hand: a prefix of IPv4 is 96 bits longer there.
-use super::words_of;
+use super::{is_string, words_of};
 use job_lines::command_in;
 use std::alloc::{AllocError, Global};
-use std::test::Fail;
+use std::mem::drop;
 
 /// Words, and the command that they are.
 type Row = (&'static str, &'static str);
@@ -42,15 +42,16 @@ fn spelt(alloc: Global, words: &[String]) -> Result<String, AllocError> {
     format!(in alloc; "{:?}", command_in(words))
 }
 
-fn is_spelt(alloc: Global, row: &Row) -> Result<bool, AllocError> {
+fn is_spelt(alloc: Global, row: &Row) -> Option<bool> {
     let words = words_of(alloc, row.0)?;
-    Ok(spelt(alloc, words.as_slice())?.as_str() == row.1)
+    let spelt = spelt(alloc, words.as_slice());
+    drop(words);
+    Some(is_string(spelt, row.1))
 }
 
 #[test]
-fn words_and_commands(rt: HostRuntime) -> Result<(), Fail> {
+fn words_and_commands(rt: HostRuntime) {
     for row in rows() {
-        assert!(rt; is_spelt(rt.alloc(), row)?, "{}", row.0);
+        assert!(rt; is_spelt(rt.alloc(), row) == Some(true), "{}", row.0);
     }
-    Ok(())
 }
