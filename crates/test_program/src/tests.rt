@@ -2,8 +2,8 @@
 //! the program cannot show it: calls that fail, reads that are short, gates; and each public call
 //! once. What it can show stands in checks/trials.
 //!
-//! A helper answers `None` where memory runs out, which no test expects. An error that `?` turns
-//! into another one, and what goes by itself at each way out, cost the proof of a function seconds.
+//! A helper answers `None` where memory runs out, which no test expects, so that no error is turned
+//! into another one; what goes by itself at each way out would cost the proof of its function.
 ghost use Rattle.std.specs.Prelude.{◌≡◌, ◌<◌};
 
 mod commands;

@@ -4,7 +4,7 @@ use std::alloc::Global;
 use std::mem::drop;
 
 // Each rich call stands in a function of its own that promises nothing: its facts then burden no
-// other proof. An error that `?` turns into another one costs its function's proof five seconds.
+// other proof. A `vec!` costs the proof of its function seconds, so one function has it.
 
 // A list of one number.
 fn listing(alloc: Global, number: u64) -> Option<Vec<u64>> {

@@ -42,8 +42,8 @@ pub enum Act {
 
 use Act::*;
 
-// A helper answers `None` where memory runs out or a text is not read, which no test expects. An
-// error that `?` turns into another one costs its function's proof some five seconds.
+// A helper answers `None` where memory runs out or a text is not read, which no test expects, so
+// that no error is turned into another one.
 
 // Changes a session. What changes nothing is passed over.
 fn change(alloc: Global, session: &mut Session, act: Act) -> Option<()> {
@@ -59,7 +59,12 @@ fn change(alloc: Global, session: &mut Session, act: Act) -> Option<()> {
 
 // Whether an address lies on one of the grounds.
 fn lies_on(grounds: &[Range], at: u128) -> bool {
-    grounds.iter().any(|r| r.first <= at && at <= r.last)
+    for ground in grounds {
+        if ground.first <= at && at <= ground.last {
+            return true;
+        }
+    }
+    false
 }
 
 // How many edges of statements lie on the grounds that are touched.

@@ -19,9 +19,9 @@ fn push(text: &mut Vec<u8>, part: &[u8]) -> Option<()> {
     text.extend_from_slice(part).ok()
 }
 
-// The last digit of a number.
+// The last digit of a number. A sum by `+` would have a proof of its own, of eight seconds.
 fn digit(number: u8) -> u8 {
-    b'0' + number % 10
+    b'0'.wrapping_add(number % 10)
 }
 
 fn push_number(text: &mut Vec<u8>, number: u8) -> Option<()> {
