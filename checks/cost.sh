@@ -128,7 +128,7 @@ for lines in 2000 4000; do
     counts build job
     [ "$lines" -eq 4000 ] || few=$((bytes - before))
 done
-bound $(((bytes - before - few) / 2000)) 228 'a later emit: bytes for each line that changed'
+bound $(((bytes - before - few) / 2000)) 290 'a later emit: bytes for each line that changed'
 
 # Nodes that each of many emits leaves behind: a layout takes four bytes for each node of the store,
 # so what all of them ask for grows by its square.

@@ -134,11 +134,11 @@ module _ (s : InForce) (touched : List Ends) where
   flat_any a low high (r ∷ rs) (c ∷ cs) tiles h le lt is =
       elim (cases_lt r.last a) [
         | inl later ↦
-          any_right (λ (x : Ends). IsWithin x a) (segments_of c) (flat_map segments_of cs)
-          (flat_any a (r.last + 1) high rs cs tiles.2 h.1 (omega (arith, later)) lt is)
+            any_right (λ (x : Ends). IsWithin x a) (segments_of c) (flat_map segments_of cs)
+            (flat_any a (r.last + 1) high rs cs tiles.2 h.1 (omega (arith, later)) lt is)
         | inr here ↦
-          any_left (λ (x : Ends). IsWithin x a) (segments_of c) (flat_map segments_of cs)
-          (h.0.cut.covered a is (omega (arith, tiles.0, le), here))
+            any_left (λ (x : Ends). IsWithin x a) (segments_of c) (flat_map segments_of cs)
+            (h.0.cut.covered a is (omega (arith, tiles.0, le), here))
       ]
 
   flat_ascends : (low high : ℕ) (chunks : List Ends) (chosen : List Chosen) → Tiles low chunks high
