@@ -35,7 +35,7 @@ fn push_by_range(found: &mut Vec<u128>, points: &[u128], ranges: &[Range]) -> Re
     Ok(())
 }
 
-/// About how much room the points inside a range take: as many as there are, where points ascend.
+/// How many of ascending points lie inside a range, to make room for them; of others any number.
 pub fn room_inside(points: &[u128], range: Range) -> usize {
     let below = points.partition_point(|point| *point < range.first);
     let upto = points.partition_point(|point| *point <= range.last);

@@ -17,6 +17,7 @@ use std::alloc::Global;
 pub fn grounds_in(alloc: Global, touched: &[Range], chunk: Range) -> Result<Vec<Range>, Memory>
     ensures same { IfOk result (λ fewer. (a : ℕ) → is_touched fewer.items a
         ≡ (is_touched touched.now a && (nat_le chunk.first a && nat_le a chunk.last))) }
+    // What is touched are addresses, so a chunk that is the whole space leaves none out.
     ensures below { IfOk result
         (λ fewer. (a : ℕ) → IsTrue (is_touched touched.now a) → a < 2 ^ 128) }
     ensures few { IfOk result (λ fewer. length fewer.items ≤ length touched.now) }

@@ -484,7 +484,8 @@ impl Sources {
         Ok(segments)
     }
 
-    /// The address space in neighbouring chunks, at most so many, each with about as much to cut.
+    /// The address space in neighbouring chunks, ascending, at most `pieces` of them, each with
+    /// about as much to cut. How many there are, and how even, no clause says.
     ///
     /// A chunk begins where a touched ground does or at a cut point, so that no segment is cut for
     /// it.
@@ -586,7 +587,7 @@ impl Sources {
         Ok(bounds)
     }
 
-    // Whether most of the address space may be touched.
+    // Whether so much is touched that all cut points are gathered as well as some.
     fn is_most(&self, touched: &[Range]) -> bool {
         self.count() / 4 <= touched.len()
     }
