@@ -274,6 +274,7 @@ members_within levels read within (suc n) offset left found e =
     let second = within false key.1 key.2 value c.1 in
     let others = members_within levels read within n value.1 value.2 rest d.1 in
     subst (λ (x : Members × ℕ × Budget). MembersAreWithin levels x.0 left x.2)
+    {x = (member name value.0 rest.0, rest.1, rest.2)}
     (ok_is (member name value.0 rest.0, rest.1, rest.2) found d.2)
     (record {
       deep = omega (arith, first.deep, second.deep, others.deep);

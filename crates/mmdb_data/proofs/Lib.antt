@@ -7,6 +7,8 @@ pub mod ReadsBack
 pub mod Views
 pub mod Fine
 pub mod Written
+pub mod Leads
+pub mod Parts
 pub mod Loops
 pub mod Bounds
 pub mod Pointed

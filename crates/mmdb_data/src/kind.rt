@@ -4,7 +4,7 @@ ghost use Rattle.std.specs.Prelude.{◌≡◌, ◌<◌, ◌&&◌, nat_lt, is_som
 ghost use Rattle.mmdb_data.specs.Kinds.{kind_code};
 
 /// The type of a value, with its number (MaxMind DB 2.0, "Output Data Section").
-#[derive(Clone, Copy, Debug, PartialEq, Eq)]
+#[derive(Clone, Copy)]
 pub(crate) enum Kind {
     Pointer = 1,
     Text = 2,

@@ -1,10 +1,10 @@
 //! Values without parts.
 
-ghost use Rattle.std.specs.Prelude.{◌≡◌, ◌≤◌, ◌<◌, ◌+◌, length, OnOk, IfOk};
-ghost use Rattle.mmdb_data.specs.ValueTree.{ValueTree, most as most_size};
+ghost use Rattle.std.specs.Prelude.{◌≡◌, ◌≤◌, ◌<◌, ◌+◌, length, OnOk, IfOk, IfSome};
+ghost use Rattle.std.specs.Prelude.{option_map};
 ghost use Rattle.mmdb_data.specs.Reading.{Gives, content_bytes_from, byte_string_from};
 ghost use Rattle.mmdb_data.specs.Reading.{scalar_bytes_from, scalar_from, text_from, bool_from};
-ghost use Rattle.mmdb_data.specs.Reading.{leaf_from};
+ghost use Rattle.mmdb_data.specs.Reading.{leaf_from, scalar_of as scalar_by};
 ghost use Rattle.mmdb_data.specs.View.{value_tree, budget};
 
 use crate::fault::{DataCause, DataFault};
@@ -18,8 +18,7 @@ impl<'a> Reader<'a> {
     /// Reads the value without parts that has this head.
     #[tactic(auto, unfolding(crate::specs::Reading::leaf_from))]
     pub(crate) fn leaf(&mut self, is_key: bool, head: Head) -> Result<Value, DataFault>
-        requires here { head.offset ≤ length self.old.section.now }
-        requires narrow { head.size ≤ most_size }
+        requires { head.offset ≤ length self.old.section.now }
         ensures gives { Gives (λ value. (value_tree value, self.new.at, budget self.new.left))
             result
             (leaf_from self.old.section.now is_key self.old.at head.kind head.size head.offset
@@ -105,46 +104,20 @@ impl<'a> Reader<'a> {
     }
 
     /// A scalar of a bounded size, which spends nothing.
-    #[tactic(auto, unfolding(crate::specs::Reading::scalar_from, crate::specs::Reading::scalar_of))]
+    #[tactic(auto, unfolding(crate::specs::Reading::scalar_from))]
     fn scalar(&self, is_key: bool, head: Head) -> Result<Value, DataFault>
-        requires here { head.offset ≤ length self.now.section.now }
-        requires narrow { head.size ≤ most_size }
+        requires { head.offset ≤ length self.now.section.now }
         ensures gives { Gives value_tree result
             (scalar_from self.now.section.now is_key self.now.at head.kind head.size head.offset) }
         ensures room { OnOk result (head.offset + head.size ≤ length self.now.section.now) }
     {
-        match Kind::of(head.kind) {
-            Some(Kind::Double) => {
-                let mut raw = [0; 8];
-                raw.copy_from_slice(self.scalar_bytes(is_key, head, 8, 8)?);
-                Ok(Value::Raw8(raw))
-            }
-            Some(Kind::U16) => {
-                let content = self.scalar_bytes(is_key, head, 0, 2)?;
-                Ok(Value::U16(number_of(content, 2) as u16))
-            }
-            Some(Kind::U32) => {
-                let content = self.scalar_bytes(is_key, head, 0, 4)?;
-                Ok(Value::U32(number_of(content, 4) as u32))
-            }
-            Some(Kind::I32) => {
-                let content = self.scalar_bytes(is_key, head, 0, 4)?;
-                Ok(Value::I32((number_of(content, 4) as u32).cast_signed()))
-            }
-            Some(Kind::U64) => {
-                let content = self.scalar_bytes(is_key, head, 0, 8)?;
-                Ok(Value::U64(number_of(content, 8) as u64))
-            }
-            Some(Kind::U128) => {
-                let content = self.scalar_bytes(is_key, head, 0, 16)?;
-                Ok(Value::U128(number_of(content, 16)))
-            }
-            Some(Kind::Float) => {
-                let mut raw = [0; 4];
-                raw.copy_from_slice(self.scalar_bytes(is_key, head, 4, 4)?);
-                Ok(Value::Raw4(raw))
-            }
-            _ => Err(bad(self.at, DataCause::Kind)),
+        let Some((least, greatest)) = sizes_of(head.kind) else {
+            return Err(bad(self.at, DataCause::Kind));
+        };
+        let content = self.scalar_bytes(is_key, head, least, greatest)?;
+        match scalar_of(head.kind, content) {
+            Some(value) => Ok(value),
+            None => Err(bad(self.at, DataCause::Kind)),
         }
     }
 
@@ -173,6 +146,50 @@ impl<'a> Reader<'a> {
             return Err(bad(self.at, DataCause::Key));
         }
         Ok(content)
+    }
+}
+
+/// The least and the greatest size of a scalar of this type.
+#[tactic(auto, unfolding(crate::specs::Reading::scalar_of))]
+fn sizes_of(kind: u16) -> Option<(usize, usize)>
+    ensures { result ≡ option_map (λ s. (s.least, s.greatest)) (scalar_by kind) }
+{
+    match Kind::of(kind) {
+        Some(Kind::U16) => Some((0, 2)),
+        Some(Kind::U32 | Kind::I32) => Some((0, 4)),
+        Some(Kind::U64) => Some((0, 8)),
+        Some(Kind::U128) => Some((0, 16)),
+        Some(Kind::Double) => Some((8, 8)),
+        Some(Kind::Float) => Some((4, 4)),
+        _ => None,
+    }
+}
+
+/// The scalar of this type with this content.
+#[tactic(auto, unfolding(crate::specs::Reading::scalar_of))]
+fn scalar_of(kind: u16, content: &[u8]) -> Option<Value>
+    requires { IfSome (scalar_by kind)
+        (λ s. (s.least ≤ length content.now) × (length content.now ≤ s.greatest)) }
+    ensures { option_map value_tree result
+        ≡ option_map (λ s. s.value content.now) (scalar_by kind) }
+{
+    match Kind::of(kind) {
+        Some(Kind::U16) => Some(Value::U16(number_of(content, 2) as u16)),
+        Some(Kind::U32) => Some(Value::U32(number_of(content, 4) as u32)),
+        Some(Kind::I32) => Some(Value::I32((number_of(content, 4) as u32).cast_signed())),
+        Some(Kind::U64) => Some(Value::U64(number_of(content, 8) as u64)),
+        Some(Kind::U128) => Some(Value::U128(number_of(content, 16))),
+        Some(Kind::Double) => {
+            let mut raw = [0; 8];
+            raw.copy_from_slice(content);
+            Some(Value::Raw8(raw))
+        }
+        Some(Kind::Float) => {
+            let mut raw = [0; 4];
+            raw.copy_from_slice(content);
+            Some(Value::Raw4(raw))
+        }
+        _ => None,
     }
 }
 

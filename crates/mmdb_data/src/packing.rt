@@ -78,9 +78,8 @@ fn append_content(section: &mut Section, value: &Value) -> Result<(), Memory>
             section.append_head(Kind::List, values.len())?;
             append_items(section, values)
         }
-        Value::Text(_) | Value::Bytes(_) | Value::Bool(_) => section.append(),
-        Value::U16(_) | Value::U32(_) | Value::I32(_) => section.append(),
-        Value::U64(_) | Value::U128(_) | Value::Raw8(_) | Value::Raw4(_) => section.append(),
+        // A value without parts.
+        _ => section.append(),
     }
 }
 

@@ -1,6 +1,6 @@
 //! Reading the value at an offset of a data section.
 
-ghost use Rattle.std.specs.Prelude.{◌≡◌, ◌≤◌, ◌<◌, ◌+◌, ◌^◌, length, OnOk, IfOk};
+ghost use Rattle.std.specs.Prelude.{◌≡◌, ◌≤◌, ◌<◌, ◌+◌, ◌*◌, ◌^◌, length, OnOk, IfOk};
 ghost use Rattle.byteorder.specs.Endian.{big_number};
 ghost use Rattle.mmdb_data.specs.ValueTree.{most as most_size};
 ghost use Rattle.mmdb_data.specs.Reading.{Gives, byte_from, bytes_from, number_from};
@@ -113,17 +113,25 @@ fn size_at(section: &[u8], at: usize, code: u8, offset: usize) -> Result<(usize,
     ensures narrow { IfOk result (λ x. x.0 ≤ most_size) }
     ensures room { IfOk result (λ x. x.1 ≤ length section.now) }
 {
-    match code {
-        29 => Ok((29 + number_at(section, offset, 1, at)? as usize, offset + 1)),
-        30 => Ok((
-            285 + number_at(section, offset, 2, at)? as usize,
-            offset + 2,
-        )),
-        31 => Ok((
-            65_821 + number_at(section, offset, 3, at)? as usize,
-            offset + 3,
-        )),
-        size => Ok((size as usize, offset)),
+    if code < 29 {
+        return Ok((code as usize, offset));
+    }
+    let len = code as usize - 28;
+    let more = number_at(section, offset, len, at)? as usize;
+    Ok((least_by(len) + more, offset + len))
+}
+
+/// The least size that so many size bytes tell.
+fn least_by(len: usize) -> usize
+    ensures one { len ≡ 1 → result ≡ 29 }
+    ensures two { len ≡ 2 → result ≡ 285 }
+    ensures three { 2 < len → result ≡ 65821 }
+    ensures small { result ≤ 65821 }
+{
+    match len {
+        1 => 29,
+        2 => 285,
+        _ => 65_821,
     }
 }
 
@@ -147,7 +155,7 @@ pub(crate) fn is_pointer(control: u8) -> bool
     control / 32 == Kind::Pointer.code()
 }
 
-#[tactic(auto, unfolding(crate::specs::Reading::pointer_from))]
+/// Where a pointer leads, and the offset after it.
 pub(crate) fn pointer_at(
     section: &[u8],
     at: usize,
@@ -157,20 +165,24 @@ pub(crate) fn pointer_at(
     ensures gives { Gives (λ x. x) result (pointer_from section.now at control) }
     ensures room { IfOk result (λ x. x.1 ≤ length section.now) }
 {
-    let high = control as usize % 8;
-    match control % 32 / 8 {
-        0 => Ok((
-            high * 256 + number_at(section, at + 1, 1, at)? as usize,
-            at + 2,
-        )),
-        1 => Ok((
-            high * 65_536 + number_at(section, at + 1, 2, at)? as usize + 2_048,
-            at + 3,
-        )),
-        2 => Ok((
-            high * 16_777_216 + number_at(section, at + 1, 3, at)? as usize + 526_336,
-            at + 4,
-        )),
-        _ => Ok((number_at(section, at + 1, 4, at)? as usize, at + 5)),
+    let code = control as usize % 32 / 8;
+    let low = number_at(section, at + 1, code + 1, at)? as usize;
+    Ok((leads_to(code, control as usize % 8, low), at + code + 2))
+}
+
+/// Where a pointer leads, by its control byte and the number in its further bytes.
+fn leads_to(code: usize, high: usize, low: usize) -> usize
+    requires high { high < 8 }
+    requires low { low < 2 ^ 32 }
+    ensures one { code ≡ 0 → result ≡ high * 2 ^ 8 + low }
+    ensures two { code ≡ 1 → result ≡ high * 2 ^ 16 + low + 2048 }
+    ensures three { code ≡ 2 → result ≡ high * 2 ^ 24 + low + 526336 }
+    ensures four { 2 < code → result ≡ low }
+{
+    match code {
+        0 => high * 256 + low,
+        1 => high * 65_536 + low + 2_048,
+        2 => high * 16_777_216 + low + 526_336,
+        _ => low,
     }
 }

@@ -3,9 +3,10 @@ use Rattle.std.specs.List.{each_same}
 use Rattle.mmdb_data.specs.ValueTree.{IsNarrow}
 use Rattle.mmdb_data.specs.View.{value_tree, items_view, members_view}
 use Rattle.mmdb_data.specs.Section.{packed_of}
-use Rattle.mmdb_data.proofs.Views.{tree-Map, tree-List, len-members_view, len-items_view}
+use Rattle.mmdb_data.proofs.Views.{tree-Map, tree-List, leaf_tree, len-members_view}
+use Rattle.mmdb_data.proofs.Views.{len-items_view}
 use Rattle.mmdb_data.proofs.Appending.{map_packed, list_packed, known_full, still_unknown, new_full}
-use Rattle.mmdb_data.proofs.Appending.{kept_either}
+use Rattle.mmdb_data.proofs.Appending.{kept_either, leaf_packed, appended_kept}
 use Rattle.mmdb_data.proofs.packing.+packing.Goals as goal
 
 pub append_content-append_head-requires
@@ -75,3 +76,17 @@ append_full-returns-clause-kept t c =
     (packed_of c.append_content-2.new.section)
     (packed_of c.note.new.self) c.in_ok-spelled.spelled.items c.len-at.result
     c.in_ok-append_content.ensures.kept c.note.ensures.noted c.note.ensures.refused
+
+pub append_content-returns-in_default-clause-appended
+    : goal.append_content-returns-in_default-clause-appended
+append_content-returns-in_default-clause-appended t c =
+    leaf_packed c.append.result (value_tree c.args.value.now) (packed_of c.append.new.self)
+    (packed_of c.args.section.now) c.args.section.now.piece.items
+    (leaf_tree c.args.value.now c.in_default.not-Map c.in_default.not-List) c.requires.spelled
+    c.append.ensures.appended
+
+pub append_content-returns-in_default-clause-kept
+    : goal.append_content-returns-in_default-clause-kept
+append_content-returns-in_default-clause-kept t c =
+    appended_kept c.append.result (packed_of c.args.section.now) (packed_of c.append.new.self)
+    c.args.section.now.piece.items c.append.ensures.appended c.append.ensures.refused

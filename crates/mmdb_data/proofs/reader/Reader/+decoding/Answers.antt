@@ -1,4 +1,4 @@
-use Rattle.std.proofs.Common.{ℕ, ◌≤◌, ◌∙◌, true, false, List, length, subst}
+use Rattle.std.proofs.Common.{rules, ◌≡◌, ℕ, ◌≤◌, ◌∙◌, true, false, List, length, subst, refl}
 use Rattle.std.proofs.lemmas.Result.{err_from_is_err_and}
 use Rattle.mmdb_data.specs.ValueTree.{ValueTree}
 use Rattle.mmdb_data.specs.Reading.{Budget, members_from, items_from, value_from}
@@ -6,6 +6,8 @@ use Rattle.mmdb_data.specs.View.{value_tree, budget, items_view, members_view}
 use Rattle.mmdb_data.proofs.Loops.{members_view-push, items_view-push, members_go_on, key_ends}
 use Rattle.mmdb_data.proofs.Loops.{name_ends, value_ends, members_are_done, items_go_on, item_ends}
 use Rattle.mmdb_data.proofs.Loops.{items_are_done, still_gives, still_fails}
+use Rattle.mmdb_data.proofs.Views.{tree-List}
+use Rattle.mmdb_data.proofs.Parts.{step_fails, content_list}
 use Rattle.mmdb_data.proofs.reader.Reader.+decoding.Goals as goal
 
 pub items-returns-in_err-value-clause-gives : goal.items-returns-in_err-value-clause-gives
@@ -137,3 +139,36 @@ members-returns-clause-gives t c =
     members_are_done read (members_view l.pairs.items) c.args.count l.counter l.self.at
     (budget l.self.left) (members_from read c.args.count old.at (budget old.left)) c.loop-test.false
     l.invariant.so_far
+
+pub content-returns-in_ok-values-in-Some-List-clause-gives
+    : goal.content-returns-in_ok-values-in-Some-List-clause-gives
+content-returns-in_ok-values-in-Some-List-clause-gives t c =
+    let old = c.args.self.now in
+    let read = value_from old.section.now c.args.levels in
+    let head = c.args.head in
+    let is : head.kind ≡ 11 = search rules in
+    let value : c.args.is_key ≡ false = search rules in
+    rw (
+      content_list read old.section.now c.args.is_key old.at head.kind head.size head.offset
+          (budget old.left) is value,
+      c.in_ok-values-in-Some-List.ensures.gives,
+      tree-List c.in_ok-values-in-Some-List.values,
+    ) refl
+
+pub content-returns-in_err-values-in-Some-List-clause-gives
+    : goal.content-returns-in_err-values-in-Some-List-clause-gives
+content-returns-in_err-values-in-Some-List-clause-gives t c =
+    let old = c.args.self.now in
+    let read = value_from old.section.now c.args.levels in
+    let head = c.args.head in
+    let is : head.kind ≡ 11 = search rules in
+    let value : c.args.is_key ≡ false = search rules in
+    let p = err_from_is_err_and c.from_residual-in_err-values-in-Some-List.result
+    c.from_residual-in_err-values-in-Some-List.ensures.1 in
+    rw (
+      p.1,
+      p.2,
+      content_list read old.section.now c.args.is_key old.at head.kind head.size
+          head.offset (budget old.left) is value,
+    ) (step_fails c.in_err-values-in-Some-List.field-0.0 _ _
+    c.in_err-values-in-Some-List.ensures.gives)
