@@ -14,7 +14,8 @@ use Rattle.geo_terms.specs.SaidOf.{said_by, said_of}
 use Rattle.geo_terms.specs.declared.place.Said.TheVariants.{At}
 use Rattle.geo_terms.specs.PlaceForm.{IsPlace, PlaceParts, is_empty, is_country, is_region}
 use Rattle.geo_terms.specs.PlaceForm.{is_subdivision, upper, country_of_region, country_place}
-use Rattle.geo_terms.specs.PlaceForm.{nowhere, same_text, country_fits, region_fits, lengths_fit}
+use Rattle.geo_terms.specs.PlaceForm.{names_country, nowhere, same_text, country_fits}
+use Rattle.geo_terms.specs.PlaceForm.{region_fits, lengths_fit}
 use Rattle.geo_terms.specs.PlaceForm.{parts_of, says_nothing}
 
 alphabetic-upper : (b : ℕ) → is_ascii_alphabetic (to_ascii_uppercase b) ≡ is_ascii_alphabetic b
@@ -269,3 +270,35 @@ unfolding said_of
 place_says_itself p form =
     let says : said_by p ≡ At p = rw (not_told (says_nothing p) form.says) refl in
     rw (form.country, form.region, form.lengths) (ap Ok (ap said_by (parts_of_own p form) ∙ says))
+
+-- so a text that names a country
+pub named_is_text : (country : List ℕ) → IsTrue (names_country country) → IsUtf8 country
+named_is_text [] h = absurd (let e : false ≡ true = h in cc)
+named_is_text (a ∷ []) h = absurd (let e : false ≡ true = h in cc)
+named_is_text (a ∷ b ∷ []) h =
+    let both = and_left (is_ascii_alphabetic a && is_ascii_alphabetic b)
+    (not (same_text (upper (a ∷ b ∷ [])) nowhere)) h in
+    letters_are_text a b (and_left (is_ascii_alphabetic a) (is_ascii_alphabetic b) both)
+    (and_right (is_ascii_alphabetic a) (is_ascii_alphabetic b) both)
+named_is_text (a ∷ b ∷ c ∷ bs) h = absurd (let e : false ≡ true = h in cc)
+
+pub named_made : (country letters : List ℕ) (made : PlaceParts)
+    → IsTrue (names_country country) → letters ≡ country
+    → made ≡ record { country = upper letters; region = []; city = []; postal = [] }
+    → IsPlace made
+named_made [] letters made h are is = absurd (let e : false ≡ true = h in cc)
+named_made (a ∷ []) letters made h are is = absurd (let e : false ≡ true = h in cc)
+named_made (a ∷ b ∷ []) letters made h are is =
+    let alone = same_text (upper (a ∷ b ∷ [])) nowhere in
+    let both = and_left (is_ascii_alphabetic a && is_ascii_alphabetic b) (not alone) h in
+    letters_made a b letters made are is
+    (and_left (is_ascii_alphabetic a) (is_ascii_alphabetic b) both)
+    (and_right (is_ascii_alphabetic a) (is_ascii_alphabetic b) both)
+    (not_told alone (and_right (is_ascii_alphabetic a && is_ascii_alphabetic b) (not alone) h))
+named_made (a ∷ b ∷ c ∷ bs) letters made h are is = absurd (let e : false ≡ true = h in cc)
+
+pub letters_name : (country : List ℕ) (a b : ℕ) → country ≡ a ∷ b ∷ []
+    → is_ascii_alphabetic a ≡ true → is_ascii_alphabetic b ≡ true
+    → same_text (upper (a ∷ b ∷ [])) nowhere ≡ false → IsTrue (names_country country)
+letters_name country a b is first second somewhere =
+    subst (λ (t : List ℕ). IsTrue (names_country t)) (sym is) (rw (first, second, somewhere) refl)

@@ -225,6 +225,5 @@ pub fn note_text(alloc: Global, note: &Note) -> Result<Text, Memory>
     let line = note.line;
     let code = note.rule.code();
     let text = format!(in alloc; "{kind} {name} {line} {code}\n")?;
-    let text = Text::from_string(text)?;
-    Ok(text)
+    Text::from_string(text)
 }

@@ -2,7 +2,9 @@
 ghost use Rattle.std.specs.Prelude.{◌≡◌};
 ghost use Rattle.std.specs.Cmp.{IsTotalOrder};
 ghost use Rattle.std.specs.declared.cmp.Ordering.{Ordering};
+ghost use Rattle.std.specs.Ordering.{nat_cmp, ordering_then};
 ghost use Rattle.geo_addr.specs.Ranges.{Ends};
+ghost use Rattle.geo_terms.specs.Precedence.{text_cmp};
 
 use crate::statement::{Delegation, Entry, Override, Reference};
 use geo_addr::{Block, Range, range_of};
@@ -52,10 +54,19 @@ impl Statement for Reference {
         (self.range.size().cmp(&other.range.size()))
             .then(other.modified.cmp(&self.modified))
             .then(self.range.first.cmp(&other.range.first))
-            .then_with(|| self.url.cmp(&other.url))
-            .then_with(|| self.slot.cmp(&other.slot))
-            .then(self.line.cmp(&other.line))
+            .then_with(|| source_order(self, other))
     }
+}
+
+// The order of references by their texts, and by where they stand.
+fn source_order(reference: &Reference, other: &Reference) -> Ordering
+    ensures { result ≡ ordering_then (text_cmp reference.now.url other.now.url)
+        (ordering_then (text_cmp reference.now.slot other.now.slot)
+        (nat_cmp reference.now.line other.now.line)) }
+{
+    (reference.url.cmp(&other.url))
+        .then_with(|| reference.slot.cmp(&other.slot))
+        .then(reference.line.cmp(&other.line))
 }
 
 impl Statement for Delegation {

@@ -145,10 +145,10 @@ impl Place {
           postal = postal.now;
         }) }
     {
-        self.country().as_bytes() == country
-            && self.region().as_bytes() == region
-            && self.city().as_bytes() == city
-            && self.postal().as_bytes() == postal
+        says(self.country(), country)
+            && says(self.region(), region)
+            && says(self.city(), city)
+            && says(self.postal(), postal)
     }
 
     // Whether both have the same country and region; mostly one comparison of numbers tells.
@@ -195,6 +195,13 @@ impl Place {
             .cmp(other.country())
             .then_with(|| self.region().cmp(other.region()))
     }
+}
+
+// Whether these are the bytes of the text.
+fn says(text: &str, bytes: &[u8]) -> bool
+    ensures { result ≡ same_text text.now bytes.now }
+{
+    text.as_bytes() == bytes
 }
 
 // What four texts are mixed to.

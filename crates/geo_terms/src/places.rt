@@ -119,17 +119,10 @@ impl Places {
         ensures pushed { OnOk result (self.new ≡ self.old ++ place.now ∷ []) }
         ensures err { OnErr result (self.new ≡ self.old) }
     {
-        let count = self.list.len();
-        // A place in the map takes no slot, so those who crowd it do not have the table made anew.
-        let taken = count.saturating_sub(self.others.len());
-        if self.slots.len() < 2 * taken + 2 {
-            let (slots, others) = table_of(*self.list.allocator(), self.list.as_slice())?;
-            self.slots = slots;
-            self.others = others;
-        }
-        let copy = place.copied()?;
+        make_room(&mut self.slots, &mut self.others, &self.list)?;
         self.list.reserve(1)?;
-        let number = count as u32 + 1;
+        let copy = place.copied()?;
+        let number = self.list.len() as u32 + 1;
         note(&mut self.slots, &mut self.others, number, place)?;
         self.list.push_reserved(copy);
         Ok(number)
@@ -187,20 +180,51 @@ fn told(list: &[Place], slots: &[u32], slot: usize, place: &Place) -> Option<Opt
     None
 }
 
-// Slots and others that lead to all places of the list, with room for three times as many more.
-fn table_of(alloc: Global, list: &[Place]) -> Result<(Vec<u32>, BTreeMap<Place, u32>), Memory>
+// Makes the table of the list anew where one more place would fill more than half of its slots,
+// with room for three times as many more.
+fn make_room(
+    slots: &mut Vec<u32>,
+    others: &mut BTreeMap<Place, u32>,
+    list: &Vec<Place>,
+) -> Result<(), Memory>
+    requires few { length list.now.items < 2 ^ 32 }
+    requires distinct { IsDistinct same_place list.now.items }
+    requires table { IsTable list.now.items slots.old.items others.old }
+    ensures table { IsTable list.now.items slots.new.items others.new }
+    ensures some { OnOk result (1 < length slots.new.items) }
+{
+    // A place in the map takes no slot, so those who crowd it do not have the table made anew.
+    let taken = list.len().saturating_sub(others.len());
+    if slots.len() >= 2 * taken + 2 {
+        return Ok(());
+    }
+    let alloc = *list.allocator();
+    let mut made = Vec::new(alloc);
+    made.resize(8 * list.len() + FIRST_SLOTS, 0)?;
+    let mut beside = BTreeMap::new(alloc);
+    note_all(&mut made, &mut beside, list.as_slice())?;
+    *slots = made;
+    *others = beside;
+    Ok(())
+}
+
+// Notes all places of a list in an empty table.
+fn note_all(
+    slots: &mut Vec<u32>,
+    others: &mut BTreeMap<Place, u32>,
+    list: &[Place],
+) -> Result<(), Memory>
     requires few { length list.now < 2 ^ 32 }
     requires distinct { IsDistinct same_place list.now }
-    ensures table { IfOk result (λ made. IsTable list.now made.0.items made.1) }
-    ensures some { IfOk result (λ made. 1 < length made.0.items) }
+    requires some { 1 < length slots.old.items }
+    requires table { IsTable [] slots.old.items others.old }
+    ensures table { OnOk result (IsTable list.now slots.new.items others.new) }
+    ensures some { 1 < length slots.new.items }
 {
-    let mut slots = Vec::new(alloc);
-    let mut others = BTreeMap::new(alloc);
-    slots.resize(8 * list.len() + FIRST_SLOTS, 0)?;
     for at in 0..list.len() {
-        note(&mut slots, &mut others, at as u32 + 1, &list[at])?;
+        note(slots, others, at as u32 + 1, &list[at])?;
     }
-    Ok((slots, others))
+    Ok(())
 }
 
 // Notes the number of a new place in the first free one of its slots, or else among the others.

@@ -1,12 +1,12 @@
 //! What four fields of a line say.
 ghost use Rattle.std.specs.Prelude.{◌≡◌, ◌<◌, ◌≤◌, ◌↔◌, length, IfOk, IfErr, IfSome, Ok, OnOk};
-ghost use Rattle.std.specs.Prelude.{IsOkUnless, IsTrue, [], ◌∷◌, if◌then◌else◌};
+ghost use Rattle.std.specs.Prelude.{IsNone, IsOkUnless, IsTrue, false, [], ◌∷◌, if◌then◌else◌};
 ghost use Rattle.std.specs.List.{list_all};
 ghost use Rattle.std.specs.Char.{is_ascii_alphanumeric};
 ghost use Rattle.geo_terms.specs.PlaceForm.{country_fits, country_of_region, is_country, is_empty};
-ghost use Rattle.geo_terms.specs.PlaceForm.{is_region, lengths_fit};
-ghost use Rattle.geo_terms.specs.PlaceForm.{nowhere, parts_of, place_of_country, region_fits};
-ghost use Rattle.geo_terms.specs.PlaceForm.{same_text, says_nothing, upper};
+ghost use Rattle.geo_terms.specs.PlaceForm.{country_place, is_region, lengths_fit, names_country};
+ghost use Rattle.geo_terms.specs.PlaceForm.{IsPlace, nowhere, parts_of, place_of_country};
+ghost use Rattle.geo_terms.specs.PlaceForm.{region_fits, same_text, says_nothing, upper};
 ghost use Rattle.geo_terms.specs.SaidOf.{said_of, said_by};
 ghost use Rattle.geo_terms.specs.declared.place.Said.TheVariants.{At};
 
@@ -95,28 +95,48 @@ fn said_before<'a>(
 /// The place that a country code alone names, or `None` where it is not two letters, or is `ZZ`.
 ///
 /// The code is read in either case and kept in upper case.
-#[tactic(auto, unfolding(crate::specs::PlaceForm::place_of_country))]
 pub fn country_place(texts: &mut Texts, country: &[u8]) -> Result<Option<Place>, Memory>
     ensures { IfOk result (λ place. place ≡ place_of_country country.now) }
 {
-    let [first, second] = country else {
+    let Some(pair) = upper_pair(country) else {
         return Ok(None);
     };
+    Ok(Some(place_of_pair(texts, country, &pair)?))
+}
+
+// The two letters of a country code in upper case, where it names a country.
+fn upper_pair(country: &[u8]) -> Option<[u8; 2]>
+    ensures pair { IfSome result (λ pair. pair ≡ upper country.now) }
+    ensures named { IfSome result (λ pair. IsTrue (names_country country.now)) }
+    ensures none { IsNone result → names_country country.now ≡ false }
+{
+    let [first, second] = country else {
+        return None;
+    };
     if !first.is_ascii_alphabetic() || !second.is_ascii_alphabetic() {
-        return Ok(None);
+        return None;
     }
     let pair = [first.to_ascii_uppercase(), second.to_ascii_uppercase()];
     if is_nowhere(&pair) {
-        return Ok(None);
+        return None;
     }
-    let mark = mark_of_four(&pair, b"", b"", b"");
-    if let Some(place) = texts.known_place(mark, &pair, b"", b"", b"") {
-        return Ok(Some(place.copied()?));
+    Some(pair)
+}
+
+// The place of a country code that names a country, of which this is the pair in upper case.
+fn place_of_pair(texts: &mut Texts, country: &[u8], pair: &[u8]) -> Result<Place, Memory>
+    requires named { IsTrue (names_country country.now) }
+    requires pair { pair.now ≡ upper country.now }
+    ensures { IfOk result (λ place. place ≡ country_place country.now) }
+{
+    let mark = mark_of_four(pair, b"", b"", b"");
+    if let Some(place) = texts.known_place(mark, pair, b"", b"", b"") {
+        return place.copied();
     }
     // Two ASCII letters are a text.
     let country = unsafe { str::from_utf8_unchecked(country) };
     let made = JoinedTexts::of(texts.alloc, country, "", "", "")?;
-    Ok(Some(texts.new_place(mark, made)?))
+    texts.new_place(mark, made)
 }
 
 // What fields that are in form and have this mark say, where it did not come before.
@@ -139,12 +159,30 @@ fn said_in_form(
     if says_nothing(&made) {
         return Ok(Said::Nothing);
     }
-    let place = if made.country() == country && made.region() == region {
-        texts.new_place(mark, made)?
+    Ok(Said::At(place_by(texts, mark, country, region, made)?))
+}
+
+// The place of these texts; where country and region are in upper case, the mark is theirs too.
+fn place_by(
+    texts: &mut Texts,
+    mark: u64,
+    country: &str,
+    region: &str,
+    made: JoinedTexts,
+) -> Result<Place, Memory>
+    requires { IsPlace made }
+    ensures { IfOk result (λ place. place ≡ made) }
+{
+    if begins_with(&made, country, region) {
+        texts.new_place(mark, made)
     } else {
-        texts.place(made)?
-    };
-    Ok(Said::At(place))
+        texts.place(made)
+    }
+}
+
+// Whether these are the country and the region of the texts.
+fn begins_with(texts: &JoinedTexts, country: &str, region: &str) -> bool {
+    texts.country() == country && texts.region() == region
 }
 
 // The texts that four fields in form name.

@@ -72,16 +72,21 @@ impl<T: Ord + Drop> Slots<T> {
 
     // A group becomes two, so each value finds a slot again.
     fn grow(&mut self, alloc: Global, count: u64) -> Result<(), Memory> {
+        let slots = Self::free_slots(alloc, count)?;
+        for slot in mem::replace(&mut self.slots, slots) {
+            if let Some((mark, value)) = slot {
+                drop(self.put_in(mark, value));
+            }
+        }
+        Ok(())
+    }
+
+    fn free_slots(alloc: Global, count: u64) -> Result<Vec<Option<(u64, T)>>, Memory> {
         let mut slots = Vec::with_capacity(alloc, count as usize)?;
         for _ in 0..count {
             slots.push(None)?;
         }
-        for slot in mem::replace(&mut self.slots, slots) {
-            if let Some((mark, value)) = slot {
-                let _none = self.put_in(mark, value);
-            }
-        }
-        Ok(())
+        Ok(slots)
     }
 
     // Puts a value into the slot of its mark, and what was there into the one beside it, and so on

@@ -35,13 +35,30 @@ impl Texts {
         ensures { IfOk result (λ given. given ≡ text.now) }
     {
         let mark = mark_of(text.as_bytes());
+        if let Some(found) = self.known_text(mark, text) {
+            return found.copied();
+        }
+        self.new_text(mark, text)
+    }
+
+    // The text that says so, where it came before by this mark.
+    fn known_text(&self, mark: u64, text: &str) -> Option<&Text>
+        ensures { IfSome result (λ found. found.now ≡ text.now) }
+    {
         for beside in 0..TOGETHER {
             if let Some(found) = self.texts.held(mark, beside) {
                 if found.as_str() == text {
-                    return found.copied();
+                    return Some(found);
                 }
             }
         }
+        None
+    }
+
+    // A text that no slot has by this mark, which from now on came before.
+    fn new_text(&mut self, mark: u64, text: &str) -> Result<Text, Memory>
+        ensures { IfOk result (λ given. given ≡ text.now) }
+    {
         let text = Text::of(self.alloc, text)?;
         if let Some(found) = self.texts.other(mark, &text) {
             if *found == text {

@@ -1,7 +1,7 @@
 -- The table leads to one place more after each step.
 use Rattle.std.proofs.Common.{arith}
 use Rattle.geo_terms.proofs.TableLemmas.{table_next}
-use Rattle.geo_terms.proofs.places.table_of.Goals as goal
+use Rattle.geo_terms.proofs.places.note_all.Goals as goal
 
 pub loop-at-preserved : goal.loop-at-preserved
 loop-at-preserved c = record {

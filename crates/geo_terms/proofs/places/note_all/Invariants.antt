@@ -1,6 +1,6 @@
 use Rattle.std.proofs.Common.{◌<◌, length, take}
 use Rattle.geo_terms.specs.PlaceTable.{IsTable}
-use Rattle.geo_terms.proofs.places.table_of.Given as goal
+use Rattle.geo_terms.proofs.places.note_all.Given as goal
 
 abbrev pub invariant-loop-at : goal.invariant-loop-at
 invariant-loop-at l = record {
