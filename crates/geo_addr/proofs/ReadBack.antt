@@ -2,7 +2,7 @@
 use Rattle.std.proofs.Common.{◌≡◌, ◌≢◌, ℕ, zero, suc, ◌+◌, ◌-◌, ◌*◌, ◌%◌, ◌^◌, ◌<◌, ◌≤◌, ◌==◌, Bool}
 use Rattle.std.proofs.Common.{true, false, ◌&&◌, not, nat_lt, nat_le, cond, List, [], ◌∷◌, ◌++◌}
 use Rattle.std.proofs.Common.{length, get_or, decimal, Some, Ok, All, refl, sym, ap, ◌∙◌, arith}
-use Rattle.std.proofs.Common.{lit<, inl, inr, append_assoc, take_all}
+use Rattle.std.proofs.Common.{lit<, inl, inr, append_assoc, take_all, subst, Err, IfOk, Result}
 use Rattle.std.specs.Int.Digits.{AllBelowBase}
 use Rattle.std.specs.List.{suffix_len}
 use Rattle.std.proofs.lemmas.Bool.{cases_lt, cases_Bool, lt-ltb, le-ltb, lt-leb, le-leb, ne_eqb}
@@ -248,3 +248,9 @@ pub range_text-from : (range : Ends) (v4 : Bool) (first last : ℕ)
 range_text-from range v4 first last own begins ends =
     rw (own, begins, ends) (sym (append_assoc (number_text (not (is_v4 range)) range.first)
     (45 ∷ []) (number_text (not (is_v4 range)) range.last)))
+
+-- what is said of the bytes of a string is said of the text that is made of it
+pub made_of : {E : Type 0} (made : Result (List ℕ) E) (bytes : List ℕ) (P : List ℕ → Type 0)
+    → IfOk made (λ t. t ≡ bytes) → P bytes → IfOk made P
+made_of (Ok t) bytes P is p = subst P (sym is) p
+made_of (Err e) bytes P is p = tt

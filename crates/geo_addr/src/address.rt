@@ -12,7 +12,7 @@ use crate::v6::read_v6;
 pub fn is_six(text: &[u8]) -> bool
     ensures { result ≡ is_six text.now }
 {
-    text.iter().any(|b| *b == b':')
+    text.contains(&b':')
 }
 
 /// Whether a text is read as IPv6, and the number of the address that it spells.

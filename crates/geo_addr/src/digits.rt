@@ -1,5 +1,5 @@
 //! Texts of decimal digits, read.
-ghost use Rattle.std.specs.Prelude.{◌≡◌, ◌<◌, ◌≤◌, IsTrue, false, true, length};
+ghost use Rattle.std.specs.Prelude.{◌≡◌, ◌<◌, ◌≤◌, IsTrue, false, true, length, [], ◌∷◌};
 ghost use Rattle.std.specs.Prelude.{IfSome, MatchOption};
 ghost use Rattle.std.specs.Char.{digit_value, is_ascii_digit};
 ghost use Rattle.std.specs.List.{list_all};
@@ -27,12 +27,26 @@ pub(crate) fn short_decimal(text: &[u8]) -> Option<u32>
 {
     match text {
         [ones] => digit(*ones),
-        [tens, ones] => Some(digit(*tens)? * 10 + digit(*ones)?),
-        [hundreds, tens, ones] => {
-            Some((digit(*hundreds)? * 10 + digit(*tens)?) * 10 + digit(*ones)?)
-        }
+        [tens, ones] => two_digits(*tens, *ones),
+        [hundreds, tens, ones] => three_digits(*hundreds, *tens, *ones),
         _ => None,
     }
+}
+
+/// The number that three digits write.
+fn three_digits(hundreds: u8, tens: u8, ones: u8) -> Option<u32>
+    ensures value { result ≡ decimal 3 3 (hundreds ∷ tens ∷ ones ∷ []) }
+    ensures small { IfSome result (λ value. value < 1000) }
+{
+    Some(digit(hundreds)? * 100 + two_digits(tens, ones)?)
+}
+
+/// The number that two digits write.
+fn two_digits(tens: u8, ones: u8) -> Option<u32>
+    ensures value { result ≡ decimal 2 2 (tens ∷ ones ∷ []) }
+    ensures small { IfSome result (λ value. value < 100) }
+{
+    Some(digit(tens)? * 10 + digit(ones)?)
 }
 
 /// The number that a digit writes.

@@ -46,8 +46,7 @@ pub fn addr_text(alloc: Global, at: Addr) -> Result<Text, Memory>
         six: at.0 >= 1 << 32,
         number: at.0,
     };
-    let text = Text::from_string(format!(in alloc; "{shown}")?)?;
-    Ok(text)
+    Text::from_string(format!(in alloc; "{shown}")?)
 }
 
 /// The text of a block: `FIRST/LENGTH`, in the form and in the bits of its family.
@@ -60,8 +59,7 @@ pub fn block_text(alloc: Global, block: Block) -> Result<Text, Memory>
         number: block.first,
     };
     let length = printed_length(block);
-    let text = Text::from_string(format!(in alloc; "{first}/{length}")?)?;
-    Ok(text)
+    Text::from_string(format!(in alloc; "{first}/{length}")?)
 }
 
 /// The length of a block in bits of its family.
@@ -90,8 +88,7 @@ pub fn range_text(alloc: Global, range: Range) -> Result<Text, Memory>
         six,
         number: range.last,
     };
-    let text = Text::from_string(format!(in alloc; "{first}-{last}")?)?;
-    Ok(text)
+    Text::from_string(format!(in alloc; "{first}-{last}")?)
 }
 
 /// The IPv4 address with this number, of which the lowest 32 bits count.
