@@ -2,10 +2,13 @@
 -- is painted by its halves.
 use Rattle.std.proofs.Common.{◌≡◌, inl, inr, IfOk, Result, Ok, Err, ℕ, zero, suc, ◌+◌, ◌-◌, ◌/◌}
 use Rattle.std.proofs.Common.{◌^◌, ◌<◌, ◌≤◌, nat_eq, Bool, true, false, List, ◌∷◌, drop}
-use Rattle.std.proofs.Common.{refl, sym, ap, subst, arith}
+use Rattle.std.proofs.Common.{◌≢◌, ◌∙◌, length, OnErr, IsErrOf, refl, sym, ap, subst, arith}
 use Rattle.std.proofs.lemmas.Bool.{cases_lt}
+use Rattle.std.proofs.lemmas.Result.{IfErr-at_err}
 use Rattle.std.proofs.Math.Nat.{two-pow-succ}
 use Rattle.geo_addr.proofs.BitsLemmas.{pow-positive}
+use Rattle.trie_core.specs.declared.fault.StoreFault.{StoreFault}
+use Rattle.trie_core.specs.declared.fault.StoreFault.TheVariants.{Full, Memory}
 use Rattle.trie_core.specs.declared.node.Rec.{Rec}
 use Rattle.trie_core.specs.declared.node.Pair.{Pair}
 use Rattle.trie_core.specs.declared.paint.Part.{Part}
@@ -173,3 +176,20 @@ pub IfOk-both : {T E : Type 0} (r : Result T E) (P Q : T → Type 0) → IfOk r 
     → IfOk r (λ x. P x × Q x)
 IfOk-both (Ok x) P Q p q = (p, q)
 IfOk-both (Err e) P Q p q = p
+
+-- where memory was short for a node, a number was left for it
+pub room_at_refusal : (old new : List Pair) (left right : Rec) (r : Result Rec StoreFault)
+    → IsSound old → OnErr r (new ≡ old) → OnErr r (NeedsNew old left right)
+    → ((length old + 1 ≡ 2 ^ 32) × NeedsNew old left right → IsErrOf r Full)
+    → r ≡ Err Memory → length new + 1 < 2 ^ 32
+room_at_refusal old new left right r sound same needed full is =
+    let stays : new ≡ old = IfErr-at_err _ is same in
+    let needs : NeedsNew old left right = IfErr-at_err _ is needed in
+    let other : length old + 1 ≢ 2 ^ 32 = λ all.
+    let both : Err Memory ≡ Err Full = sym is ∙ full (all, needs) in
+    absurd (cc) in
+    omega (arith, sound.few, other, ap length stays)
+
+-- a result is a value or a fault
+pub ok_not_err : {T E : Type 0} (x : T) (y : E) → Ok x ≡ Err y → ⊥
+ok_not_err x y e = cc

@@ -1,7 +1,7 @@
 -- Lemmas on how the pairs of a store are found: at their later children, in their windows, or in
 -- the map.
 use Rattle.std.proofs.Common.{◌≡◌, ◌≢◌, ◌⊎◌, inl, inr, ℕ, zero, suc, ◌+◌, ◌^◌, ◌<◌}
-use Rattle.std.proofs.Common.{List, [], ◌∷◌, ◌++◌, length, set, take, get_or}
+use Rattle.std.proofs.Common.{◌≤◌, List, [], ◌∷◌, ◌++◌, length, set, take, get_or, None}
 use Rattle.std.proofs.Common.{replicate, slice_get, Some, Contains, refl, sym, ◌∙◌, ap}
 use Rattle.std.proofs.Common.{subst, arith, length-append}
 use Rattle.std.specs.BTreeMap.{BTreeMap}
@@ -13,6 +13,25 @@ use Rattle.trie_core.proofs.StoreLemmas.{slice_get-Contains, Contains-slice_get}
 use Rattle.trie_core.proofs.WindowLemmas.{set_here, set_other, zero_or_suc, Stands-kept}
 use Rattle.trie_core.proofs.WindowLemmas.{Keeps-set}
 use Rattle.std.proofs.lemmas.List.{length-set}
+
+-- ---- there is nothing to find
+
+none_read : (k : ℕ) (p : Pair) → slice_get [] k ≡ Some p → ⊥
+none_read k p at = cc
+
+none_held : (n : ℕ) → None ≡ Some n → ⊥
+none_held n e = cc
+
+pub AreFound-none : (firsts slots : List ℕ) (crowded : BTreeMap Pair ℕ) → 8 ≤ length slots
+    → crowded.entries ≡ [] → AreFound [] firsts slots crowded
+AreFound-none firsts slots crowded wide none = record {
+  few = omega arith;
+  once = λ i j p at-i at-j. absurd (none_read i p at-i);
+  wide = λ some. wide;
+  only = λ some n p is. absurd (none_held n (rw none at is));
+  each = λ some n p at. absurd (none_read n p at);
+  noted = λ n p at. absurd (none_read n p at);
+}
 
 -- ---- a number comes to a slot
 

@@ -4,6 +4,27 @@ use Rattle.std.proofs.Common.{length, get_or, set, slice_get, Option, Some, refl
 use Rattle.std.proofs.Common.{◌∙◌, ap, subst, arith}
 use Rattle.std.proofs.lemmas.Option.{slice_get-get_or}
 use Rattle.trie_core.specs.Pairs.{Stands, Keeps}
+use Rattle.trie_core.specs.declared.others.Told.TheVariants.{Held, Missing, Unknown}
+
+-- ---- what a slot tells is one of three things
+
+pub missing_not_held : (k : ℕ) → Missing ≡ Held k → ⊥
+missing_not_held k e = cc
+
+pub missing_not_unknown : Missing ≡ Unknown → ⊥
+missing_not_unknown e = cc
+
+pub unknown_not_held : (k : ℕ) → Unknown ≡ Held k → ⊥
+unknown_not_held k e = cc
+
+pub unknown_not_missing : Unknown ≡ Missing → ⊥
+unknown_not_missing e = cc
+
+pub held_not_missing : (k : ℕ) → Held k ≡ Missing → ⊥
+held_not_missing k e = cc
+
+pub held_not_unknown : (k : ℕ) → Held k ≡ Unknown → ⊥
+held_not_unknown k e = cc
 
 -- ---- lists
 

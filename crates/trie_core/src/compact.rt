@@ -40,17 +40,27 @@ impl Store {
         ensures sound { IfOk result (λ made. IsSound made.0) }
     {
         let _ = &self.pairs;
-        let alloc = self.alloc;
-        let mut taken = Taken::new(alloc);
-        let mut made = Vec::with_capacity(alloc, roots.len())?;
-        for root in roots {
-            self.take_root(*root, &mut taken, &mut made)?;
-        }
-        let store = Store {
-            alloc,
-            pairs: taken.pairs,
+        let mut taken = Taken::new(self.alloc);
+        let Ok(made) = self.take_roots(roots, &mut taken) else {
+            drop(taken);
+            return Err(Memory);
         };
-        Ok((store, made))
+        Ok((taken.into_store(self.alloc), made))
+    }
+
+    // The roots that mean what these mean, in a new store into which their nodes go.
+    fn take_roots(&self, roots: &[Root], taken: &mut Taken) -> Result<Vec<Root>, Memory>
+        requires of { AreRootsOf self.now roots.now }
+        requires nodes { taken.old.nodes.keys ≡ [] }
+        requires pairs { taken.old.pairs ≡ [] }
+        ensures { IfOk result (λ made. AreRootsTaken self.now taken.new.nodes.keys
+            taken.new.pairs roots.now made.items) }
+    {
+        let mut made = Vec::with_capacity(self.alloc, roots.len())?;
+        for root in roots {
+            self.take_root(*root, taken, &mut made)?;
+        }
+        Ok(made)
     }
 
     fn take_root(&self, root: Root, taken: &mut Taken, made: &mut Vec<Root>) -> Result<(), Memory>
@@ -102,6 +112,17 @@ impl Taken {
         Taken {
             nodes: IndexSet::with_hasher(alloc, Near::new()),
             pairs: Pairs::new(alloc),
+        }
+    }
+
+    // The new store.
+    fn into_store(self, alloc: Global) -> Store
+        requires { IsSound self.pairs }
+        ensures { result ≡ self.pairs }
+    {
+        Store {
+            alloc,
+            pairs: self.pairs,
         }
     }
 

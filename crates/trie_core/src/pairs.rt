@@ -2,7 +2,7 @@
 ghost use Rattle.std.specs.Prelude.{◌≡◌, ◌+◌, ◌-◌, ◌^◌, ◌<◌, ◌++◌, ◌∷◌, [], ◌↔◌};
 ghost use Rattle.std.specs.Prelude.{length, replicate, slice_get, Some, Contains, MatchOption};
 ghost use Rattle.std.specs.Prelude.{IfOk, OnOk, OnErr, IsErrOf};
-ghost use Rattle.trie_core.specs.Pairs.{number_or_zero, later};
+ghost use Rattle.trie_core.specs.Pairs.{number_or_zero, later, AreFound};
 ghost use Rattle.trie_core.specs.Store.{IsAdded};
 
 use crate::fault::StoreFault;
@@ -117,17 +117,38 @@ impl Pairs {
     {
         let number = self.pairs.len() as u32;
         self.pairs.reserve(1)?;
-        let at = later(pair);
-        make_room(&mut self.firsts, at)?;
-        if self.firsts[at] == 0 {
-            self.firsts[at] = number + 1;
-        } else {
-            let (pairs, firsts) = (self.pairs.as_slice(), self.firsts.as_slice());
-            self.others.put(pairs, firsts, pair, number)?;
-        }
+        let pairs = self.pairs.as_slice();
+        note_number(&mut self.firsts, &mut self.others, pairs, pair, number)?;
         self.pairs.push_reserved(pair);
         Ok(number)
     }
+}
+
+// Puts the number of a new pair at the slot of its later child, or among the others.
+fn note_number(
+    firsts: &mut Vec<u32>,
+    others: &mut Others,
+    pairs: &[Pair],
+    pair: Pair,
+    number: u32,
+) -> Result<(), Memory>
+    requires number { number ≡ length pairs.now }
+    requires few { number + 1 < 2 ^ 32 }
+    requires found { AreFound pairs.now firsts.old.items others.old.slots.items
+        others.old.crowded }
+    requires new { Contains pairs.now pair → ⊥ }
+    ensures noted { OnOk result (AreFound (pairs.now ++ pair ∷ []) firsts.new.items
+        others.new.slots.items others.new.crowded) }
+    ensures err { OnErr result (AreFound pairs.now firsts.new.items others.new.slots.items
+        others.new.crowded) }
+{
+    let at = later(pair);
+    make_room(firsts, at)?;
+    if firsts[at] == 0 {
+        firsts[at] = number + 1;
+        return Ok(());
+    }
+    others.put(pairs, firsts.as_slice(), pair, number)
 }
 
 // Puts zeros behind the list until it has this index.

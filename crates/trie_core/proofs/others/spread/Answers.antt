@@ -1,5 +1,8 @@
-use Rattle.std.proofs.Common.{arith}
-use Rattle.trie_core.proofs.FoundLemmas.{read_first, read_other}
+use Rattle.std.proofs.Common.{List, subst, arith}
+use Rattle.std.proofs.lemmas.List.{take_all}
+use Rattle.trie_core.specs.declared.node.Pair.{Pair}
+use Rattle.trie_core.specs.Pairs.{AreFound}
+use Rattle.trie_core.proofs.FoundLemmas.{AreFound-none, read_first, read_other}
 use Rattle.trie_core.proofs.others.spread.Goals.{then-firsts-later+in_ok-note, else-firsts-later}
 use Rattle.trie_core.proofs.others.spread.Goals as goal
 
@@ -25,3 +28,19 @@ loop-number-preserved c = elim c.if-firsts-later.branch [
         wide = c.loop-number.invariant.wide;
       })
 ]
+
+pub loop-number-init : goal.loop-number-init
+loop-number-init c = record {
+  found = AreFound-none c.args.firsts.now c.args.slots.now.items c.args.crowded.now c.requires.wide
+      c.requires.none;
+  wide = c.requires.wide;
+}
+
+pub returns : goal.returns
+returns c = (
+  subst (λ (ps : List Pair). AreFound ps c.args.firsts.now c.loop-number.slots.items
+      c.loop-number.crowded)
+      (take_all c.loop-number.number c.args.pairs.now c.loop-number-test.false)
+      c.loop-number.invariant.found,
+  c.loop-number.invariant.wide,
+)

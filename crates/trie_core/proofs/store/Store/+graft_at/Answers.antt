@@ -3,14 +3,15 @@ use Rattle.std.proofs.Common.{◌≡◌, ◌+◌, ◌-◌, ◌∙◌, refl, sym,
 use Rattle.std.proofs.Common.{nat_eq}
 use Rattle.std.proofs.lemmas.Result.{IfOk-weaker, IfErr-at_err, err_from_is_err_and}
 use Rattle.geo_addr.specs.Bits.{bits_of}
-use Rattle.trie_core.specs.declared.fault.StoreFault.TheVariants.{Full}
+use Rattle.trie_core.specs.declared.fault.StoreFault.TheVariants.{Full, Memory}
 use Rattle.trie_core.specs.Tree.{height}
 use Rattle.trie_core.specs.Store.{meaning, AddedUnder}
 use Rattle.trie_core.specs.Graft.{graft, HoldsTree}
 use Rattle.trie_core.proofs.TreeLemmas.{height-join, nat_equality}
-use Rattle.trie_core.proofs.StoreLemmas.{AddedUnder-same, IsKept-same}
+use Rattle.trie_core.proofs.StoreLemmas.{AddedUnder-same, IsKept-same, IsKept-trans}
+use Rattle.trie_core.proofs.StoreLemmas.{GrowsBy-same, GrowsBy-trans}
 use Rattle.trie_core.proofs.PaintLemmas.{AddedUnder-join}
-use Rattle.trie_core.proofs.BlockLemmas.{IfOk-both}
+use Rattle.trie_core.proofs.BlockLemmas.{IfOk-both, room_at_refusal}
 use Rattle.trie_core.proofs.GraftLemmas.{graft-zero, graft-one}
 use Rattle.trie_core.proofs.HeldLemmas.{HoldsTree-left, HoldsTree-right, join_missing}
 use Rattle.trie_core.proofs.store.Store.+graft_at.Goals as goal
@@ -171,3 +172,115 @@ returns-in_ok-right-clause-full g t c = λ e.
           (take (c.args.bits - c.args.below) (bits_of c.args.bits c.args.at))
           (meaning c.args.self.now c.args.subtree))) same held)),
     )
+
+-- ---- the clauses that need no graft
+
+pub returns-then-bits-below-clause-grows : goal.returns-then-bits-below-clause-grows
+returns-then-bits-below-clause-grows g t c = GrowsBy-same c.args.self.now _
+
+pub returns-then-bits-below-clause-kept : goal.returns-then-bits-below-clause-kept
+returns-then-bits-below-clause-kept g t c = IsKept-same c.args.self.now
+
+pub returns-then-bits-below-clause-under : goal.returns-then-bits-below-clause-under
+returns-then-bits-below-clause-under g t c = AddedUnder-same c.args.self.now c.args.subtree
+
+pub returns-in_err-left-clause-memory : goal.returns-in_err-left-clause-memory
+returns-in_err-left-clause-memory g t c =
+    let p = err_from_is_err_and c.from_residual.result c.from_residual.ensures.1 in
+    λ e.
+    let fault : c.in_err-left.field-0.0 ≡ Memory = cc (p.1, p.2, e) in
+    c.in_err-left.ensures.memory (ap Err fault)
+
+pub mk-requires-clause-right_of : goal.mk-requires-clause-right_of
+mk-requires-clause-right_of g t c =
+    (c.in_ok-left.ensures.kept c.halves-left.result.1 c.halves-left.ensures.right_of).0
+
+pub mk-requires-clause-left_low : goal.mk-requires-clause-left_low
+mk-requires-clause-left_low g t c =
+    omega (
+      arith,
+      c.in_ok-left.ensures.low,
+      c.requires.bits,
+      c.requires.below,
+      c.if-bits-below.false,
+    )
+
+pub mk-requires-clause-right_low : goal.mk-requires-clause-right_low
+mk-requires-clause-right_low g t c = omega (
+  arith,
+  ap height (c.in_ok-left.ensures.kept c.halves-left.result.1 c.halves-left.ensures.right_of).1,
+  c.halves-left.ensures.right_low,
+  c.requires.low,
+  c.requires.bits,
+)
+
+pub returns-in_ok-left-clause-ticks : goal.returns-in_ok-left-clause-ticks
+returns-in_ok-left-clause-ticks g t c =
+    omega (arith, c.in_ok-left.ensures.ticks, c.mk.ensures.steps)
+
+pub returns-in_ok-left-clause-grows : goal.returns-in_ok-left-clause-grows
+returns-in_ok-left-clause-grows g t c =
+    GrowsBy-trans _ _ _ _ _ _ c.in_ok-left.ensures.grows c.mk.ensures.grows
+    (omega (arith, c.in_ok-left.ensures.ticks, c.mk.ensures.steps))
+
+pub returns-in_ok-left-clause-kept : goal.returns-in_ok-left-clause-kept
+returns-in_ok-left-clause-kept g t c =
+    IsKept-trans c.args.self.now c.graft_at.new.self c.mk.new.self
+    c.in_ok-left.ensures.kept c.mk.ensures.kept
+
+pub returns-in_ok-left-clause-memory : goal.returns-in_ok-left-clause-memory
+returns-in_ok-left-clause-memory g t c =
+    room_at_refusal c.graft_at.new.self c.mk.new.self _ _ c.mk.result
+    c.in_ok-left.ensures.sound c.mk.ensures.err c.mk.ensures.refused c.mk.ensures.full.1
+
+pub returns-in_err-right-clause-memory : goal.returns-in_err-right-clause-memory
+returns-in_err-right-clause-memory g t c =
+    let p = err_from_is_err_and c.from_residual-in_err-right.result
+    c.from_residual-in_err-right.ensures.1 in
+    λ e.
+    let fault : c.in_err-right.field-0.0 ≡ Memory = cc (p.1, p.2, e) in
+    c.in_err-right.ensures.memory (ap Err fault)
+
+pub mk-requires-else-at-bits-eq0-clause-left_of : goal.mk-requires-else-at-bits-eq0-clause-left_of
+mk-requires-else-at-bits-eq0-clause-left_of g t c =
+    (c.in_ok-right.ensures.kept c.halves-left.result.0 c.halves-left.ensures.left_of).0
+
+pub mk-requires-else-at-bits-eq0-clause-right_low
+    : goal.mk-requires-else-at-bits-eq0-clause-right_low
+mk-requires-else-at-bits-eq0-clause-right_low g t c =
+    omega (
+      arith,
+      c.in_ok-right.ensures.low,
+      c.requires.bits,
+      c.requires.below,
+      c.if-bits-below.false,
+    )
+
+pub mk-requires-else-at-bits-eq0-clause-left_low : goal.mk-requires-else-at-bits-eq0-clause-left_low
+mk-requires-else-at-bits-eq0-clause-left_low g t c = omega (
+  arith,
+  ap height (c.in_ok-right.ensures.kept c.halves-left.result.0 c.halves-left.ensures.left_of).1,
+  c.halves-left.ensures.left_low,
+  c.requires.low,
+  c.requires.bits,
+)
+
+pub returns-in_ok-right-clause-ticks : goal.returns-in_ok-right-clause-ticks
+returns-in_ok-right-clause-ticks g t c =
+    omega (arith, c.in_ok-right.ensures.ticks, c.mk-else-at-bits-eq0.ensures.steps)
+
+pub returns-in_ok-right-clause-grows : goal.returns-in_ok-right-clause-grows
+returns-in_ok-right-clause-grows g t c =
+    GrowsBy-trans _ _ _ _ _ _ c.in_ok-right.ensures.grows c.mk-else-at-bits-eq0.ensures.grows
+    (omega (arith, c.in_ok-right.ensures.ticks, c.mk-else-at-bits-eq0.ensures.steps))
+
+pub returns-in_ok-right-clause-kept : goal.returns-in_ok-right-clause-kept
+returns-in_ok-right-clause-kept g t c =
+    IsKept-trans c.args.self.now c.graft_at-else-at-bits-eq0.new.self c.mk-else-at-bits-eq0.new.self
+    c.in_ok-right.ensures.kept c.mk-else-at-bits-eq0.ensures.kept
+
+pub returns-in_ok-right-clause-memory : goal.returns-in_ok-right-clause-memory
+returns-in_ok-right-clause-memory g t c =
+    room_at_refusal c.graft_at-else-at-bits-eq0.new.self c.mk-else-at-bits-eq0.new.self _ _
+    c.mk-else-at-bits-eq0.result c.in_ok-right.ensures.sound c.mk-else-at-bits-eq0.ensures.err
+    c.mk-else-at-bits-eq0.ensures.refused c.mk-else-at-bits-eq0.ensures.full.1

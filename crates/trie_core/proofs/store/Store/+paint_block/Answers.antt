@@ -2,16 +2,16 @@
 use Rattle.std.proofs.Common.{ℕ, ◌≡◌, ◌+◌, ◌-◌, ◌/◌, ◌∙◌, sym, ap, subst, arith, Err}
 use Rattle.std.proofs.Common.{length, le_refl}
 use Rattle.std.proofs.lemmas.Result.{IfOk-weaker, IfErr-at_err, err_from_is_err_and}
-use Rattle.trie_core.specs.declared.fault.StoreFault.TheVariants.{Full}
+use Rattle.trie_core.specs.declared.fault.StoreFault.TheVariants.{Full, Memory}
 use Rattle.trie_core.specs.Tree.{look, height}
 use Rattle.trie_core.specs.Store.{meaning, AddedUnder}
 use Rattle.trie_core.specs.Paint.{IsPainted, HoldsPainted, IsAscending, AllEndFrom, IsCut}
 use Rattle.trie_core.specs.Paint.{paint_cost}
-use Rattle.trie_core.proofs.StoreLemmas.{GrowsBy-trans}
+use Rattle.trie_core.proofs.StoreLemmas.{GrowsBy-trans, IsKept-trans}
 use Rattle.trie_core.proofs.PaintLemmas.{AddedUnder-join}
 use Rattle.trie_core.proofs.BlockLemmas.{are_halves, cost_of_cut, cost_of_halves, left_held}
 use Rattle.trie_core.proofs.BlockLemmas.{painted_of_halves, right_held, node_missing, IfOk-both}
-use Rattle.trie_core.proofs.BlockLemmas.{IsDone, IsDone-settled}
+use Rattle.trie_core.proofs.BlockLemmas.{IsDone, IsDone-settled, room_at_refusal}
 use Rattle.trie_core.proofs.store.Store.+paint_block.Goals as goal
 use Rattle.trie_core.proofs.store.Store.+paint_block.Goals.{in-Some, in-None+in_ok-left-in-None}
 use Rattle.trie_core.proofs.store.Store.+paint_block.Goals.{in-Some-settled, Joined-settled}
@@ -332,3 +332,69 @@ returns-clause-full g t c =
           (subst (λ ps. HoldsPainted ps (meaning c.args.self.now c.args.rec) c.args.bits
           c.args.first c.args.parts.now.now) same held),
     )
+
+-- ---- the clauses that speak of no paint
+
+pub returns-in_err-left-in-None-clause-memory : goal.returns-in_err-left-in-None-clause-memory
+returns-in_err-left-in-None-clause-memory g t c =
+    let p = err_from_is_err_and c.from_residual.result c.from_residual.ensures.1 in
+    λ e.
+    let fault : c.in_err-left-in-None.field-0.0 ≡ Memory = cc (p.1, p.2, e) in
+    c.in_err-left-in-None.ensures.memory (ap Err fault)
+
+pub returns-in_err-right-in-None-settled-clause-memory :
+    goal.returns-in_err-right-in-None-settled-clause-memory
+returns-in_err-right-in-None-settled-clause-memory g t c =
+    let p = err_from_is_err_and c.from_residual-in_err-right-in-None-settled.result
+    c.from_residual-in_err-right-in-None-settled.ensures.1 in
+    λ e.
+    let fault : c.in_err-right-in-None-settled.field-0.0 ≡ Memory = cc (p.1, p.2, e) in
+    c.in_err-right-in-None-settled.ensures.memory (ap Err fault)
+
+pub returns-in_err-right-in-None-settled-clause-ticks :
+    goal.returns-in_err-right-in-None-settled-clause-ticks
+returns-in_err-right-in-None-settled-clause-ticks g t c =
+    let left = left_done g t
+    (goal.at.returns-in_err-right-in-None-settled-clause-ticks g t c).Joined-settled in
+    omega (arith, left.ticks, c.in_err-right-in-None-settled.ensures.ticks)
+
+pub returns-in_err-right-in-None-settled-clause-kept :
+    goal.returns-in_err-right-in-None-settled-clause-kept
+returns-in_err-right-in-None-settled-clause-kept g t c =
+    let left = left_done g t
+    (goal.at.returns-in_err-right-in-None-settled-clause-kept g t c).Joined-settled in
+    IsKept-trans c.args.self.now c.match-settled.self c.paint_block-in-None-settled.new.self
+    left.kept c.in_err-right-in-None-settled.ensures.kept
+
+pub mk-requires-clause-left_of : goal.mk-requires-clause-left_of
+mk-requires-clause-left_of g t c =
+    let left = left_done g t (goal.at.mk-requires-clause-left_of g t c).Joined-settled in
+    let right = right_done g t (goal.at.mk-requires-clause-left_of g t c).Joined-settled-2 left in
+    (right.kept c.match-settled.left left.of).0
+
+pub mk-requires-clause-right_of : goal.mk-requires-clause-right_of
+mk-requires-clause-right_of g t c =
+    let left = left_done g t (goal.at.mk-requires-clause-right_of g t c).Joined-settled in
+    let right = right_done g t (goal.at.mk-requires-clause-right_of g t c).Joined-settled-2 left in
+    right.of
+
+pub returns-clause-ticks : goal.returns-clause-ticks
+returns-clause-ticks g t c =
+    let left = left_done g t (goal.at.returns-clause-ticks g t c).Joined-settled in
+    let right = right_done g t (goal.at.returns-clause-ticks g t c).Joined-settled-2 left in
+    omega (arith, left.ticks, right.ticks, c.mk.ensures.steps)
+
+pub returns-clause-kept : goal.returns-clause-kept
+returns-clause-kept g t c =
+    let left = left_done g t (goal.at.returns-clause-kept g t c).Joined-settled in
+    let right = right_done g t (goal.at.returns-clause-kept g t c).Joined-settled-2 left in
+    IsKept-trans c.args.self.now c.match-settled.self c.mk.new.self left.kept
+    (IsKept-trans c.match-settled.self c.match-settled-2.self c.mk.new.self right.kept
+    c.mk.ensures.kept)
+
+pub returns-clause-memory : goal.returns-clause-memory
+returns-clause-memory g t c =
+    let left = left_done g t (goal.at.returns-clause-memory g t c).Joined-settled in
+    let right = right_done g t (goal.at.returns-clause-memory g t c).Joined-settled-2 left in
+    room_at_refusal c.match-settled-2.self c.mk.new.self _ _ c.mk.result right.sound
+    c.mk.ensures.err c.mk.ensures.refused c.mk.ensures.full.1

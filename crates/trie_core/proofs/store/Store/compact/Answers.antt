@@ -1,42 +1,25 @@
-use Rattle.std.proofs.Common.{◌≡◌, ◌<◌, List, length, take}
-use Rattle.std.proofs.Common.{sym, subst}
-use Rattle.std.proofs.lemmas.Grind.{take_at_read}
-use Rattle.std.proofs.lemmas.List.{take_all}
-use Rattle.trie_core.specs.declared.node.Rec.TheVariants.{Leaf}
-use Rattle.trie_core.specs.declared.node.Root.{Root}
-use Rattle.trie_core.specs.Compact.{trees_of_roots, HoldsExactly, AreRootsTaken}
-use Rattle.trie_core.proofs.CompactLemmas.{AreRootsTaken-nil, HoldsExactly-from_taken}
-use Rattle.trie_core.proofs.CompactLemmas.{length-le_from_taken}
+use Rattle.trie_core.proofs.CompactLemmas.{HoldsExactly-from_taken, length-le_from_taken}
 use Rattle.trie_core.proofs.store.Store.compact.Goals as goal
 
-pub loop-root-init : goal.loop-root-init
-loop-root-init c = rw (
-  c.new-taken.ensures.nodes,
-  c.new-taken.ensures.pairs,
-  c.in_ok-made.ensures.items,
-) (AreRootsTaken-nil c.args.self.now)
+pub into_store-requires : goal.into_store-requires
+into_store-requires c = c.in-Ok.ensures.taken.sound
 
-pub loop-root-preserved : goal.loop-root-preserved
-loop-root-preserved c =
-    let within : c.loop-root.root-index < length c.args.roots.now = c.loop-root-test.true in
-    let more =
-    take_at_read c.args.roots.now c.loop-root.root-index (record { 0 = Leaf 0 }) within in
-    subst (λ (rs : List Root). AreRootsTaken c.args.self.now c.take_root.new.taken.nodes.keys
-    c.take_root.new.taken.pairs rs c.take_root.new.made.items) (sym more.1)
-    (c.in_ok-take_root.ensures.roots (take c.loop-root.root-index c.args.roots.now)
-    c.loop-root.invariant)
+pub returns-clause-of : goal.returns-clause-of
+returns-clause-of c = rw (c.into_store.ensures) c.in-Ok.ensures.of
+
+pub returns-clause-meaning : goal.returns-clause-meaning
+returns-clause-meaning c = rw (c.into_store.ensures) c.in-Ok.ensures.meaning_is
 
 pub returns-clause-exact : goal.returns-clause-exact
 returns-clause-exact c =
-    let all : take c.loop-root.root-index c.args.roots.now ≡ c.args.roots.now =
-    take_all c.loop-root.root-index c.args.roots.now c.loop-root-test.false in
-    subst (λ (rs : List Root). HoldsExactly c.loop-root.taken.pairs
-    (trees_of_roots c.args.self.now rs)) all
-    (HoldsExactly-from_taken c.args.self.now
-    c.loop-root.taken.nodes.keys c.loop-root.taken.pairs
-    (take c.loop-root.root-index c.args.roots.now) c.loop-root.made.items c.loop-root.invariant)
+    rw (c.into_store.ensures) (HoldsExactly-from_taken c.args.self.now
+    c.take_roots.new.taken.nodes.keys c.take_roots.new.taken.pairs
+    c.args.roots.now c.in-Ok.made.items c.in-Ok.ensures)
 
 pub returns-clause-few : goal.returns-clause-few
 returns-clause-few c =
-    length-le_from_taken c.args.self.now c.loop-root.taken.nodes.keys c.loop-root.taken.pairs
-    c.loop-root.invariant.taken
+    rw (c.into_store.ensures) (length-le_from_taken c.args.self.now
+    c.take_roots.new.taken.nodes.keys c.take_roots.new.taken.pairs c.in-Ok.ensures.taken)
+
+pub returns-clause-sound : goal.returns-clause-sound
+returns-clause-sound c = rw (c.into_store.ensures) c.in-Ok.ensures.taken.sound

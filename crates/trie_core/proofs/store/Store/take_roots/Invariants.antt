@@ -1,6 +1,6 @@
 use Rattle.std.proofs.Common.{take}
 use Rattle.trie_core.specs.Compact.{AreRootsTaken}
-use Rattle.trie_core.proofs.store.Store.compact.Given as goal
+use Rattle.trie_core.proofs.store.Store.take_roots.Given as goal
 
 abbrev pub invariant-loop-root : goal.invariant-loop-root
 invariant-loop-root l =
