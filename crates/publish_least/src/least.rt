@@ -1,11 +1,12 @@
 //! The fewest lines under a block.
-ghost use Rattle.std.specs.Prelude.{◌≡◌, ◌-◌, ◌≤◌, length, IfOk};
+ghost use Rattle.std.specs.Prelude.{◌≡◌, ◌-◌, ◌≤◌, ◌∷◌, [], length, IfOk};
 ghost use Rattle.geo_addr.specs.Ranges.{IsBlock};
 ghost use Rattle.trie_core.specs.Tree.{height};
 ghost use Rattle.trie_core.specs.Store.{meaning, tree_of, leaf_at, IsOf, IsRootOf};
 ghost use Rattle.publish_least.specs.Lines.{AreInside, AnswerAs, AreFewest, InPreorder, IsPlain};
 ghost use Rattle.publish_least.specs.Price.{cost};
 ghost use Rattle.publish_least.specs.Choice.{lines_of, part_of};
+ghost use Rattle.publish_least.specs.Memo.{table_of, IsMemo};
 
 use crate::line::Line;
 use crate::memo::Memo;
@@ -55,8 +56,27 @@ fn lines_under(alloc: Global, store: &Store, rec: Rec, within: Block) -> Result<
     ensures { IfOk result (λ lines. lines.items ≡ lines_of (meaning store.now rec) within) }
 {
     let mut memo = Memo::new(alloc)?;
+    let lines = lines_of_walk(alloc, store, rec, within, &mut memo);
+    drop(memo);
+    lines
+}
+
+// The lines of the tree of a record, of which nothing was learnt yet.
+fn lines_of_walk(
+    alloc: Global,
+    store: &Store,
+    rec: Rec,
+    within: Block,
+    memo: &mut Memo,
+) -> Result<Vec<Line>, Memory>
+    requires of { IsOf store.now rec }
+    requires low { height (meaning store.now rec) ≤ 128 - within.len }
+    requires order { (table_of memo.old).order ≡ 0 ∷ [] }
+    requires memo { IsMemo store.now (table_of memo.old) }
+    ensures { IfOk result (λ lines. lines.items ≡ lines_of (meaning store.now rec) within) }
+{
     memo.learn(alloc, store, rec)?;
     let mut lines = Vec::new(alloc);
-    write(store, &memo, rec, within, 0, &mut lines)?;
+    write(store, memo, rec, within, 0, &mut lines)?;
     Ok(lines)
 }
