@@ -1,5 +1,5 @@
 //! A value of the data section as JSON.
-ghost use Rattle.std.specs.Prelude.{◌≡◌, IfOk};
+ghost use Rattle.std.specs.Prelude.{◌≡◌, IfOk, decimal};
 ghost use Rattle.hex.specs.Hex.{encode_lower};
 ghost use Rattle.serde_json.specs.Data.{string as string_data, no_members};
 ghost use Rattle.serde_json.specs.View.{view as data_view, items_view as data_items_view};
@@ -21,7 +21,9 @@ pub fn json_text(alloc: Global, value: &Value) -> Result<Text, Memory>
     ensures { IfOk result (λ text. text ≡ json (value_tree value.now)) }
 {
     let made = json_of(alloc, value)?;
-    let line = made.to_string(alloc)?;
+    let line = made.to_string(alloc);
+    drop(made);
+    let line = line?;
     let text = Text::from_string(line)?;
     Ok(text)
 }
@@ -33,13 +35,13 @@ fn json_of(alloc: Global, value: &Value) -> Result<Json, Memory>
     match value {
         Value::Map(pairs) => Ok(Json::Object(object_of(alloc, pairs)?)),
         Value::List(values) => Ok(Json::Array(array_of(alloc, values)?)),
-        Value::Text(text) => Ok(Json::try_from_str(alloc, text.as_str())?),
+        Value::Text(text) => string_of(alloc, text.as_str()),
         Value::Bytes(bytes) => hexadecimal(alloc, bytes.as_slice()),
         Value::U16(n) => Ok(Json::from(*n)),
         Value::U32(n) => Ok(Json::from(*n)),
         Value::I32(n) => Ok(Json::from(*n)),
         Value::U64(n) => Ok(Json::from(*n)),
-        Value::U128(n) => Ok(Json::String(format!(in alloc; "{n}")?)),
+        Value::U128(n) => digits(alloc, *n),
         Value::Bool(b) => Ok(Json::Bool(*b)),
         Value::Raw8(content) => hexadecimal(alloc, content),
         Value::Raw4(content) => hexadecimal(alloc, content),
@@ -69,6 +71,20 @@ fn array_of(alloc: Global, values: &[Value]) -> Result<Vec<Json>, Memory>
         array.push(json_of(alloc, value)?)?;
     }
     Ok(array)
+}
+
+/// A string.
+fn string_of(alloc: Global, text: &str) -> Result<Json, Memory>
+    ensures { IfOk result (λ made. data_view made ≡ string_data text.now) }
+{
+    Ok(Json::try_from_str(alloc, text)?)
+}
+
+/// The decimal digits of a number.
+fn digits(alloc: Global, n: u128) -> Result<Json, Memory>
+    ensures { IfOk result (λ made. data_view made ≡ string_data (decimal n)) }
+{
+    Ok(Json::String(format!(in alloc; "{n}")?))
 }
 
 /// Two lower-case digits for each byte.
