@@ -6,3 +6,4 @@ pub mod NoteLemmas
 pub mod NoteOrder
 pub mod Ordered
 pub mod RankedLemmas
+pub mod LoopLemmas

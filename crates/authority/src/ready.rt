@@ -1,9 +1,11 @@
 //! A feed that is ready to be set: with the index of its entries.
 ghost use Rattle.std.specs.Prelude.{◌≡◌, ◌<◌, ◌^◌, if◌then◌else◌, option_and_then, slice_get, Some};
-ghost use Rattle.std.specs.Prelude.{None};
+ghost use Rattle.std.specs.Prelude.{None, IfOk};
+ghost use Rattle.std.specs.Arc.{arc_value};
 ghost use Rattle.std.specs.Option.{option_copied};
 ghost use Rattle.first_index.specs.Boundaries.{told};
 ghost use Rattle.geo_terms.specs.Precedence.{lies_within};
+ghost use Rattle.authority.specs.Kinds.{IsReady};
 
 use crate::kind_index::KindIndex;
 use first_index::FirstIndex;
@@ -50,9 +52,8 @@ impl ReadyFeed {
     pub fn of(alloc: Global, feed: Feed) -> Result<ReadyFeed, Memory>
         ensures { IfOk result (λ ready. ready ≡ feed) }
     {
-        let index = KindIndex::of(alloc, feed.entries.as_slice())?;
-        let index = Arc::new(alloc, index)?;
         let feed = Arc::new(alloc, feed)?;
+        let index = index_of(alloc, &feed)?;
         Ok(ReadyFeed { feed, index })
     }
 
@@ -109,6 +110,15 @@ impl Clone for ReadyFeed {
         let index = Arc::try_clone(&self.index)?;
         Ok(ReadyFeed { feed, index })
     }
+}
+
+// The index of the entries of a feed, to be shared.
+fn index_of(alloc: Global, feed: &Feed) -> Result<Arc<KindIndex>, Memory>
+    ensures { IfOk result (λ index. IsReady feed.now (arc_value index)) }
+{
+    let index = KindIndex::of(alloc, feed.entries.as_slice())?;
+    let index = Arc::new(alloc, index)?;
+    Ok(index)
 }
 
 // The longest entry of a feed that holds an address, by the index of the feed.

@@ -92,7 +92,7 @@ fn ranges_of(alloc: Global, refs: &[Reference]) -> Result<Vec<Range>, Memory>
 {
     let mut ranges = Vec::with_capacity(alloc, refs.len())?;
     for reference in refs {
-        ranges.push(reference.range())?;
+        ranges.push(reference.range)?;
     }
     Ok(ranges)
 }

@@ -1,25 +1,10 @@
-use Rattle.std.proofs.Common.{◌≡◌, ◌∙◌, List, ap, subst, sym}
+use Rattle.std.proofs.Common.{subst}
 use Rattle.std.specs.Arc.{arc_value}
-use Rattle.std.specs.List.{All}
-use Rattle.geo_addr.specs.Ranges.{IsBlock, range_of_block}
-use Rattle.geo_terms.specs.Precedence.{entry_cmp}
 use Rattle.geo_terms.specs.SourceForm.{FeedParts}
-use Rattle.geo_terms.specs.declared.statement.Entry.{Entry}
-use Rattle.authority.specs.Kinds.{IsKindIndex, IsReady}
+use Rattle.authority.specs.Kinds.{IsReady}
 use Rattle.authority.proofs.ready.ReadyFeed.of.Goals as goal
 
 pub invariant_of-result : goal.invariant_of-result
 invariant_of-result c =
-    let entries : c.as_slice.result.now ≡ c.args.feed.entries =
-    c.as_slice.ensures ∙ ap (λ (f : FeedParts). f.entries) c.feed.view_is in
-    subst (λ (f : FeedParts). IsReady f (arc_value c.in_ok-index-2.index))
-    (sym c.in_ok-feed.ensures.ok)
-    (subst (IsReady c.args.feed) (sym c.in_ok-index-2.ensures.ok)
-    (record {
-      blocks =
-          subst (λ (es : List Entry). All (λ e. IsBlock e.block) es) entries
-          c.in_ok-index.ensures.kept;
-      entries =
-          subst (λ (es : List Entry). IsKindIndex entry_cmp (λ e. range_of_block e.block) es
-          c.in_ok-index.index) entries c.in_ok-index.ensures.index;
-    }))
+    subst (λ (f : FeedParts). IsReady f (arc_value c.in_ok-index.index)) c.deref.ensures
+    c.in_ok-index.ensures
