@@ -9,3 +9,4 @@ pub mod OpenedLemmas
 pub mod SectionLemmas
 pub mod WalkLemmas
 pub mod PlaceTreeLemmas
+pub mod PartsLemmas

@@ -17,18 +17,22 @@ use Rattle.std.proofs.lemmas.List.Sums.{prefix_len-le-length}
 use Rattle.std.proofs.Math.Nat.{add-mul, mul-le-mul_right}
 use Rattle.std.proofs.lemmas.Option.{get_or_from_slice_get}
 use Rattle.std.specs.Prelude.{slice_get, slice_index, nat_eq, max, if◌then◌else◌, ◌^◌}
+use Rattle.std.specs.Prelude.{replicate}
 use Rattle.trie_core.specs.declared.node.NodeId.{NodeId}
 use Rattle.trie_core.specs.declared.node.Pair.{Pair}
 use Rattle.trie_core.specs.declared.node.Rec.{Rec}
 use Rattle.trie_core.specs.declared.node.Rec.TheVariants.{Leaf, Node}
 use Rattle.mmdb_file.specs.Writing.{node_numbers, record_number, nodes_from, same_id}
-use Rattle.mmdb_file.specs.Metadata.{told_members, english}
+use Rattle.mmdb_data.specs.Spelling.{spelling}
+use Rattle.mmdb_file.specs.FileImage.{file_of}
+use Rattle.mmdb_file.specs.Marker.{marker}
+use Rattle.mmdb_file.specs.Metadata.{told_members, english, metadata}
 use Rattle.mmdb_tree.specs.Laws.{NodeFits}
 use Rattle.mmdb_tree.specs.declared.bits.Bits.TheVariants.{B24, B28, B32}
 use Rattle.least_nodes.specs.Layout.{each_once}
 use Rattle.std.proofs.lemmas.List.{get_or-map}
 use Rattle.mmdb_tree.specs.declared.bits.Bits.{Bits}
-use Rattle.mmdb_tree.specs.Nodes.{node_bytes, tree_bytes, width, limit}
+use Rattle.mmdb_tree.specs.Nodes.{node_bytes, tree_bytes, width, limit, record_size}
 use Rattle.mmdb_tree.proofs.NodeLemmas.{length-node_bytes}
 
 pub none_is_len : {X : Type 0} (p : X → Bool) (xs : List X) → position p xs ≡ None
@@ -205,6 +209,19 @@ added_one : (old new later xs : Pairs) (b : List ℕ × ValueTree)
 added_one old new later xs b is more =
     more ∙ ap (λ n. n ++ b ∷ []) is ∙ append_assoc old xs (b ∷ [])
 
+-- three members before others
+pub added_three : (old x1 x2 x3 rest : Pairs) (a b c : List ℕ × ValueTree)
+    → x1 ≡ old ++ a ∷ [] → x2 ≡ x1 ++ b ∷ [] → x3 ≡ x2 ++ c ∷ []
+    → x3 ++ rest ≡ old ++ a ∷ b ∷ c ∷ rest
+added_three old x1 x2 x3 rest a b c e1 e2 e3 =
+    ap (λ x. x ++ rest) (added_one old x2 x3 (a ∷ b ∷ []) c
+    (added_one old x1 x2 (a ∷ []) b e1 e2) e3) ∙ append_assoc old (a ∷ b ∷ c ∷ []) rest
+
+-- the two members of the name
+pub added_two : (old x1 x2 : Pairs) (a b : List ℕ × ValueTree)
+    → x1 ≡ old ++ a ∷ [] → x2 ≡ x1 ++ b ∷ [] → x2 ≡ old ++ a ∷ b ∷ []
+added_two old x1 x2 a b e1 e2 = added_one old x1 x2 (a ∷ []) b e1 e2
+
 -- the four members of the tree
 pub added_four : (old x1 x2 x3 x4 : Pairs) (a b c d : List ℕ × ValueTree)
     → x1 ≡ old ++ a ∷ [] → x2 ≡ x1 ++ b ∷ [] → x3 ≡ x2 ++ c ∷ [] → x4 ≡ x3 ++ d ∷ []
@@ -212,14 +229,6 @@ pub added_four : (old x1 x2 x3 x4 : Pairs) (a b c d : List ℕ × ValueTree)
 added_four old x1 x2 x3 x4 a b c d e1 e2 e3 e4 =
     added_one old x3 x4 (a ∷ b ∷ c ∷ []) d
     (added_one old x2 x3 (a ∷ b ∷ []) c (added_one old x1 x2 (a ∷ []) b e1 e2) e3) e4
-
--- the five members of the kind
-pub added_five : (old x1 x2 x3 x4 x5 : Pairs) (a b c d e : List ℕ × ValueTree)
-    → x1 ≡ old ++ a ∷ [] → x2 ≡ x1 ++ b ∷ [] → x3 ≡ x2 ++ c ∷ [] → x4 ≡ x3 ++ d ∷ []
-    → x5 ≡ x4 ++ e ∷ [] → x5 ≡ old ++ a ∷ b ∷ c ∷ d ∷ e ∷ []
-added_five old x1 x2 x3 x4 x5 a b c d e e1 e2 e3 e4 e5 =
-    added_one old x4 x5 (a ∷ b ∷ c ∷ d ∷ []) e
-    (added_four old x1 x2 x3 x4 a b c d e1 e2 e3 e4) e5
 
 -- the metadata can be written
 pub told_spelled : (epoch : ℕ) (name : List ℕ) (nodes size : ℕ) → length name ≤ 64
@@ -261,6 +270,30 @@ told_spelled epoch name nodes size few =
       ),
       omega arith,
     )
+
+-- the spelled metadata is what is appended
+pub metadata_spelled : (epoch : ℕ) (name : List ℕ) (nodes size : ℕ)
+    (value : ValueTree) (old new : List ℕ) → value ≡ map (told_members epoch name nodes size)
+    → new ≡ old ++ spelling value → new ≡ old ++ metadata epoch name nodes size
+unfolding metadata
+metadata_spelled epoch name nodes size value old new is put =
+    put ∙ ap (λ v. old ++ spelling v) is
+
+-- the parts of a file in order
+pub file_parts : (bits : Bits) (nodes : List (ℕ × ℕ)) (section : List ℕ) (epoch : ℕ)
+    (name tree more whole : List ℕ) → tree ≡ tree_bytes bits nodes
+    → more ≡ ((tree ++ replicate 16 0) ++ section) ++ marker
+    → whole ≡ more ++ metadata epoch name (length nodes) (record_size bits)
+    → whole ≡ file_of bits nodes section epoch name
+unfolding file_of
+file_parts bits nodes section epoch name tree more whole is_tree is_more is_whole =
+    let told : List ℕ = metadata epoch name (length nodes) (record_size bits) in
+    let front : List ℕ = (tree_bytes bits nodes ++ replicate 16 0) ++ section in
+    is_whole ∙ ap (λ (m : List ℕ). m ++ told) is_more
+    ∙ ap (λ (t : List ℕ). (((t ++ replicate 16 0) ++ section) ++ marker) ++ told) is_tree
+    ∙ append_assoc front marker told
+    ∙ ap (λ (f : List ℕ). f ++ (marker ++ told))
+    (append_assoc (tree_bytes bits nodes) (replicate 16 0) section)
 
 -- a set is no longer than the list that it was made of
 pub length-each_once : {X : Type 0} (eq : X → X → Bool) (seen xs : List X)

@@ -7,6 +7,7 @@ use Rattle.trie_core.specs.declared.node.Rec.{Rec}
 use Rattle.trie_core.specs.declared.node.Rec.TheVariants.{Leaf, Node}
 use Rattle.trie_core.specs.declared.node.Pair.{Pair}
 use Rattle.mmdb_file.specs.declared.numbers.Numbers.{Numbers}
+use Rattle.mmdb_file.specs.declared.writing.Parts.{Parts}
 use Rattle.geo_terms.specs.Numbers.{place_at}
 use Rattle.geo_terms.specs.PlaceForm.{PlaceParts}
 use Rattle.geo_addr.specs.Bits.{bits_of}
@@ -15,9 +16,11 @@ use Rattle.trie_core.specs.Tree.{Tree, map_tree}
 use Rattle.trie_core.specs.Store.{leaf_at, tree_of}
 use Rattle.least_nodes.specs.NodeList.{Member, at, go}
 use Rattle.least_nodes.specs.Layout.{inner, place_order}
+use Rattle.least_nodes.specs.Order.{AreOf, trees_of}
+use Rattle.mmdb_tree.specs.Nodes.{smallest, limit}
 use Rattle.mmdb_data.specs.ValueTree.{ValueTree as Value}
 use Rattle.mmdb_file.specs.FileImage.{answer_value}
-use Rattle.mmdb_file.specs.Section.{Section, section_of}
+use Rattle.mmdb_file.specs.Section.{Section, Holds, section_of}
 
 -- whether two nodes of a store are the same
 abbrev pub same_id : NodeId → NodeId → Bool
@@ -80,3 +83,17 @@ section_for places t = section_of (values_of places (place_order t))
 -- no record is above this number
 abbrev pub end_for : List PlaceParts → Tree ℕ → ℕ
 end_for places t = count_for t + 16 + length (section_for places t).bytes
+
+-- what the file of a tree of place numbers is written from: the nodes and the places in the order
+-- of the tree, the section of the places, and records that hold every number
+pub record AreParts (pairs : List Pair) (places : List PlaceParts) (t : Tree ℕ)
+    (parts : Parts) : Type 0 where
+  pub count : parts.numbers.count ≡ count_for t
+  pub of : AreOf pairs parts.numbers.nodes
+  pub nodes : trees_of pairs parts.numbers.nodes ≡ inner nat_eq t
+  pub leaves : parts.numbers.places ≡ place_order t
+  pub starts : parts.numbers.starts.items ≡ (section_for places t).starts
+  pub section : parts.section.bytes ≡ (section_for places t).bytes
+  pub holds : Holds (section_for places t) (values_of places (place_order t))
+  pub bits : smallest (end_for places t) ≡ Some parts.bits
+  pub low : end_for places t < limit parts.bits

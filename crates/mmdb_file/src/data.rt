@@ -50,7 +50,9 @@ fn add(alloc: Global, made: &mut Data, places: &Places, number: u32) -> Result<(
     ensures readable { OnOk result (CanBeReadBack (answer_value (place_at places.now number))) }
 {
     let value = value_of(alloc, places, number)?;
-    let start = made.section.put(&value)?;
+    let start = made.section.put(&value);
+    drop(value);
+    let start = start?;
     made.starts.push(start)?;
     Ok(())
 }

@@ -1,11 +1,12 @@
 //! The metadata of a file that is written.
 ghost use Rattle.std.specs.Prelude.{◌≡◌, ◌++◌, ◌<◌, ◌^◌, IfOk, OnOk, map as map_list};
+ghost use Rattle.std.specs.Prelude.{[], ◌∷◌, codes};
 ghost use Rattle.std.specs.Str.{IsUtf8};
 ghost use Rattle.mmdb_data.specs.ValueTree.{map as map_tree, u16 as u16_tree, u32 as u32_tree};
-ghost use Rattle.mmdb_data.specs.ValueTree.{u64 as u64_tree};
+ghost use Rattle.mmdb_data.specs.ValueTree.{u64 as u64_tree, text as text_tree};
 ghost use Rattle.mmdb_data.specs.View.{value_tree, pair_view};
 ghost use Rattle.mmdb_tree.specs.Nodes.{record_size};
-ghost use Rattle.mmdb_file.specs.Metadata.{kind_members, tree_members, told_members};
+ghost use Rattle.mmdb_file.specs.Metadata.{kind_members, tree_members, told_members, english};
 
 use crate::place::{add, list_of, map_of, text};
 use geo_addr::{Memory, Text};
@@ -40,7 +41,6 @@ pub(crate) fn metadata_of(
     Ok(Value::Map(members))
 }
 
-#[tactic(auto, unfolding(crate::specs::Metadata::english))]
 fn add_kind(
     alloc: Global,
     members: &mut Vec<(Text, Value)>,
@@ -53,7 +53,19 @@ fn add_kind(
     add(alloc, members, "binary_format_major_version", number16(2))?;
     add(alloc, members, "binary_format_minor_version", number16(0))?;
     add(alloc, members, "build_epoch", number64(epoch))?;
-    add(alloc, members, "database_type", text(alloc, name)?)?;
+    add_name(alloc, members, name)?;
+    Ok(())
+}
+
+/// The name as the database type, and as the description in English.
+#[tactic(auto, unfolding(crate::specs::Metadata::english))]
+fn add_name(alloc: Global, members: &mut Vec<(Text, Value)>, name: &str) -> Result<(), Memory>
+    ensures { OnOk result (map_list pair_view members.new.items
+        ≡ map_list pair_view members.old.items ++ (codes "database_type", text_tree name.now)
+        ∷ (codes "description", english name.now) ∷ []) }
+{
+    let kind = text(alloc, name)?;
+    add(alloc, members, "database_type", kind)?;
     let english = map_of(alloc, "en", text(alloc, name)?)?;
     add(alloc, members, "description", english)?;
     Ok(())
@@ -69,19 +81,11 @@ fn add_tree(
         ≡ map_list pair_view members.old.items ++ tree_members nodes (record_size bits)) }
 {
     add(alloc, members, "ip_version", number16(6))?;
-    add(
-        alloc,
-        members,
-        "languages",
-        list_of(alloc, text(alloc, "en")?)?,
-    )?;
+    let languages = list_of(alloc, text(alloc, "en")?)?;
+    add(alloc, members, "languages", languages)?;
     add(alloc, members, "node_count", number32(nodes))?;
-    add(
-        alloc,
-        members,
-        "record_size",
-        number16(u16::from(bits.size())),
-    )?;
+    let size = number16(u16::from(bits.size()));
+    add(alloc, members, "record_size", size)?;
     Ok(())
 }
 

@@ -1,7 +1,7 @@
 //! Writing a file.
 ghost use Rattle.std.specs.Prelude.{◌≡◌, ◌+◌, ◌*◌, ◌^◌, ◌<◌, ◌≤◌, ◌++◌, ℕ, length, max, IfOk, OnOk};
 ghost use Rattle.std.specs.Prelude.{IfSome, slice_index_or, slice_index, [], nat_eq, List};
-ghost use Rattle.std.specs.Prelude.{option_map, Option, Some, None, Ok, Err};
+ghost use Rattle.std.specs.Prelude.{replicate, option_map, Option, Some, None, Ok, Err};
 ghost use Rattle.std.specs.Str.{IsUtf8};
 ghost use Rattle.geo_addr.specs.Bits.{bits_of};
 ghost use Rattle.mmdb_file.specs.PlaceValue.{place_value};
@@ -12,7 +12,10 @@ ghost use Rattle.trie_core.specs.Store.{IsOf, IsRootOf, leaf_at, tree_of};
 ghost use Rattle.geo_terms.specs.PlaceForm.{PlaceParts};
 ghost use Rattle.least_nodes.specs.Order.{AreOf};
 ghost use Rattle.mmdb_file.specs.Writing.{nodes_from, number_of, place_tree, count_for};
-ghost use Rattle.mmdb_file.specs.Writing.{section_for, end_for, AnswersPlaces, FindsPlaces};
+ghost use Rattle.mmdb_file.specs.Marker.{marker};
+ghost use Rattle.mmdb_file.specs.Metadata.{metadata};
+ghost use Rattle.mmdb_file.specs.Writing.{section_for, end_for, AnswersPlaces, AreParts};
+ghost use Rattle.mmdb_file.specs.Writing.{FindsPlaces};
 ghost use Rattle.least_nodes.specs.NodeList.{Member};
 ghost use Rattle.mmdb_tree.specs.Laws.{NodeFits};
 ghost use Rattle.mmdb_tree.specs.Nodes.{limit, smallest, record_size, tree_bytes};
@@ -20,7 +23,7 @@ ghost use Rattle.mmdb_file.specs.FileImage.{file, file_of, file_with, file_nodes
 ghost use Rattle.mmdb_file.specs.FileImage.{file_end, same_answer};
 ghost use Rattle.mmdb_file.specs.declared.fault.FileFault.TheVariants as faults;
 
-use crate::data::{Data, data_of};
+use crate::data::data_of;
 use crate::fault::FileFault;
 use crate::laws::written_file_is_walked;
 use crate::marker::MARKER;
@@ -30,7 +33,7 @@ use crate::numbers::Numbers;
 use geo_addr::Memory;
 use geo_terms::Places;
 use least_nodes::{Layout, order};
-use mmdb_data::encode;
+use mmdb_data::{Packer, encode};
 use mmdb_tree::{Bits, record_bits};
 use std::alloc::Global;
 use trie_core::{NodeId, Rec, Root, Store};
@@ -97,23 +100,85 @@ pub fn write_file(
     written_file_is_walked();
     numbers_to_places(store, root, places);
     let tree = store.rec_of(root);
+    let parts = parts_of(alloc, store, root, places)?;
+    let made = file_of_parts(alloc, store, tree, &parts, meta);
+    drop(parts);
+    let made = made?;
+    Ok(made)
+}
+
+/// What a file is written from: the numbers of its records, the data section, and the bits of a
+/// record.
+#[derive(Drop)]
+struct Parts {
+    numbers: Numbers,
+    section: Packer,
+    bits: Bits,
+}
+
+/// What the file of the tree that the root means is written from.
+fn parts_of(alloc: Global, store: &Store, root: Root, places: &Places) -> Result<Parts, FileFault>
+    requires root { IsRootOf store.now root }
+    ensures parts { IfOk result
+        (λ parts. AreParts store.now places.now (tree_of store.now root) parts) }
+    ensures too_large { result ≡ Err faults.TooLarge
+        → smallest (end_for places.now (tree_of store.now root)) ≡ None }
+{
     let layout = order(alloc, store, root)?;
     let leaves = layout.leaves.as_slice();
-    let Data { section, starts } = data_of(alloc, places, leaves)?;
-    let packed = section.bytes();
+    let data = data_of(alloc, places, leaves)?;
+    let packed = data.section.bytes();
     let count = layout.nodes.len().max(1);
     let len = packed.len();
     let Some(bits) = bits_for(count, len) else {
+        drop(data);
+        drop(layout);
         return Err(FileFault::TooLarge);
     };
-    let numbers = numbers_of(count as u32, layout, starts);
+    let numbers = numbers_of(count as u32, layout, data.starts);
+    Ok(Parts {
+        numbers,
+        section: data.section,
+        bits,
+    })
+}
+
+/// The file of these parts under the root's record, and its counts.
+fn file_of_parts(
+    alloc: Global,
+    store: &Store,
+    root: Rec,
+    parts: &Parts,
+    meta: &Meta,
+) -> Result<Emitted, Memory>
+    requires root { IsOf store.now root }
+    requires of { AreOf store.now parts.now.numbers.nodes }
+    requires name { length meta.now.name ≤ 64 }
+    requires ids { length parts.now.numbers.nodes ≤ parts.now.numbers.count }
+    requires low { (k : ℕ) → parts.now.numbers.count + 16
+        + slice_index parts.now.numbers.starts.items k < limit parts.now.bits }
+    ensures bytes { IfOk result (λ made. made.bytes.items ≡ file_of parts.now.bits
+        (nodes_from store.now (number_of parts.now.numbers) root parts.now.numbers.nodes)
+        parts.now.section.bytes meta.now.epoch meta.now.name) }
+    ensures typed { IfOk result (λ _. (meta.now.epoch < 2 ^ 64) × IsUtf8 meta.now.name) }
+    ensures fits { (k : ℕ)
+        → k < length (nodes_from store.now (number_of parts.now.numbers) root
+        parts.now.numbers.nodes)
+        → NodeFits parts.now.bits (slice_index_or (nodes_from store.now
+        (number_of parts.now.numbers) root parts.now.numbers.nodes) k (0, 0)) }
+    ensures nodes { IfOk result (λ made. made.nodes ≡ parts.now.numbers.count) }
+    ensures section { IfOk result (λ made. made.section ≡ length parts.now.section.bytes) }
+    ensures bits { IfOk result (λ made. made.bits ≡ record_size parts.now.bits) }
+{
+    let numbers = &parts.numbers;
     let ids = numbers.nodes.as_slice();
-    let bytes = written(alloc, store, tree, ids, &numbers, bits, packed, meta)?;
+    let packed = parts.section.bytes();
+    let bytes = written(alloc, store, root, ids, numbers, parts.bits, packed, meta)?;
     Ok(Emitted {
         bytes,
-        nodes: count as u64,
-        section: len as u64,
-        bits: bits.size(),
+        nodes: u64::from(numbers.count),
+        section: packed.len() as u64,
+        bits: parts.bits.size(),
     })
 }
 
@@ -197,8 +262,6 @@ fn bits_for(nodes: usize, section_len: usize) -> Option<Bits>
     record_bits(nodes as u64, section_len as u64)
 }
 
-#[tactic(auto, unfolding(crate::specs::FileImage::file_of, crate::specs::Marker::marker, // parts
-crate::specs::Metadata::metadata))]
 fn file_bytes(
     alloc: Global,
     bits: Bits,
@@ -215,12 +278,41 @@ fn file_bytes(
     ensures typed { IfOk result (λ _. (meta.now.epoch < 2 ^ 64) × IsUtf8 meta.now.name) }
 {
     let mut bytes = tree_of_nodes(alloc, bits, nodes)?;
+    push_section(&mut bytes, section)?;
+    push_metadata(alloc, &mut bytes, meta, nodes.len() as u32, bits)?;
+    Ok(bytes)
+}
+
+/// Appends the data section between the bytes that divide it from the tree and the marker.
+#[tactic(auto, unfolding(crate::specs::Marker::marker))]
+fn push_section(bytes: &mut Vec<u8>, section: &[u8]) -> Result<(), Memory>
+    ensures { OnOk result (bytes.new.items
+        ≡ ((bytes.old.items ++ replicate 16 0) ++ section.now) ++ marker) }
+{
     bytes.extend_from_slice(&[0; 16])?;
     bytes.extend_from_slice(section)?;
     bytes.extend_from_slice(&MARKER)?;
-    let metadata = metadata_of(alloc, meta, nodes.len() as u32, bits)?;
-    encode(alloc, &metadata, &mut bytes)?;
-    Ok(bytes)
+    Ok(())
+}
+
+/// Appends the metadata, which ends the file.
+fn push_metadata(
+    alloc: Global,
+    bytes: &mut Vec<u8>,
+    meta: &Meta,
+    nodes: u32,
+    bits: Bits,
+) -> Result<(), Memory>
+    requires { length meta.now.name ≤ 64 }
+    ensures bytes { OnOk result (bytes.new.items
+        ≡ bytes.old.items ++ metadata meta.now.epoch meta.now.name nodes (record_size bits)) }
+    ensures typed { OnOk result ((meta.now.epoch < 2 ^ 64) × IsUtf8 meta.now.name) }
+{
+    let metadata = metadata_of(alloc, meta, nodes, bits)?;
+    let put = encode(alloc, &metadata, bytes);
+    drop(metadata);
+    put?;
+    Ok(())
 }
 
 fn tree_of_nodes(alloc: Global, bits: Bits, nodes: &[(u32, u32)]) -> Result<Vec<u8>, Memory>

@@ -1,8 +1,8 @@
-use Rattle.std.proofs.Common.{sym, subst}
-use Rattle.mmdb_data.specs.ValueTree.{CanBeSpelled}
-use Rattle.mmdb_file.proofs.WritingLemmas.{told_spelled}
+use Rattle.mmdb_file.proofs.WritingLemmas.{file_parts}
 use Rattle.mmdb_file.proofs.writing.file_bytes.Goals as goal
 
-pub encode-requires : goal.encode-requires
-encode-requires c =
-    subst CanBeSpelled (sym c.in_ok-metadata.ensures.value) (told_spelled _ _ _ _ c.requires.name)
+pub returns-clause-bytes : goal.returns-clause-bytes
+returns-clause-bytes c =
+    file_parts c.args.bits c.args.nodes.now c.args.section.now c.args.meta.now.epoch
+    c.args.meta.now.name _ _ _ c.in_ok-bytes.ensures c.in_ok-push_section.ensures
+    c.in_ok-push_metadata.ensures.bytes
