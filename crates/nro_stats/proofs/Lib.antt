@@ -1,3 +1,4 @@
 pub mod CountryLemmas
 pub mod FileLemmas
+mod LineLemmas
 mod PartLemmas

@@ -15,6 +15,15 @@ fields line = map trimmed (pieces 124 line)
 abbrev pub fields_after : Option (List ℕ) → List (List ℕ)
 fields_after rest = map trimmed (pieces_after 124 rest)
 
+-- the first of some fields, which is empty where there is none, and those behind it
+abbrev pub first_field : List (List ℕ) → List ℕ
+first_field [] = []
+first_field (field ∷ more) = field
+
+abbrev pub later_fields : List (List ℕ) → List (List ℕ)
+later_fields [] = []
+later_fields (field ∷ more) = more
+
 -- whether a line begins with `#`
 abbrev pub is_comment : List ℕ → Bool
 is_comment [] = false

@@ -1,7 +1,7 @@
 //! A statistics file, read by parts side by side.
 ghost use Rattle.std.specs.Prelude.{◌≡◌, ◌<◌, ◌≤◌, ◌↔◌, ◌++◌, IfOk, OnOk, length};
 ghost use Rattle.std.specs.List.{flat_map};
-ghost use Rattle.nro_stats.specs.File.{longest, most, rows, stats};
+ghost use Rattle.nro_stats.specs.File.{longest, most, notes, rows, stats};
 ghost use Rattle.nro_stats.specs.Parts.{found_notes, found_rows};
 
 use crate::read::{Gathered, LONGEST_STATS, MOST, read_lines, read_stats};
@@ -63,6 +63,27 @@ pub fn read_stats_by_parts<R: Threads + Sync, G: Gate>(
     if bytes.len() > LONGEST_STATS {
         return Err(SourceFault::TooLong);
     }
+    let all = found_by_parts(forks, slot, bytes)?;
+    if all.rows.len() > MOST {
+        return Err(SourceFault::TooMany);
+    }
+    let slot = Text::of(forks.alloc, slot)?;
+    Ok(Stats {
+        slot,
+        rows: List::of(all.rows),
+        notes: List::of(all.notes),
+    })
+}
+
+// What the parts of a file say, read side by side.
+fn found_by_parts<R: Threads + Sync, G: Gate>(
+    forks: &Forks<R, G>,
+    slot: &str,
+    bytes: &[u8],
+) -> Result<Gathered, Memory>
+    ensures rows { IfOk result (λ all. all.rows.items ≡ rows slot.now bytes.now) }
+    ensures notes { IfOk result (λ all. all.notes.items ≡ notes bytes.now) }
+{
     let size = (bytes.len() / forks.pieces as usize).max(LEAST_PART);
     let parts = parts_of(forks.alloc, bytes, size)?;
     let work = PartReading {
@@ -78,16 +99,7 @@ pub fn read_stats_by_parts<R: Threads + Sync, G: Gate>(
         parts.as_slice(),
         &work,
     )?;
-    let all = joined(forks.alloc, found)?;
-    if all.rows.len() > MOST {
-        return Err(SourceFault::TooMany);
-    }
-    let slot = Text::of(forks.alloc, slot)?;
-    Ok(Stats {
-        slot,
-        rows: List::of(all.rows),
-        notes: List::of(all.notes),
-    })
+    joined(forks.alloc, found)
 }
 
 // What was found in all parts.

@@ -1,8 +1,9 @@
 //! The fields of a line.
-ghost use Rattle.std.specs.Prelude.{◌≡◌, ◌∷◌, ◌&&◌, ◌||◌, [], false, codes, MatchOption};
+ghost use Rattle.std.specs.Prelude.{◌≡◌, ◌∷◌, ◌&&◌, ◌||◌, [], codes, MatchOption};
 ghost use Rattle.std.specs.Option.{option_copied};
 ghost use Rattle.geo_terms.specs.PlaceForm.{same_text};
-ghost use Rattle.nro_stats.specs.Fields.{IsRecord, IsShort, fields, fields_after, is_comment};
+ghost use Rattle.nro_stats.specs.Fields.{IsRecord, IsShort, fields, fields_after, first_field};
+ghost use Rattle.nro_stats.specs.Fields.{is_comment, later_fields};
 ghost use Rattle.nro_stats.specs.Fields.{is_skipped, is_summary_line, is_version, is_version_line};
 
 use geo_addr::{are_digits, cut_at, trim_blanks};
@@ -26,13 +27,13 @@ impl<'a> Record<'a> {
             (λ found. IsRecord (fields line.now) found) }
     {
         let mut rest = Some(line);
-        let registry = take_field(&mut rest)?;
-        let country = take_field(&mut rest)?;
-        let kind = take_field(&mut rest)?;
-        let start = take_field(&mut rest)?;
-        let value = take_field(&mut rest)?;
-        let date = take_field(&mut rest)?;
-        let status = take_field(&mut rest)?;
+        let registry = take_field(&mut rest);
+        let country = take_field(&mut rest);
+        let kind = take_field(&mut rest);
+        let start = take_field(&mut rest);
+        let value = take_field(&mut rest);
+        let date = take_field(&mut rest);
+        let status = last_field(rest)?;
         Some(Record {
             registry,
             country,
@@ -54,14 +55,27 @@ pub(crate) fn is_heading(found: &Record) -> bool
     is_version(found.registry) || is_summary
 }
 
-// Takes the field before the first bar, if any text is left.
-fn take_field<'a>(rest: &mut Option<&'a [u8]>) -> Option<&'a [u8]>
-    ensures { MatchOption result (fields_after (option_copied rest.old) ≡ []) (λ field.
-        fields_after (option_copied rest.old) ≡ field.now ∷ fields_after (option_copied rest.new)) }
+// Takes the field before the first bar, which is empty where no text is left.
+fn take_field<'a>(rest: &mut Option<&'a [u8]>) -> &'a [u8]
+    ensures field { result.now ≡ first_field (fields_after (option_copied rest.old)) }
+    ensures later { fields_after (option_copied rest.new)
+        ≡ later_fields (fields_after (option_copied rest.old)) }
 {
-    let text = (*rest)?;
+    let Some(text) = *rest else {
+        return b"".as_slice();
+    };
     let (piece, after) = cut_at(text, b'|');
     *rest = after;
+    trim_blanks(piece)
+}
+
+// The field before the first bar, if any text is left.
+fn last_field(rest: Option<&[u8]>) -> Option<&[u8]>
+    ensures { MatchOption result (fields_after (option_copied rest.entry) ≡ []) (λ field.
+        fields_after (option_copied rest.entry)
+        ≡ field.now ∷ later_fields (fields_after (option_copied rest.entry))) }
+{
+    let (piece, _) = cut_at(rest?, b'|');
     Some(trim_blanks(piece))
 }
 
@@ -113,24 +127,12 @@ fn is_version(field: &[u8]) -> bool
 fn is_summary_line(line: &[u8]) -> bool
     ensures { result ≡ is_summary_line (fields line.now) }
 {
-    match star_and_word(line) {
-        Some((star, word)) => star == b"*".as_slice() && word == b"summary".as_slice(),
-        None => false,
-    }
-}
-
-// The second and the sixth field.
-fn star_and_word(line: &[u8]) -> Option<(&[u8], &[u8])>
-    ensures { MatchOption result
-        (is_summary_line (fields line.now) ≡ false) (λ found. is_summary_line (fields line.now)
-        ≡ (same_text found.0.now (codes "*") && same_text found.1.now (codes "summary"))) }
-{
     let mut rest = Some(line);
-    let _registry = take_field(&mut rest)?;
-    let star = take_field(&mut rest)?;
-    let _kind = take_field(&mut rest)?;
-    let _none = take_field(&mut rest)?;
-    let _count = take_field(&mut rest)?;
-    let word = take_field(&mut rest)?;
-    Some((star, word))
+    let _registry = take_field(&mut rest);
+    let star = take_field(&mut rest);
+    let _kind = take_field(&mut rest);
+    let _none = take_field(&mut rest);
+    let _count = take_field(&mut rest);
+    let word = take_field(&mut rest);
+    star == b"*".as_slice() && word == b"summary".as_slice()
 }
