@@ -100,12 +100,8 @@ pub(crate) fn lower_name(alloc: Global, name: &[u8]) -> Result<Text, Memory>
     }
 }
 
-/// The value that begins behind a colon, with the lines that continue it.
-pub(crate) fn value_of<'a>(
-    alloc: Global,
-    first: &'a [u8],
-    lines: &[GroupLine],
-) -> Result<Said<'a>, Memory>
+// The value that begins behind a colon, with the lines that continue it.
+fn value_of<'a>(alloc: Global, first: &'a [u8], lines: &[GroupLine]) -> Result<Said<'a>, Memory>
     ensures { IfOk result (λ value. value ≡ continued (said_of first.entry.now) lines.now) }
 {
     let mut value = Said::of(alloc, said_of(first));
@@ -199,11 +195,29 @@ fn push_attribute<'a>(
     ensures { OnOk result (parts.new.items ≡ parts.old.items
         ++ filter (λ a. wants_name selection.now a.name) (attribute line.now lines.now ∷ [])) }
 {
-    let Some(name) = selection.attribute_name(alloc, sides.name)? else {
-        return Ok(());
-    };
-    let value = value_of(alloc, sides.value, lines)?;
+    match selection.attribute_name(alloc, sides.name)? {
+        Some(name) => push_named(alloc, name, line, sides.value, lines, parts),
+        None => Ok(()),
+    }
+}
+
+/// Adds the attribute of a name whose value begins on a line.
+pub(crate) fn push_named<'a>(
+    alloc: Global,
+    name: Text,
+    line: &GroupLine<'a>,
+    first: &'a [u8],
+    lines: &[GroupLine<'a>],
+    parts: &mut Vec<AttributeSight<'a>>,
+) -> Result<(), Memory>
+    ensures { OnOk result (parts.new.items ≡ parts.old.items ++ record {
+      name = name;
+      value = continued (said_of first.entry.now) lines.now;
+      line = line.now.0;
+    } ∷ []) }
+{
+    let value = value_of(alloc, first, lines)?;
     let line = line.number;
-    parts.push(AttributeSight { name, value, line })?;
-    Ok(())
+    let part = AttributeSight { name, value, line };
+    parts.push(part).map_err(Memory::from)
 }

@@ -18,7 +18,7 @@ use std::alloc::Global;
 use std::marker::Model;
 
 /// The open group while a piece is read: its lines that the reader holds, and those of the piece.
-#[derive(Debug, Drop)]
+#[derive(Drop)]
 pub(crate) struct Gathered<'a> {
     alloc: Global,
     held: &'a [HeldLine],
@@ -88,8 +88,7 @@ impl<'a> Gathered<'a> {
             self.clear(None);
             return Ok(());
         }
-        self.add(number, text)?;
-        Ok(())
+        self.add(number, text)
     }
 
     // Adds a line that is in the group.
@@ -143,17 +142,13 @@ impl<'a> Gathered<'a> {
             ≡ found.old.items ++ wanted selection.now (said_by (open_group self.now))) }
     {
         if let Some(line) = self.first {
-            let rule = Rule::P01;
-            found.pass(line, rule)?;
-            return Ok(());
+            return found.pass(line, Rule::P01);
         }
         if self.keeps && !self.held.is_empty() {
             let lines = self.whole()?;
-            push_items(self.alloc, selection, lines.as_slice(), found)?;
-            return Ok(());
+            return push_items(self.alloc, selection, lines.as_slice(), found);
         }
-        push_items(self.alloc, selection, self.lines.as_slice(), found)?;
-        Ok(())
+        push_items(self.alloc, selection, self.lines.as_slice(), found)
     }
 
     // The held lines and those of the piece.

@@ -12,7 +12,7 @@ use std::alloc::Global;
 use std::marker::Model;
 
 /// A line of an open group in a piece, as contracts see it a number and its bytes.
-#[derive(Debug, Drop)]
+#[derive(Drop)]
 pub(crate) struct GroupLine<'a> {
     pub number: u64,
     pub text: &'a [u8],

@@ -7,7 +7,7 @@ ghost use Rattle.rpsl_reader.specs.Objects.{items, strays};
 ghost use Rattle.rpsl_reader.specs.Selections.{wanted, wants_name};
 ghost use Rattle.rpsl_reader.specs.declared.item.Item.TheVariants.{Passed, Whole};
 
-use crate::attribute::{Sides, is_stray, push_attributes, sides_of, value_of};
+use crate::attribute::{Sides, is_stray, push_attributes, push_named, sides_of};
 use crate::line::GroupLine;
 use crate::seen::{AttributeSight, Sights};
 use crate::selection::Selection;
@@ -28,8 +28,7 @@ pub(crate) fn push_items<'a>(
     let mut left = lines;
     while let [line, rest @ ..] = left {
         if let Some(sides) = sides_of(line.text) {
-            push_first(alloc, selection, line, sides, rest, found)?;
-            return Ok(());
+            return push_first(alloc, selection, line, sides, rest, found);
         }
         push_stray(line, found)?;
         left = rest;
@@ -54,7 +53,7 @@ fn push_first<'a>(
         }) ∷ []) ++ strays lines.now)) }
 {
     if push_object(alloc, selection, line, sides, lines, found)? {
-        push_strays(lines, found)?;
+        return push_strays(lines, found);
     }
     Ok(())
 }
@@ -109,10 +108,8 @@ fn begin_object<'a>(
     } ∷ filter (λ a. wants_name selection.now a.name) (attributes lines.now)) }
     ensures strays { IfOk result (λ strays. strays ≡ list_any (λ l. is_stray l.1) lines.now) }
 {
-    let value = value_of(alloc, first, lines)?;
-    let line = line.number;
     parts.clear();
-    parts.push(AttributeSight { name, value, line })?;
+    push_named(alloc, name, line, first, lines, parts)?;
     push_attributes(alloc, selection, lines, parts)
 }
 
@@ -134,8 +131,5 @@ fn push_strays(lines: &[GroupLine], found: &mut Sights) -> Result<(), Memory>
 fn push_stray(line: &GroupLine, found: &mut Sights) -> Result<(), Memory>
     ensures { OnOk result (found.new.items ≡ found.old.items ++ Passed line.now.0 Rule.P02 ∷ []) }
 {
-    let line = line.number;
-    let rule = Rule::P02;
-    found.pass(line, rule)?;
-    Ok(())
+    found.pass(line.number, Rule::P02)
 }

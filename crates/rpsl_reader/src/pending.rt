@@ -16,8 +16,7 @@ pub(crate) fn hold(line: &mut Vec<u8>, bytes: &[u8]) -> Result<(), Memory>
 {
     let room = MOST + 1 - line.len();
     if bytes.len() <= room {
-        line.extend_from_slice(bytes)?;
-        return Ok(());
+        return line.extend_from_slice(bytes).map_err(Memory::from);
     }
     let (fits, rest) = bytes.split_at(room);
     line.extend_from_slice(fits)?;

@@ -7,7 +7,7 @@ use geo_addr::Memory;
 use std::marker::Model;
 
 /// How many lines have ended, and what stands behind the last line feed.
-#[derive(Debug, Drop)]
+#[derive(Drop)]
 pub(crate) struct Ended<'a> {
     pub lines: u64,
     pub tail: &'a [u8],
@@ -71,7 +71,6 @@ impl<'a> Progress<'a> {
         ensures rest { OnOk result (self.new ≡ record self.old { found = [] }) }
         ensures err_items { OnErr result (out.new.items ≡ out.old.items) }
     {
-        out.append(&mut self.found)?;
-        Ok(())
+        out.append(&mut self.found).map_err(Memory::from)
     }
 }

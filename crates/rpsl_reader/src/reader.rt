@@ -87,7 +87,9 @@ impl Reader {
         ensures err_items { OnErr result (out.new.items ≡ out.old.items) }
     {
         let selection = Selection::everything(self.alloc);
-        let mut progress = self.read(piece, &selection)?;
+        let read = self.read(piece, &selection);
+        drop(selection);
+        let mut progress = read?;
         let before = out.len();
         progress.give(out)?;
         match self.accept(progress) {
@@ -105,7 +107,10 @@ impl Reader {
         ensures err_items { OnErr result (out.new.items ≡ out.old.items) }
     {
         let selection = Selection::everything(self.alloc);
-        let mut found = self.read_end(&selection)?;
+        let ended = self.read_end(&selection);
+        drop(selection);
+        drop(self);
+        let mut found = ended?;
         out.append(&mut found)?;
         Ok(())
     }
@@ -320,8 +325,7 @@ fn go_on(
     ensures err_group { OnErr result (group.new.items ≡ group.old.items) }
 {
     if !ended {
-        hold(pending, tail)?;
-        return Ok(());
+        return hold(pending, tail);
     }
     let mut line = Vec::new(alloc);
     hold(&mut line, tail)?;

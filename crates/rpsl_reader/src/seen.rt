@@ -63,8 +63,7 @@ impl<'a> Said<'a> {
         if !self.joined.is_empty() {
             self.joined.push(b' ')?;
         }
-        self.joined.extend_from_slice(said)?;
-        Ok(())
+        self.joined.extend_from_slice(said).map_err(Memory::from)
     }
 }
 
@@ -170,13 +169,13 @@ impl<'a> Sights<'a> {
     pub(crate) fn pass(&mut self, line: u64, rule: Rule) -> Result<(), Memory>
         ensures { OnOk result (self.new.items ≡ self.old.items ++ Passed line rule ∷ []) }
     {
-        self.rows.push(SightRow {
+        let row = SightRow {
             line,
             from: 0,
             count: 0,
             rule: Some(rule),
-        })?;
-        Ok(())
+        };
+        self.rows.push(row).map_err(Memory::from)
     }
 
     /// Adds the object of the attributes that were begun.
