@@ -1,18 +1,19 @@
 //! A dump, read in pieces.
-ghost use Rattle.std.specs.Prelude.{◌≡◌, ◌≢◌, ◌+◌, ◌-◌, ◌<◌, ◌≤◌, ◌++◌, [], Err, IfErr, IfOk, OnOk};
-ghost use Rattle.std.specs.Prelude.{List, length, take, ℕ};
+ghost use Rattle.std.specs.Prelude.{◌≡◌, ◌≢◌, ◌+◌, ◌-◌, ◌<◌, ◌≤◌, ◌^◌, ◌++◌, ◌∷◌, [], Err, false};
+ghost use Rattle.std.specs.Prelude.{IfErr, IfOk, List, OnErr, OnOk, length, take, ℕ};
 ghost use Rattle.geo_terms.specs.declared.source.SourceFault.{SourceFault};
 ghost use Rattle.feed_refs.specs.Dumps.{AreApart, dump, in_line_order, most, noted, references};
 ghost use Rattle.feed_refs.specs.Dumps.{so_far};
 ghost use Rattle.feed_refs.specs.Readings.{ours, reading};
-ghost use Rattle.rpsl_reader.specs.Reading.{last};
+ghost use Rattle.rpsl_reader.specs.Changes.{IsChange, accepted};
+ghost use Rattle.rpsl_reader.specs.Reading.{after, given, last};
 ghost use Rattle.rpsl_reader.specs.Selections.{wanted};
 
 use crate::found::{RefsAndNotes, in_line_order};
 use crate::limits::{LONGEST_DUMP, MOST};
 use geo_addr::{List, Memory, Text};
 use geo_terms::{Dump, SourceFault, Texts};
-use rpsl_reader::{Reader, Selection};
+use rpsl_reader::{Progress, Reader, Selection};
 use std::alloc::Global;
 use std::marker::Model;
 
@@ -89,10 +90,14 @@ impl DumpReader {
             return Err(fault);
         }
         let within = first_bytes(piece, LONGEST_DUMP.saturating_sub(self.fed));
-        let mut line = Vec::new(self.alloc);
-        let (progress, seen) = self.reader.see(within, &self.selection, &mut line)?;
-        let more = RefsAndNotes::of(self.alloc, &self.slot, &seen, &mut self.urls)?;
-        drop(seen);
+        let (progress, more) = more_in_piece(
+            self.alloc,
+            &self.slot,
+            &self.selection,
+            &self.reader,
+            within,
+            &mut self.urls,
+        )?;
         if self.found.refs.len() + more.refs.len() > MOST {
             self.found = RefsAndNotes::new(self.alloc);
             self.fault = Some(SourceFault::TooMany);
@@ -103,10 +108,8 @@ impl DumpReader {
             self.fault = Some(SourceFault::TooLong);
             return Err(SourceFault::TooLong);
         }
-        self.found.reserve(&more)?;
-        self.reader.accept(progress)?;
+        go_on(&mut self.reader, &mut self.found, progress, more)?;
         self.fed += piece.len();
-        self.found.join(more);
         Ok(())
     }
 
@@ -144,6 +147,56 @@ impl DumpReader {
             notes: List::of(whole.notes),
         })
     }
+}
+
+// What a piece changes of the reader, and what the objects say that end in it.
+fn more_in_piece<'a>(
+    alloc: Global,
+    slot: &Text,
+    selection: &Selection,
+    reader: &Reader,
+    piece: &'a [u8],
+    urls: &mut Texts,
+) -> Result<(Progress<'a>, RefsAndNotes), Memory>
+    requires { reader.now.fed + length piece.now < 2 ^ 63 }
+    ensures change { IfOk result (λ both. IsChange reader.now both.0) }
+    ensures fed { IfOk result
+        (λ both. (accepted reader.now both.0).fed ≡ reader.now.fed + length piece.entry.now) }
+    ensures state { IfOk result (λ both. (accepted reader.now both.0).state
+        ≡ after reader.now.state piece.entry.now) }
+    ensures refs { IfOk result (λ both. both.1.refs.items
+        ≡ references slot.now (wanted selection.now (given reader.now.state piece.entry.now))) }
+    ensures notes { IfOk result (λ both. both.1.notes.items
+        ≡ noted slot.now (wanted selection.now (given reader.now.state piece.entry.now))) }
+{
+    let mut line = Vec::new(alloc);
+    let (progress, seen) = reader.see(piece, selection, &mut line)?;
+    let said = RefsAndNotes::of(alloc, slot, &seen, urls);
+    drop(seen);
+    let more = said?;
+    Ok((progress, more))
+}
+
+// Goes on behind a piece, with what its objects say.
+fn go_on(
+    reader: &mut Reader,
+    found: &mut RefsAndNotes,
+    progress: Progress,
+    more: RefsAndNotes,
+) -> Result<(), Memory>
+    requires { IsChange reader.old progress }
+    ensures reader { OnOk result (reader.new ≡ accepted reader.old progress.entry) }
+    ensures refs { OnOk result (found.new.refs.items ≡ found.old.refs.items ++ more.refs.items) }
+    ensures notes { OnOk result
+        (found.new.notes.items ≡ found.old.notes.items ++ more.notes.items) }
+    ensures err_reader { OnErr result (reader.new ≡ reader.old) }
+    ensures err_refs { OnErr result (found.new.refs.items ≡ found.old.refs.items) }
+    ensures err_notes { OnErr result (found.new.notes.items ≡ found.old.notes.items) }
+{
+    found.reserve(&more)?;
+    reader.accept(progress)?;
+    found.join(more);
+    Ok(())
 }
 
 // What the last object of a dump says.
@@ -191,12 +244,33 @@ fn our_selection(alloc: Global) -> Result<Selection, Memory>
     ensures { IfOk result (λ selection. selection ≡ ours) }
 {
     let mut selection = Selection::new(alloc);
-    selection.add_class(Text::of(alloc, "inetnum")?)?;
-    selection.add_class(Text::of(alloc, "inet6num")?)?;
-    selection.add_name(Text::of(alloc, "geofeed")?)?;
-    selection.add_name(Text::of(alloc, "remarks")?)?;
-    selection.add_name(Text::of(alloc, "last-modified")?)?;
+    add_ours(alloc, &mut selection)?;
     Ok(selection)
+}
+
+fn add_ours(alloc: Global, selection: &mut Selection) -> Result<(), Memory>
+    requires { selection.old ≡ record { everything = false; classes = []; names = [] } }
+    ensures { OnOk result (selection.new ≡ ours) }
+{
+    add_class(alloc, selection, "inetnum")?;
+    add_class(alloc, selection, "inet6num")?;
+    add_name(alloc, selection, "geofeed")?;
+    add_name(alloc, selection, "remarks")?;
+    add_name(alloc, selection, "last-modified")
+}
+
+fn add_class(alloc: Global, selection: &mut Selection, name: &str) -> Result<(), Memory>
+    ensures { OnOk result (selection.new
+        ≡ record selection.old { classes = selection.old.classes ++ name.now ∷ [] }) }
+{
+    selection.add_class(Text::of(alloc, name)?)
+}
+
+fn add_name(alloc: Global, selection: &mut Selection, name: &str) -> Result<(), Memory>
+    ensures { OnOk result (selection.new
+        ≡ record selection.old { names = selection.old.names ++ name.now ∷ [] }) }
+{
+    selection.add_name(Text::of(alloc, name)?)
 }
 
 // At most so many bytes of a piece.

@@ -1,5 +1,5 @@
 -- The reader stands for the text and the piece, by what the items of the piece say.
-use Rattle.std.proofs.Common.{◌≡◌, ◌+◌, ◌-◌, ◌<◌, ◌≤◌, ◌++◌, length, ap, refl, arith, ◌∙◌}
+use Rattle.std.proofs.Common.{◌≡◌, ◌+◌, ◌-◌, ◌<◌, ◌≤◌, length, ap, refl, arith, ◌∙◌}
 use Rattle.geo_terms.specs.declared.source.SourceFault.TheVariants.{TooLong, TooMany}
 use Rattle.rpsl_reader.specs.Reading.{Fed, given}
 use Rattle.feed_refs.specs.Dumps.{longest, most}
@@ -47,8 +47,8 @@ returns-in-Some-clause-refused c =
     (is_faulty c.self.inside.slot k c.self.inside.fault c.in-Some.fault c.in-Some.is c.args.self.now
     c.self.view_is) _ (refl, refl)
 
-pub see-requires : goal.see-requires
-see-requires c =
+pub more_in_piece-requires : goal.more_in_piece-requires
+more_in_piece-requires c =
     let k : Kept =
     record {
       reader = c.self.inside.reader;
@@ -79,17 +79,16 @@ invariant_of-self-then-len-gt-MOST c =
     c.first_bytes-within.result.now c.first_bytes-within.ensures c.saturating_sub.ensures
     c.self.invariant.counted in
     let said =
-    refs_are c.self.inside.slot c.in_ok-progress.seen.items c.in_ok-progress.seen.items
-    (given k.reader.state c.first_bytes-within.result.now) c.self.inside.selection
-    refl c.in_ok-progress.ensures.items c.self.invariant.asked
-    c.in_ok-more.more.refs.items c.in_ok-more.ensures.refs in
-    let over : most < length k.refs + length c.in_ok-more.more.refs.items = omega (
+    refs_are c.self.inside.slot _ _ (given k.reader.state c.first_bytes-within.result.now)
+    c.self.inside.selection refl refl c.self.invariant.asked
+    c.in_ok-progress.more.refs.items c.in_ok-progress.ensures.refs in
+    let over : most < length k.refs + length c.in_ok-progress.more.refs.items = omega (
       arith,
       c.if-len-gt-MOST.true,
       c.len.ensures,
       c.len-2.ensures,
       c.self.inside.found.refs.ok,
-      c.in_ok-more.more.refs.ok,
+      c.in_ok-progress.more.refs.ok,
     ) in
     record {
       asked = c.self.invariant.asked;
@@ -97,7 +96,7 @@ invariant_of-self-then-len-gt-MOST c =
       fed =
           fault_held c.self.inside.slot k c.self.inside.fault c.in_default.is c.args.piece.now
           TooMany (leads_many c.self.inside.slot k c.args.piece.now c.first_bytes-within.result.now
-          c.in_ok-more.more.refs.items is said over) c.self.invariant.fed;
+          c.in_ok-progress.more.refs.items is said over) c.self.invariant.fed;
     }
 
 pub returns-then-len-gt-MOST-clause-read : goal.returns-then-len-gt-MOST-clause-read
@@ -113,21 +112,20 @@ returns-then-len-gt-MOST-clause-read c = λ ne text h.
     c.first_bytes-within.result.now c.first_bytes-within.ensures c.saturating_sub.ensures
     c.self.invariant.counted in
     let said =
-    refs_are c.self.inside.slot c.in_ok-progress.seen.items c.in_ok-progress.seen.items
-    (given k.reader.state c.first_bytes-within.result.now) c.self.inside.selection
-    refl c.in_ok-progress.ensures.items c.self.invariant.asked
-    c.in_ok-more.more.refs.items c.in_ok-more.ensures.refs in
-    let over : most < length k.refs + length c.in_ok-more.more.refs.items = omega (
+    refs_are c.self.inside.slot _ _ (given k.reader.state c.first_bytes-within.result.now)
+    c.self.inside.selection refl refl c.self.invariant.asked
+    c.in_ok-progress.more.refs.items c.in_ok-progress.ensures.refs in
+    let over : most < length k.refs + length c.in_ok-progress.more.refs.items = omega (
       arith,
       c.if-len-gt-MOST.true,
       c.len.ensures,
       c.len-2.ensures,
       c.self.inside.found.refs.ok,
-      c.in_ok-more.more.refs.ok,
+      c.in_ok-progress.more.refs.ok,
     ) in
     (fault_found c.self.inside.slot k c.self.inside.fault c.in_default.is c.args.piece.now TooMany
     (leads_many c.self.inside.slot k c.args.piece.now c.first_bytes-within.result.now
-    c.in_ok-more.more.refs.items is said over) c.args.self.now c.self.view_is text h).0
+    c.in_ok-progress.more.refs.items is said over) c.args.self.now c.self.view_is text h).0
 
 pub returns-then-len-gt-MOST-clause-answer : goal.returns-then-len-gt-MOST-clause-answer
 returns-then-len-gt-MOST-clause-answer c = λ ne text h.
@@ -142,21 +140,20 @@ returns-then-len-gt-MOST-clause-answer c = λ ne text h.
     c.first_bytes-within.result.now c.first_bytes-within.ensures c.saturating_sub.ensures
     c.self.invariant.counted in
     let said =
-    refs_are c.self.inside.slot c.in_ok-progress.seen.items c.in_ok-progress.seen.items
-    (given k.reader.state c.first_bytes-within.result.now) c.self.inside.selection
-    refl c.in_ok-progress.ensures.items c.self.invariant.asked
-    c.in_ok-more.more.refs.items c.in_ok-more.ensures.refs in
-    let over : most < length k.refs + length c.in_ok-more.more.refs.items = omega (
+    refs_are c.self.inside.slot _ _ (given k.reader.state c.first_bytes-within.result.now)
+    c.self.inside.selection refl refl c.self.invariant.asked
+    c.in_ok-progress.more.refs.items c.in_ok-progress.ensures.refs in
+    let over : most < length k.refs + length c.in_ok-progress.more.refs.items = omega (
       arith,
       c.if-len-gt-MOST.true,
       c.len.ensures,
       c.len-2.ensures,
       c.self.inside.found.refs.ok,
-      c.in_ok-more.more.refs.ok,
+      c.in_ok-progress.more.refs.ok,
     ) in
     (fault_found c.self.inside.slot k c.self.inside.fault c.in_default.is c.args.piece.now TooMany
     (leads_many c.self.inside.slot k c.args.piece.now c.first_bytes-within.result.now
-    c.in_ok-more.more.refs.items is said over) c.args.self.now c.self.view_is text h).1
+    c.in_ok-progress.more.refs.items is said over) c.args.self.now c.self.view_is text h).1
 
 pub invariant_of-self-then-within-piece : goal.invariant_of-self-then-within-piece
 invariant_of-self-then-within-piece c =
@@ -171,17 +168,16 @@ invariant_of-self-then-within-piece c =
     c.first_bytes-within.result.now c.first_bytes-within.ensures c.saturating_sub.ensures
     c.self.invariant.counted in
     let said =
-    refs_are c.self.inside.slot c.in_ok-progress.seen.items c.in_ok-progress.seen.items
-    (given k.reader.state c.first_bytes-within.result.now) c.self.inside.selection
-    refl c.in_ok-progress.ensures.items c.self.invariant.asked
-    c.in_ok-more.more.refs.items c.in_ok-more.ensures.refs in
-    let few : length k.refs + length c.in_ok-more.more.refs.items ≤ most = omega (
+    refs_are c.self.inside.slot _ _ (given k.reader.state c.first_bytes-within.result.now)
+    c.self.inside.selection refl refl c.self.invariant.asked
+    c.in_ok-progress.more.refs.items c.in_ok-progress.ensures.refs in
+    let few : length k.refs + length c.in_ok-progress.more.refs.items ≤ most = omega (
       arith,
       c.if-len-gt-MOST.false,
       c.len.ensures,
       c.len-2.ensures,
       c.self.inside.found.refs.ok,
-      c.in_ok-more.more.refs.ok,
+      c.in_ok-progress.more.refs.ok,
     ) in
     record {
       asked = c.self.invariant.asked;
@@ -189,7 +185,7 @@ invariant_of-self-then-within-piece c =
       fed =
           fault_held c.self.inside.slot k c.self.inside.fault c.in_default.is c.args.piece.now
           TooLong (leads_long c.self.inside.slot k c.args.piece.now c.first_bytes-within.result.now
-          c.in_ok-more.more.refs.items is said few c.if-within-piece.true) c.self.invariant.fed;
+          c.in_ok-progress.more.refs.items is said few c.if-within-piece.true) c.self.invariant.fed;
     }
 
 pub returns-then-within-piece-clause-read : goal.returns-then-within-piece-clause-read
@@ -205,21 +201,20 @@ returns-then-within-piece-clause-read c = λ ne text h.
     c.first_bytes-within.result.now c.first_bytes-within.ensures c.saturating_sub.ensures
     c.self.invariant.counted in
     let said =
-    refs_are c.self.inside.slot c.in_ok-progress.seen.items c.in_ok-progress.seen.items
-    (given k.reader.state c.first_bytes-within.result.now) c.self.inside.selection
-    refl c.in_ok-progress.ensures.items c.self.invariant.asked
-    c.in_ok-more.more.refs.items c.in_ok-more.ensures.refs in
-    let few : length k.refs + length c.in_ok-more.more.refs.items ≤ most = omega (
+    refs_are c.self.inside.slot _ _ (given k.reader.state c.first_bytes-within.result.now)
+    c.self.inside.selection refl refl c.self.invariant.asked
+    c.in_ok-progress.more.refs.items c.in_ok-progress.ensures.refs in
+    let few : length k.refs + length c.in_ok-progress.more.refs.items ≤ most = omega (
       arith,
       c.if-len-gt-MOST.false,
       c.len.ensures,
       c.len-2.ensures,
       c.self.inside.found.refs.ok,
-      c.in_ok-more.more.refs.ok,
+      c.in_ok-progress.more.refs.ok,
     ) in
     (fault_found c.self.inside.slot k c.self.inside.fault c.in_default.is c.args.piece.now TooLong
     (leads_long c.self.inside.slot k c.args.piece.now c.first_bytes-within.result.now
-    c.in_ok-more.more.refs.items is said few c.if-within-piece.true) c.args.self.now
+    c.in_ok-progress.more.refs.items is said few c.if-within-piece.true) c.args.self.now
     c.self.view_is text h).0
 
 pub returns-then-within-piece-clause-answer : goal.returns-then-within-piece-clause-answer
@@ -235,21 +230,20 @@ returns-then-within-piece-clause-answer c = λ ne text h.
     c.first_bytes-within.result.now c.first_bytes-within.ensures c.saturating_sub.ensures
     c.self.invariant.counted in
     let said =
-    refs_are c.self.inside.slot c.in_ok-progress.seen.items c.in_ok-progress.seen.items
-    (given k.reader.state c.first_bytes-within.result.now) c.self.inside.selection
-    refl c.in_ok-progress.ensures.items c.self.invariant.asked
-    c.in_ok-more.more.refs.items c.in_ok-more.ensures.refs in
-    let few : length k.refs + length c.in_ok-more.more.refs.items ≤ most = omega (
+    refs_are c.self.inside.slot _ _ (given k.reader.state c.first_bytes-within.result.now)
+    c.self.inside.selection refl refl c.self.invariant.asked
+    c.in_ok-progress.more.refs.items c.in_ok-progress.ensures.refs in
+    let few : length k.refs + length c.in_ok-progress.more.refs.items ≤ most = omega (
       arith,
       c.if-len-gt-MOST.false,
       c.len.ensures,
       c.len-2.ensures,
       c.self.inside.found.refs.ok,
-      c.in_ok-more.more.refs.ok,
+      c.in_ok-progress.more.refs.ok,
     ) in
     (fault_found c.self.inside.slot k c.self.inside.fault c.in_default.is c.args.piece.now TooLong
     (leads_long c.self.inside.slot k c.args.piece.now c.first_bytes-within.result.now
-    c.in_ok-more.more.refs.items is said few c.if-within-piece.true) c.args.self.now
+    c.in_ok-progress.more.refs.items is said few c.if-within-piece.true) c.args.self.now
     c.self.view_is text h).1
 
 pub invariant_of-self-2 : goal.invariant_of-self-2
@@ -265,38 +259,35 @@ invariant_of-self-2 c =
     c.first_bytes-within.result.now c.first_bytes-within.ensures c.saturating_sub.ensures
     c.self.invariant.counted in
     let said =
-    refs_are c.self.inside.slot c.in_ok-progress.seen.items c.in_ok-progress.seen.items
-    (given k.reader.state c.first_bytes-within.result.now) c.self.inside.selection
-    refl c.in_ok-progress.ensures.items c.self.invariant.asked
-    c.in_ok-more.more.refs.items c.in_ok-more.ensures.refs in
+    refs_are c.self.inside.slot _ _ (given k.reader.state c.first_bytes-within.result.now)
+    c.self.inside.selection refl refl c.self.invariant.asked
+    c.in_ok-progress.more.refs.items c.in_ok-progress.ensures.refs in
     let told =
-    notes_are c.self.inside.slot c.in_ok-progress.seen.items c.in_ok-progress.seen.items
-    (given k.reader.state c.first_bytes-within.result.now) c.self.inside.selection
-    refl c.in_ok-progress.ensures.items c.self.invariant.asked
-    c.in_ok-more.more.notes.items c.in_ok-more.ensures.notes in
-    let few : length k.refs + length c.in_ok-more.more.refs.items ≤ most = omega (
+    notes_are c.self.inside.slot _ _ (given k.reader.state c.first_bytes-within.result.now)
+    c.self.inside.selection refl refl c.self.invariant.asked
+    c.in_ok-progress.more.notes.items c.in_ok-progress.ensures.notes in
+    let few : length k.refs + length c.in_ok-progress.more.refs.items ≤ most = omega (
       arith,
       c.if-len-gt-MOST.false,
       c.len.ensures,
       c.len-2.ensures,
       c.self.inside.found.refs.ok,
-      c.in_ok-more.more.refs.ok,
+      c.in_ok-progress.more.refs.ok,
     ) in
     let next : Kept =
     record {
-      reader = c.accept.new.self;
-      refs = c.join.new.self.refs.items;
-      notes = c.join.new.self.notes.items;
+      reader = c.go_on.new.reader;
+      refs = c.go_on.new.found.refs.items;
+      notes = c.go_on.new.found.notes.items;
     } in
     let fed : next.reader.fed ≡ k.reader.fed + length c.first_bytes-within.result.now =
-    ap (λ (r : Fed). r.fed) c.in_ok-accept.ensures.ok ∙ c.in_ok-progress.ensures.fed in
+    ap (λ (r : Fed). r.fed) c.in_ok-go_on.ensures.reader ∙ c.in_ok-progress.ensures.fed in
     let leads =
     leads_on c.self.inside.slot k c.args.piece.now c.first_bytes-within.result.now
-    c.in_ok-more.more.refs.items is said few c.if-within-piece.false
-    c.in_ok-more.more.notes.items told next fed
-    (ap (λ (r : Fed). r.state) c.in_ok-accept.ensures.ok ∙ c.in_ok-progress.ensures.state)
-    (c.join.ensures.refs ∙ ap (λ t. t ++ c.in_ok-more.more.refs.items) c.reserve.ensures.refs)
-    (c.join.ensures.notes ∙ ap (λ t. t ++ c.in_ok-more.more.notes.items) c.reserve.ensures.notes) in
+    c.in_ok-progress.more.refs.items is said few c.if-within-piece.false
+    c.in_ok-progress.more.notes.items told next fed
+    (ap (λ (r : Fed). r.state) c.in_ok-go_on.ensures.reader ∙ c.in_ok-progress.ensures.state)
+    c.in_ok-go_on.ensures.refs c.in_ok-go_on.ensures.notes in
     let short : k.reader.fed ≤ longest =
     fed-le-longest c.self.inside.slot k c.self.inside.fault c.in_default.is
     c.self.invariant.fed in
@@ -324,38 +315,35 @@ returns-clause-read c = λ ne text h.
     c.first_bytes-within.result.now c.first_bytes-within.ensures c.saturating_sub.ensures
     c.self.invariant.counted in
     let said =
-    refs_are c.self.inside.slot c.in_ok-progress.seen.items c.in_ok-progress.seen.items
-    (given k.reader.state c.first_bytes-within.result.now) c.self.inside.selection
-    refl c.in_ok-progress.ensures.items c.self.invariant.asked
-    c.in_ok-more.more.refs.items c.in_ok-more.ensures.refs in
+    refs_are c.self.inside.slot _ _ (given k.reader.state c.first_bytes-within.result.now)
+    c.self.inside.selection refl refl c.self.invariant.asked
+    c.in_ok-progress.more.refs.items c.in_ok-progress.ensures.refs in
     let told =
-    notes_are c.self.inside.slot c.in_ok-progress.seen.items c.in_ok-progress.seen.items
-    (given k.reader.state c.first_bytes-within.result.now) c.self.inside.selection
-    refl c.in_ok-progress.ensures.items c.self.invariant.asked
-    c.in_ok-more.more.notes.items c.in_ok-more.ensures.notes in
-    let few : length k.refs + length c.in_ok-more.more.refs.items ≤ most = omega (
+    notes_are c.self.inside.slot _ _ (given k.reader.state c.first_bytes-within.result.now)
+    c.self.inside.selection refl refl c.self.invariant.asked
+    c.in_ok-progress.more.notes.items c.in_ok-progress.ensures.notes in
+    let few : length k.refs + length c.in_ok-progress.more.refs.items ≤ most = omega (
       arith,
       c.if-len-gt-MOST.false,
       c.len.ensures,
       c.len-2.ensures,
       c.self.inside.found.refs.ok,
-      c.in_ok-more.more.refs.ok,
+      c.in_ok-progress.more.refs.ok,
     ) in
     let next : Kept =
     record {
-      reader = c.accept.new.self;
-      refs = c.join.new.self.refs.items;
-      notes = c.join.new.self.notes.items;
+      reader = c.go_on.new.reader;
+      refs = c.go_on.new.found.refs.items;
+      notes = c.go_on.new.found.notes.items;
     } in
     let fed : next.reader.fed ≡ k.reader.fed + length c.first_bytes-within.result.now =
-    ap (λ (r : Fed). r.fed) c.in_ok-accept.ensures.ok ∙ c.in_ok-progress.ensures.fed in
+    ap (λ (r : Fed). r.fed) c.in_ok-go_on.ensures.reader ∙ c.in_ok-progress.ensures.fed in
     let leads =
     leads_on c.self.inside.slot k c.args.piece.now c.first_bytes-within.result.now
-    c.in_ok-more.more.refs.items is said few c.if-within-piece.false
-    c.in_ok-more.more.notes.items told next fed
-    (ap (λ (r : Fed). r.state) c.in_ok-accept.ensures.ok ∙ c.in_ok-progress.ensures.state)
-    (c.join.ensures.refs ∙ ap (λ t. t ++ c.in_ok-more.more.refs.items) c.reserve.ensures.refs)
-    (c.join.ensures.notes ∙ ap (λ t. t ++ c.in_ok-more.more.notes.items) c.reserve.ensures.notes) in
+    c.in_ok-progress.more.refs.items is said few c.if-within-piece.false
+    c.in_ok-progress.more.notes.items told next fed
+    (ap (λ (r : Fed). r.state) c.in_ok-go_on.ensures.reader ∙ c.in_ok-progress.ensures.state)
+    c.in_ok-go_on.ensures.refs c.in_ok-go_on.ensures.notes in
     (read_on c.self.inside.slot k c.self.inside.fault c.in_default.is c.args.piece.now next leads
     c.args.self.now c.self.view_is text h).0
 
@@ -372,38 +360,35 @@ returns-clause-answer c = λ ne text h.
     c.first_bytes-within.result.now c.first_bytes-within.ensures c.saturating_sub.ensures
     c.self.invariant.counted in
     let said =
-    refs_are c.self.inside.slot c.in_ok-progress.seen.items c.in_ok-progress.seen.items
-    (given k.reader.state c.first_bytes-within.result.now) c.self.inside.selection
-    refl c.in_ok-progress.ensures.items c.self.invariant.asked
-    c.in_ok-more.more.refs.items c.in_ok-more.ensures.refs in
+    refs_are c.self.inside.slot _ _ (given k.reader.state c.first_bytes-within.result.now)
+    c.self.inside.selection refl refl c.self.invariant.asked
+    c.in_ok-progress.more.refs.items c.in_ok-progress.ensures.refs in
     let told =
-    notes_are c.self.inside.slot c.in_ok-progress.seen.items c.in_ok-progress.seen.items
-    (given k.reader.state c.first_bytes-within.result.now) c.self.inside.selection
-    refl c.in_ok-progress.ensures.items c.self.invariant.asked
-    c.in_ok-more.more.notes.items c.in_ok-more.ensures.notes in
-    let few : length k.refs + length c.in_ok-more.more.refs.items ≤ most = omega (
+    notes_are c.self.inside.slot _ _ (given k.reader.state c.first_bytes-within.result.now)
+    c.self.inside.selection refl refl c.self.invariant.asked
+    c.in_ok-progress.more.notes.items c.in_ok-progress.ensures.notes in
+    let few : length k.refs + length c.in_ok-progress.more.refs.items ≤ most = omega (
       arith,
       c.if-len-gt-MOST.false,
       c.len.ensures,
       c.len-2.ensures,
       c.self.inside.found.refs.ok,
-      c.in_ok-more.more.refs.ok,
+      c.in_ok-progress.more.refs.ok,
     ) in
     let next : Kept =
     record {
-      reader = c.accept.new.self;
-      refs = c.join.new.self.refs.items;
-      notes = c.join.new.self.notes.items;
+      reader = c.go_on.new.reader;
+      refs = c.go_on.new.found.refs.items;
+      notes = c.go_on.new.found.notes.items;
     } in
     let fed : next.reader.fed ≡ k.reader.fed + length c.first_bytes-within.result.now =
-    ap (λ (r : Fed). r.fed) c.in_ok-accept.ensures.ok ∙ c.in_ok-progress.ensures.fed in
+    ap (λ (r : Fed). r.fed) c.in_ok-go_on.ensures.reader ∙ c.in_ok-progress.ensures.fed in
     let leads =
     leads_on c.self.inside.slot k c.args.piece.now c.first_bytes-within.result.now
-    c.in_ok-more.more.refs.items is said few c.if-within-piece.false
-    c.in_ok-more.more.notes.items told next fed
-    (ap (λ (r : Fed). r.state) c.in_ok-accept.ensures.ok ∙ c.in_ok-progress.ensures.state)
-    (c.join.ensures.refs ∙ ap (λ t. t ++ c.in_ok-more.more.refs.items) c.reserve.ensures.refs)
-    (c.join.ensures.notes ∙ ap (λ t. t ++ c.in_ok-more.more.notes.items) c.reserve.ensures.notes) in
+    c.in_ok-progress.more.refs.items is said few c.if-within-piece.false
+    c.in_ok-progress.more.notes.items told next fed
+    (ap (λ (r : Fed). r.state) c.in_ok-go_on.ensures.reader ∙ c.in_ok-progress.ensures.state)
+    c.in_ok-go_on.ensures.refs c.in_ok-go_on.ensures.notes in
     (read_on c.self.inside.slot k c.self.inside.fault c.in_default.is c.args.piece.now next leads
     c.args.self.now c.self.view_is text h).1
 
