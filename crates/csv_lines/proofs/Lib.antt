@@ -8,4 +8,5 @@ pub mod OrderLemmas
 pub mod RestLemmas
 pub mod ScanLemmas
 pub mod TailLemmas
+pub mod TakenLemmas
 pub mod TextLemmas

@@ -181,7 +181,7 @@ fn fates<T: Accepted>(alloc: Global, rows: &[T]) -> Result<Vec<Fate>, Memory>
     let seen = seen_in(alloc, rows)?;
     let mut fates = Vec::with_capacity(alloc, rows.len())?;
     for row in rows {
-        fates.push(fate_in(&seen, row)).map_err(Memory::from)?;
+        fates.push(fate_in(&seen, row))?;
     }
     Ok(fates)
 }
@@ -252,7 +252,7 @@ fn ranges_of<T: Accepted>(alloc: Global, rows: &[T]) -> Result<Vec<Range>, Memor
 {
     let mut ranges = Vec::with_capacity(alloc, rows.len())?;
     for row in rows {
-        ranges.push(row.range()).map_err(Memory::from)?;
+        ranges.push(row.range())?;
     }
     Ok(ranges)
 }
@@ -369,7 +369,7 @@ fn push_some(faults: &mut Vec<LineNote>, fault: Option<LineNote>) -> Result<(), 
     ensures { OnOk result (faults.new.items ≡ faults.old.items ++ option_to_list fault) }
 {
     if let Some(fault) = fault {
-        faults.push(fault).map_err(Memory::from)?;
+        faults.push(fault)?;
     }
     Ok(())
 }

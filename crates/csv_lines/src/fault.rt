@@ -20,7 +20,7 @@ pub(crate) fn merged(
     let mut left = early;
     for fault in late {
         left = take_before(left, fault.line, &mut all)?;
-        all.push(*fault).map_err(Memory::from)?;
+        all.push(*fault)?;
     }
     all.extend_from_slice(left)?;
     Ok(all)
@@ -42,7 +42,7 @@ fn take_before<'a>(
         if first.line >= line {
             break;
         }
-        all.push(*first).map_err(Memory::from)?;
+        all.push(*first)?;
         left = rest;
     }
     Ok(left)

@@ -27,7 +27,7 @@ pub fn all_handed(alloc: Global, file: &[u8]) -> Result<Vec<u8>, Memory>
     ensures { IfOk result (λ handed. handed.items ≡ 10 ∷ all_handed (numbered_lines file.now)) }
 {
     let mut handed = Vec::new(alloc);
-    handed.push(b'\n').map_err(Memory::from)?;
+    handed.push(b'\n')?;
     if is_unquoted(file) {
         return Ok(handed);
     }
@@ -52,7 +52,7 @@ fn hand(line: &[u8], all: &mut Vec<u8>) -> Result<(), Memory>
         Content::NoFields => {}
         Content::Fields => {
             all.extend_from_slice(rest)?;
-            all.push(b'\n').map_err(Memory::from)?;
+            all.push(b'\n')?;
         }
     }
     Ok(())

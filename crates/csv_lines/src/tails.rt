@@ -136,7 +136,7 @@ impl<'a> Tails<'a> {
         let count = usize::from(last) + 1;
         let mut slots = Vec::with_capacity(alloc, count)?;
         for _ in 0..count {
-            slots.push(None).map_err(Memory::from)?;
+            slots.push(None)?;
         }
         Ok(Tails {
             slots,
@@ -152,15 +152,20 @@ impl<'a> Tails<'a> {
     {
         // A tail's own slot is taken before the one beside it, and both before the map has one.
         let slot = (cut.mark & self.last) as usize;
-        let first = self.in_slot(slot)?;
-        if let Some(place) = first.place_of(cut) {
-            return Some(place);
+        match self.in_slot(slot)?.place_of(cut) {
+            Some(place) => Some(place),
+            None => self.known_beside(slot ^ 1, cut),
         }
-        let second = self.in_slot(slot ^ 1)?;
-        if let Some(place) = second.place_of(cut) {
-            return Some(place);
+    }
+
+    // The place by a tail that is not in its own slot.
+    fn known_beside(&self, slot: usize, cut: &LineCut<'a>) -> Option<&Place>
+        ensures { IfSome result (λ place. IsTail cut.now.tail place.now) }
+    {
+        match self.in_slot(slot)?.place_of(cut) {
+            Some(place) => Some(place),
+            None => self.others.get(&cut.tail)?.place_of(cut),
         }
-        self.others.get(&cut.tail)?.place_of(cut)
     }
 
     // The tail that has this slot.

@@ -1,6 +1,8 @@
 -- Where the ranges rise, no two lines have the same.
-use Rattle.std.proofs.Common.{sym, ap, rules, List}
-use Rattle.csv_lines.specs.Repeats.{merged}
+use Rattle.std.proofs.Common.{◌≡◌, ◌∙◌, sym, ap, rules, List, filter_map, length, map}
+use Rattle.std.proofs.lemmas.List.{length-map}
+use Rattle.csv_lines.specs.Repeats.{fate, fault_by, merged, repeat_faults}
+use Rattle.csv_lines.specs.declared.fate.Fate.{Fate}
 use Rattle.geo_terms.specs.declared.note.LineNote.{LineNote}
 use Rattle.csv_lines.proofs.FateLemmas.{all_kept, none_repeats}
 use Rattle.csv_lines.proofs.fate.judge.Goals as goal
@@ -17,3 +19,50 @@ returns-then-rises-clause-faults g c =
     ap (λ (t : List LineNote). merged t c.args.faults.items)
     (sym (none_repeats g.T.Accepted.line g.T.Accepted.range g.T.Accepted.said c.args.rules
     c.args.rows.items (rw c.as_slice.ensures.value at up)))
+
+pub keep-requires : goal.keep-requires
+keep-requires g c =
+    let rows : List g.row.T.Denot = c.args.rows.items in
+    let f : g.row.T.Denot → Fate =
+    fate g.T.Accepted.line g.T.Accepted.range g.T.Accepted.said rows in
+    let is : c.in_ok-fates.fates.items ≡ map f rows =
+    rw c.as_slice-2.ensures.value at c.in_ok-fates.ensures in
+    ap length (c.as_slice-7.ensures.value ∙ is) ∙ length-map rows f
+
+pub repeat_faults-requires : goal.repeat_faults-requires
+repeat_faults-requires g c =
+    let rows : List g.row.T.Denot = c.args.rows.items in
+    let f : g.row.T.Denot → Fate =
+    fate g.T.Accepted.line g.T.Accepted.range g.T.Accepted.said rows in
+    let is : c.in_ok-fates.fates.items ≡ map f rows =
+    rw c.as_slice-2.ensures.value at c.in_ok-fates.ensures in
+    ap length (c.as_slice-4.ensures.value ∙ is) ∙ length-map rows f
+    ∙ ap length (sym c.as_slice-3.ensures.value)
+
+pub returns-clause-rows : goal.returns-clause-rows
+returns-clause-rows g c =
+    let rows : List g.row.T.Denot = c.args.rows.items in
+    let f : g.row.T.Denot → Fate =
+    fate g.T.Accepted.line g.T.Accepted.range g.T.Accepted.said rows in
+    let is : c.in_ok-fates.fates.items ≡ map f rows =
+    rw c.as_slice-2.ensures.value at c.in_ok-fates.ensures in
+    c.keep.ensures f (c.as_slice-7.ensures.value ∙ is)
+
+pub returns-clause-faults : goal.returns-clause-faults
+returns-clause-faults g c =
+    let rows : List g.row.T.Denot = c.args.rows.items in
+    let f : g.row.T.Denot → Fate =
+    fate g.T.Accepted.line g.T.Accepted.range g.T.Accepted.said rows in
+    let is : c.in_ok-fates.fates.items ≡ map f rows =
+    rw c.as_slice-2.ensures.value at c.in_ok-fates.ensures in
+    let found : c.in_ok-repeated.repeated.items
+    ≡ repeat_faults g.T.Accepted.line g.T.Accepted.range g.T.Accepted.said c.args.rules rows =
+    c.in_ok-repeated.ensures f (c.as_slice-4.ensures.value ∙ is
+    ∙ ap (map f) (sym c.as_slice-3.ensures.value))
+    ∙ ap (filter_map (λ (x : g.row.T.Denot). fault_by c.args.rules (g.T.Accepted.line x) (f x)))
+    c.as_slice-3.ensures.value in
+    c.in_ok-faults.ensures
+    ∙ ap (λ (t : List LineNote). merged t c.as_slice-6.result.now)
+    (c.as_slice-5.ensures.value ∙ found)
+    ∙ ap (merged (repeat_faults g.T.Accepted.line g.T.Accepted.range g.T.Accepted.said
+    c.args.rules rows)) c.as_slice-6.ensures.value
