@@ -8,3 +8,4 @@ pub mod NestedLemmas
 pub mod RankLemmas
 pub mod ShelfLemmas
 pub mod StandLemmas
+pub mod TakenLemmas

@@ -96,7 +96,7 @@ fn take_ended<S>(opened: &mut Vec<(u128, (usize, &S))>, next: Option<u128>) -> O
         ≡ opened.new.items ++ (last, x) ∷ [])) }
     ensures fewer { IfSome result (λ _. length opened.new.items < length opened.old.items) }
 {
-    let (last, _) = *opened.last()?;
+    let last = opened.last()?.0;
     if !is_before(last, next) {
         return None;
     }
@@ -128,8 +128,7 @@ fn lies_within<S>(last: u128, opened: &[(u128, (usize, &S))]) -> bool
 fn innermost<'a, S>(opened: &[(u128, (usize, &'a S))]) -> Option<(usize, &'a S)>
     ensures { result ≡ top None opened.entry.now }
 {
-    let (_, best) = opened.last().copied()?;
-    Some(best)
+    Some(opened.last()?.1)
 }
 
 // The one that goes first; those that tie go by their indexes.
@@ -179,8 +178,7 @@ fn put_end<S>(
 fn index_of<S>(outer: Option<(usize, &S)>) -> Option<usize>
     ensures { result ≡ option_map (λ c. c.0) outer.entry }
 {
-    let (index, _) = outer?;
-    Some(index)
+    Some(outer?.0)
 }
 
 // Appends a boundary, in place of the last one where that stands at the same address.

@@ -1,9 +1,11 @@
 use Rattle.std.proofs.Common.{◌≡◌, ◌∙◌, ◌+◌, ◌<◌, ◌++◌, ◌∷◌, [], ℕ, List, Bor, Ordering, ap, arith}
-use Rattle.std.proofs.Common.{length, subst, sym, take}
+use Rattle.std.proofs.Common.{length, refl, subst, sym, take}
+use Rattle.std.specs.List.{All}
 use Rattle.std.proofs.lemmas.List.{take_all, take_more}
 use Rattle.std.proofs.lemmas.List.Elements.{All-more}
 use Rattle.geo_addr.specs.Ranges.{Ends}
 use Rattle.first_index.specs.Nested.{AreBoundariesOf, ArePassed}
+use Rattle.first_index.specs.declared.boundaries.Boundary.{Boundary}
 use Rattle.first_index.proofs.NestedLemmas.{all_passed}
 use Rattle.first_index.proofs.nested.nested_of.Goals as goal
 
@@ -46,3 +48,35 @@ returns-clause-found g c =
     (take_all i xs c.loop-statement-test.false)
     (all_passed order range (take i xs) c.loop-statement.low c.close.new.boundaries.items
     c.close.new.opened.items done.0 done.1)
+
+-- before the first statement
+none_passed : {X : Type 0} (order : X → X → Ordering) (range : X → Ends) (bs : List Boundary)
+    (os : List (ℕ × (ℕ × X))) → bs ≡ [] → os ≡ [] → ArePassed order range [] 0 bs os
+none_passed order range bs os no_bs no_os =
+    rw (no_bs, no_os) (record {
+      bound = omega arith;
+      climb = omega arith;
+      nest = tt;
+      reach = tt;
+      past = λ a lt. absurd (omega arith);
+      now = λ a le lt. refl;
+      here = λ a le lt. refl;
+      stand = λ c. refl;
+    })
+
+pub loop-statement-init : goal.loop-statement-init
+loop-statement-init g c =
+    let X = g.row.S.Denot in
+    record {
+      passed =
+          none_passed (λ (x y : Bor X). g.S.Statement.order x.now y.now)
+          (λ (x : Bor X). g.S.Statement.range x.now) c.in_ok-boundaries.boundaries.items
+          c.new-opened.result.items c.in_ok-boundaries.ensures.items c.new-opened.ensures.items;
+      kept = λ k d lt. absurd (omega arith);
+    }
+
+pub returns-clause-kept : goal.returns-clause-kept
+returns-clause-kept g c =
+    subst (λ (xs : List (ℕ × Bor g.row.S.Denot)). All (λ x. g.S.Statement.kept x.1.now) xs)
+    (take_all c.loop-statement.statement-index c.args.indexed.now c.loop-statement-test.false)
+    c.loop-statement.invariant.kept

@@ -1,4 +1,4 @@
-use Rattle.std.proofs.Common.{◌<◌, List, arith, length, refl, sym, subst}
+use Rattle.std.proofs.Common.{◌<◌, ◌∙◌, List, ap, arith, length, refl, sym, subst}
 use Rattle.std.proofs.lemmas.Grind.{common_steps}
 use Rattle.std.proofs.lemmas.Option.{slice_get_read}
 use Rattle.first_index.specs.Links.{AreLinks}
@@ -22,3 +22,31 @@ loop-index-preserved c =
           c.index-refs-index.is) (record
           { outer = c.outer_of.ensures; reach = c.reach_of.ensures }));
     }
+
+pub reach_of-requires : goal.reach_of-requires
+reach_of-requires c =
+    let within : c.loop-index.index < length c.args.refs.now = omega arith in
+    record {
+      here =
+          slice_get_read c.args.refs.now (length c.args.refs.now) c.loop-index.index
+          c.index-refs-index.result refl within c.index-refs-index.is;
+      made = ap length c.as_slice.ensures.value ∙ c.loop-index.invariant.made;
+      links = subst (λ (ls : List Link). AreLinks c.args.refs.now ls)
+          (sym c.as_slice.ensures.value) c.loop-index.invariant.links;
+      shelved = c.requires;
+    }
+
+pub outer_of-requires : goal.outer_of-requires
+outer_of-requires c =
+    let within : c.loop-index.index < length c.args.refs.now = omega arith in
+    record {
+      here =
+          slice_get_read c.args.refs.now (length c.args.refs.now) c.loop-index.index
+          c.index-refs-index.result refl within c.index-refs-index.is;
+      made = ap length c.as_slice-in-loop-index.ensures.value ∙ c.loop-index.invariant.made;
+      links = subst (λ (ls : List Link). AreLinks c.args.refs.now ls)
+          (sym c.as_slice-in-loop-index.ensures.value) c.loop-index.invariant.links;
+    }
+
+pub returns-clause-links : goal.returns-clause-links
+returns-clause-links c = c.loop-index.invariant.links
