@@ -1,7 +1,7 @@
 -- One more line has its fault.
-use Rattle.std.proofs.Common.{sym, ap, ◌≡◌, ◌∙◌, ◌++◌, ◌<◌, length, get_or, rules}
+use Rattle.std.proofs.Common.{sym, ap, ◌≡◌, ◌∙◌, ◌++◌, ◌<◌, arith, filter_map, length, get_or, rules}
 use Rattle.std.specs.Prelude.{option_to_list}
-use Rattle.std.proofs.lemmas.List.{get_or-map}
+use Rattle.std.proofs.lemmas.List.{get_or-map, take_all}
 use Rattle.csv_lines.specs.Repeats.{fault_by}
 use Rattle.csv_lines.specs.declared.fate.Fate.TheVariants.{Kept}
 use Rattle.csv_lines.proofs.FateLemmas.{faults_more}
@@ -22,3 +22,9 @@ loop-at-preserved g c f e =
     ∙ ap (λ t. t ++ option_to_list c.fault_of.result) (c.loop-at.invariant f e)
     ∙ faults_more (λ y. fault_by c.args.rules (g.T.Accepted.line y) (f y)) c.args.rows.now
     c.loop-at.at x c.fault_of.result within c.index-rows-at.is found
+
+pub returns : goal.returns
+returns g c f e =
+    c.loop-at.invariant f e
+    ∙ ap (filter_map (λ (x : g.row.T.Denot). fault_by c.args.rules (g.T.Accepted.line x) (f x)))
+    (take_all c.loop-at.at c.args.rows.now (omega arith))
