@@ -1,6 +1,6 @@
 -- One ground more.
 use Rattle.std.proofs.Common.{◌^◌, ◌<◌, ◌&&◌, ◌||◌, ◌∙◌, ℕ, List, Bool, Contains, ap, arith}
-use Rattle.std.proofs.Common.{leb, sym, subst, take}
+use Rattle.std.proofs.Common.{leb, refl, rules, sym, subst, take}
 use Rattle.std.specs.Option.{option_to_list}
 use Rattle.std.specs.Prelude.{IsTrue}
 use Rattle.std.proofs.lemmas.List.{take_all}
@@ -12,6 +12,17 @@ use Rattle.cut_segments.proofs.JoinedLemmas.{and_or, begin_more, begins_at, belo
 use Rattle.cut_segments.proofs.JoinedLemmas.{part_begins, touched_more}
 use Rattle.cut_segments.proofs.joined.joined.Goals as goal
 use Rattle.cut_segments.proofs.joined.joined.Goals.{in-Some+in_ok-push, in_default}
+
+pub loop-next-init : goal.loop-next-init
+loop-next-init c =
+    rw (c.new-kept.ensures.items, c.new-rest.ensures.items) (record {
+      same = λ a. refl;
+      below = search rules;
+      few = omega arith;
+      kept = search rules;
+      rest = search rules;
+      growing = search rules;
+    })
 
 pub loop-next-preserved : goal.loop-next-preserved
 loop-next-preserved c =
