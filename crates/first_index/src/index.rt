@@ -1,11 +1,11 @@
 //! The first of several statements that holds an address, by halving.
-ghost use Rattle.std.specs.Prelude.{◌≡◌, ◌-◌, ◌^◌, [], All, IfOk, IfSome, OnOk};
+ghost use Rattle.std.specs.Prelude.{◌≡◌, ◌-◌, ◌^◌, ◌++◌, ◌∷◌, [], ℕ, All, IfOk, IfSome, OnOk};
 ghost use Rattle.std.specs.Prelude.{None, map, option_and_then, slice_get};
 ghost use Rattle.geo_addr.specs.Ranges.{ground_first};
 ghost use Rattle.std.specs.List.{enumerate_from};
 ghost use Rattle.std.specs.List.Sorted.{IsNonDecreasingBy, IsPermutation, IsStrictlyIncreasing};
 ghost use Rattle.first_index.specs.Boundaries.{told};
-ghost use Rattle.first_index.specs.Columns.{last_ones};
+ghost use Rattle.first_index.specs.Columns.{coded_index, last_ones};
 ghost use Rattle.first_index.specs.FirstIndex.{StandAtCuts, TellsFirst, with_index};
 ghost use Rattle.first_index.specs.Nested.{AreBoundariesOf};
 
@@ -114,11 +114,26 @@ fn in_columns(alloc: Global, boundaries: &[Boundary]) -> Result<FirstIndex, Memo
     let mut codes = Vec::with_capacity(alloc, boundaries.len())?;
     for (index, boundary) in boundaries.iter().enumerate() {
         if !stands_at(boundaries, index + 1, boundary.at) {
-            points.push(boundary.at)?;
-            codes.push(coded(boundary.first)?)?;
+            put_column(&mut points, &mut codes, *boundary)?;
         }
     }
     Ok(FirstIndex { points, codes })
+}
+
+// Puts a boundary behind those in the columns.
+fn put_column(
+    points: &mut Vec<u128>,
+    codes: &mut Vec<u32>,
+    boundary: Boundary,
+) -> Result<(), Memory>
+    ensures point { OnOk result (points.new.items ≡ points.old.items ++ boundary.at ∷ []) }
+    ensures code { OnOk result ((code : ℕ) × ((coded_index code ≡ boundary.first)
+        × (codes.new.items ≡ codes.old.items ++ code ∷ []))) }
+{
+    let code = coded(boundary.first)?;
+    points.push(boundary.at)?;
+    codes.push(code)?;
+    Ok(())
 }
 
 // The statements with their indexes.

@@ -8,7 +8,7 @@ use Rattle.first_index.specs.declared.boundaries.Boundary.{Boundary}
 use Rattle.first_index.proofs.ColumnLemmas.{columns_of_last, passed_over, put_behind}
 use Rattle.first_index.proofs.index.in_columns.Goals as goal
 use Rattle.first_index.proofs.index.in_columns.Goals.{else-not-stands_at}
-use Rattle.first_index.proofs.index.in_columns.Goals.{then-not-stands_at+in_ok-push+in_ok-coded+in_ok-push-2}
+use Rattle.first_index.proofs.index.in_columns.Goals.{then-not-stands_at+in_ok-put_column}
 
 pub loop-index-preserved : goal.loop-index-preserved
 loop-index-preserved c =
@@ -20,17 +20,18 @@ loop-index-preserved c =
     let here : get_or xs i b ≡ b = sym (get_or_default xs i none b within) in
     let test = c.stands_at.ensures in
     elim c.if-not-stands_at.branch [
-      | then-not-stands_at+in_ok-push+in_ok-coded+in_ok-push-2 w ↦
+      | then-not-stands_at+in_ok-put_column w ↦
           let e : begin_at (drop (i + 1) xs) b.at ≡ false = search rules in
+          let put = w.in_ok-put_column.ensures in
           let ps : c.if-not-stands_at.points.items ≡ c.loop-index.points.items ++ b.at ∷ [] =
-          search rules in
+          rw w.points-is put.point in
           let cs : c.if-not-stands_at.codes.items
-          ≡ c.loop-index.codes.items ++ w.in_ok-coded.field-0 ∷ [] = search rules in
+          ≡ c.loop-index.codes.items ++ put.code.0 ∷ [] = rw w.codes-is put.code.1.1 in
           rw (ps, cs) (record {
             same_length = grind (arith, common_steps);
             found =
                 put_behind xs i b within here c.loop-index.points.items c.loop-index.codes.items
-                w.in_ok-coded.field-0 e c.loop-index.invariant.same_length w.in_ok-coded.ensures
+                put.code.0 e c.loop-index.invariant.same_length put.code.1.0
                 c.loop-index.invariant.found;
           })
       | else-not-stands_at w ↦
