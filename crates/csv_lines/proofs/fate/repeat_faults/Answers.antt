@@ -1,5 +1,6 @@
 -- One more line has its fault.
-use Rattle.std.proofs.Common.{sym, ap, ◌≡◌, ◌∙◌, ◌++◌, ◌<◌, arith, filter_map, length, get_or, rules}
+use Rattle.std.proofs.Common.{sym, ap, ◌≡◌, ◌∙◌, ◌++◌, ◌<◌, arith, filter_map, length, get_or}
+use Rattle.std.proofs.Common.{rules}
 use Rattle.std.specs.Prelude.{option_to_list}
 use Rattle.std.proofs.lemmas.List.{get_or-map, take_all}
 use Rattle.csv_lines.specs.Repeats.{fault_by}
