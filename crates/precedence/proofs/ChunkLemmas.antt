@@ -4,7 +4,6 @@ use Rattle.std.proofs.Common.{false, leb, List}
 use Rattle.std.proofs.Common.{[], ◌∷◌, ◌++◌, length, map, get_or, Contains, refl, sym, ap, subst}
 use Rattle.std.proofs.Common.{inl, inr, arith}
 use Rattle.std.specs.List.{All, Any}
-use Rattle.std.specs.List.Sorted.{IsStrictlyIncreasing}
 use Rattle.std.specs.Prelude.{IsTrue}
 use Rattle.std.proofs.Math.ListN.{get_or-map}
 use Rattle.std.proofs.lemmas.Bool.Decides.{nat_tests}
@@ -18,7 +17,7 @@ use Rattle.cut_segments.specs.Segments.{AreSegments, BeginIn, starts_in, starts_
 use Rattle.source_changes.specs.CutPoints.{whole}
 use Rattle.source_changes.specs.Touched.{is_touched}
 use Rattle.precedence.specs.Chunks.{AreChunks, AreSegmentsIn, BeginAt, IsLimit, IsMark, Tiles}
-use Rattle.precedence.proofs.SourceLemmas.{segments_of_sources, steady}
+use Rattle.precedence.proofs.SourceLemmas.{steady}
 
 -- one chunk more, from where the last one ended
 pub Tiles-push : (low mid : ℕ) (rs : List Ends) (r : Ends) → Tiles low rs mid → r.first ≡ mid
@@ -95,25 +94,23 @@ module _ (touched grounds : List Ends) (chunk : Ends) (same : (a : ℕ)
 
   -- segments of a chunk's grounds at the points that were gathered
   pub segments_of_chunk : (s : InForce) (bounds : List Ends) (points : List ℕ) (out : List Ends)
-      → AreCutsInside (statement_ranges s) bounds points → IsStrictlyIncreasing points
+      → AreCutsInside (statement_ranges s) bounds points
       → ((a : ℕ) → IsWithin whole a → IsTrue (is_touched grounds a)
       → Any (λ r. IsWithin r a) bounds)
       → BeginIn (starts_in touched chunk) grounds
       → AreSegments grounds points out
       → All (λ r. Contains (starts_of grounds points) r.first) out
       → AreSegmentsIn s touched chunk out
-  segments_of_chunk s bounds points out exact ascending covered begins segments begun =
-      let all = segments_of_sources s grounds bounds points exact ascending covered out segments in
-      record {
-        ranges = segments.ranges;
-        apart = segments.apart;
-        inside = λ a is. in_chunk a (segments.inside a is);
-        covered = λ a is within. segments.covered a (of_chunk a is within);
-        steady = steady s grounds out all;
-        begun = All-weaker (λ (r : Ends). Contains (starts_of grounds points) r.first)
-            (λ (r : Ends). Contains (starts_in touched chunk) r.first
-            ⊎ IsCut (statement_ranges s) r.first) one out begun;
-      }
+  segments_of_chunk s bounds points out exact covered begins segments begun = record {
+    ranges = segments.ranges;
+    apart = segments.apart;
+    inside = λ a is. in_chunk a (segments.inside a is);
+    covered = λ a is within. segments.covered a (of_chunk a is within);
+    steady = steady s grounds bounds points exact covered out segments;
+    begun = All-weaker (λ (r : Ends). Contains (starts_of grounds points) r.first)
+        (λ (r : Ends). Contains (starts_in touched chunk) r.first
+        ⊎ IsCut (statement_ranges s) r.first) one out begun;
+  }
     where
       from_ground : (c : ℕ) → Contains (map (λ r. ground_first r) grounds) c
           → Contains (starts_in touched chunk) c

@@ -74,7 +74,7 @@ impl Sources {
     ghost use Rattle.source_changes.specs.CutPoints.{whole};
     ghost use Rattle.cut_segments.specs.CutPoints.{AreCutsInside};
     ghost use Rattle.precedence.specs.Chunks.{AreChunks, AreSegmentsIn};
-    ghost use Rattle.precedence.specs.CutPoints.{AreSourceSegments, IsConstantBetween};
+    ghost use Rattle.precedence.specs.CutPoints.{IsConstantBetween};
     ghost use Rattle.source_changes.specs.Touched.{is_touched};
     ghost use Rattle.precedence.specs.Why.{reasons_of};
     ghost use Rattle.authority.specs.declared.fault.DropFault.{DropFault};
@@ -467,23 +467,6 @@ impl Sources {
         Ok(points)
     }
 
-    /// The touched grounds as ascending ranges that are disjoint, cut at the cut points of the
-    /// sources: the same is said on all of a range.
-    ///
-    /// Of the cut points it reads those that lie inside what is touched;
-    /// where that is most of them, all.
-    pub fn segments(&self, touched: &[Range]) -> Result<Vec<Range>, Memory>
-        ensures segments { IfOk result
-            (λ segments. AreSourceSegments self.now touched.now segments.items) }
-        ensures steady { IfOk result (λ segments. All (λ r. (a : ℕ) → IsWithin r a
-            → spoken_at self.now a ≡ spoken_at self.now r.first) segments.items) }
-    {
-        let bounds = self.bounds_of(touched)?;
-        let points = self.points_in(bounds.as_slice())?;
-        let segments = segments_between(self.alloc, touched, points.as_slice())?;
-        Ok(segments)
-    }
-
     /// The address space in neighbouring chunks, ascending, at most `pieces` of them, each with
     /// about as much to cut. How many there are, and how even, no clause says.
     ///
@@ -545,23 +528,6 @@ impl Sources {
         push_feed_aliases(notes, self.authority.feeds())?;
         push_file_aliases(notes, self.statistics.files())?;
         self.overriding.push_alias_notes(notes)
-    }
-
-    // Ascending ranges that are disjoint and have all that is touched: what is touched, or, where
-    // much is, the whole address space.
-    fn bounds_of(&self, touched: &[Range]) -> Result<Vec<Range>, Memory>
-        ensures ranges { IfOk result (λ bounds. All IsRange bounds.items) }
-        ensures apart { IfOk result (λ bounds. AllAdjacentBelow (λ r t. r.last < t.first)
-            bounds.items (length bounds.items)) }
-        ensures covered { IfOk result (λ bounds. (a : ℕ) → IsWithin whole a
-            → IsTrue (is_touched touched.now a) → Any (λ r. IsWithin r a) bounds.items) }
-    {
-        if self.is_most(touched) {
-            let bounds = vec![in self.alloc; whole()]?;
-            return Ok(bounds);
-        }
-        let bounds = segments_between(self.alloc, touched, &[])?;
-        Ok(bounds)
     }
 
     // Ascending ranges that are disjoint and have these grounds, which lie in a chunk: the grounds,

@@ -139,10 +139,16 @@ fn push_segments(
     Some(())
 }
 
+// One chunk that is the whole address space.
+const WHOLE: Range = Range {
+    first: 0,
+    last: u128::MAX,
+};
+
 /// The ends of the segments of a range, and what is said on each.
 pub fn segments(alloc: Global, sources: &Sources, range: &str) -> Option<String> {
     let touched = parse_span(range.as_bytes()).ok()?;
-    let segments = sources.segments(&[touched]).ok()?;
+    let segments = sources.segments_in(&[touched], WHOLE).ok()?;
     let mut text = String::new(alloc);
     push_segments(alloc, sources, segments.as_slice(), &mut text)?;
     Some(text)

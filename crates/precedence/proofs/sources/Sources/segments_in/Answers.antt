@@ -27,7 +27,6 @@ returns c =
     let out = c.in_ok-segments.segments.items in
     segments_of_chunk c.args.touched.now grounds c.args.chunk c.in_ok-grounds.ensures.same
     c.args.self.now c.as_slice-2.result.now points out c.in_ok-points.ensures.exact
-    c.in_ok-points.ensures.ascending
     (λ a within on. subst (λ (rs : List Ends). Any (λ r. IsWithin r a) rs)
     (sym c.as_slice-2.ensures.value) (c.in_ok-bounds.ensures.covered a within
     (subst (λ (gs : List Ends). IsTrue (is_touched gs a)) (sym c.as_slice.ensures.value) on)))
