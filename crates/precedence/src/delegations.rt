@@ -1,11 +1,12 @@
 //! The delegations of several files, file by file.
-ghost use Rattle.std.specs.Prelude.{◌≡◌, ◌≤◌, ◌<◌, IfOk, flat_map, length, map};
-ghost use Rattle.std.specs.Prelude.{option_map, slice_get};
+ghost use Rattle.std.specs.Prelude.{◌≡◌, ◌≤◌, ◌<◌, ◌++◌, IfOk, OnOk, flat_map, length, map};
+ghost use Rattle.std.specs.Prelude.{slice_get};
 ghost use Rattle.std.specs.Arc.{arc_value};
 ghost use Rattle.std.specs.List.Sorted.{IsNonDecreasing, IsPartitionPoint};
-ghost use Rattle.std.specs.Option.{option_copied};
+ghost use Rattle.std.specs.Option.{option_and_then, option_copied};
+ghost use Rattle.authority.specs.Kinds.{IsKindIndex};
 ghost use Rattle.geo_terms.specs.First.{first_at};
-ghost use Rattle.geo_terms.specs.Precedence.{delegation_before};
+ghost use Rattle.geo_terms.specs.Precedence.{delegation_before, delegation_cmp};
 ghost use Rattle.precedence.specs.Delegations.{IsIndex, starts_from};
 
 use authority::KindIndex;
@@ -28,10 +29,26 @@ pub struct Delegations {
 pub fn indexed(alloc: Global, files: &[Arc<Stats>]) -> Result<Arc<Delegations>, Memory>
     ensures { IfOk result (λ made. IsIndex (map arc_value files.now) (arc_value made)) }
 {
-    let (rows, starts) = gathered(alloc, files)?;
-    let index = KindIndex::of_borrowed(alloc, rows.as_slice())?;
+    let mut starts = Vec::with_capacity(alloc, files.len())?;
+    let index = index_of(alloc, files, &mut starts)?;
     let made = Arc::new(alloc, Delegations { index, starts })?;
     Ok(made)
+}
+
+// The index of the delegations of several files. Where the rows of each file start is appended.
+fn index_of(
+    alloc: Global,
+    files: &[Arc<Stats>],
+    starts: &mut Vec<usize>,
+) -> Result<KindIndex, Memory>
+    ensures index { IfOk result (IsKindIndex delegation_cmp (λ d. d.range)
+        (flat_map (λ t. t.rows) (map arc_value files.now))) }
+    ensures starts { OnOk result
+        (starts.new.items ≡ starts.old.items ++ starts_from 0 (map arc_value files.now)) }
+{
+    let mut rows = Vec::new(alloc);
+    push_files(&mut rows, starts, files)?;
+    KindIndex::of_borrowed(alloc, rows.as_slice())
 }
 
 /// The delegation at an index among those of all files, whose rows start at these indexes.
@@ -45,8 +62,7 @@ pub fn delegation_at<'a>(
         ≡ slice_get (flat_map (λ t. t.rows) (map arc_value files.entry.now)) index }
 {
     let at = begun(starts, index).checked_sub(1)?;
-    let file = file_at(files, at)?;
-    row_at(file, index - starts[at])
+    row_at(files, at, index - starts[at])
 }
 
 // How many of the files that start at these indexes start at or before an index.
@@ -59,17 +75,12 @@ fn begun(starts: &[usize], index: usize) -> usize
     starts.partition_point(|start| *start <= index)
 }
 
-fn file_at(files: &[Arc<Stats>], at: usize) -> Option<&Stats>
-    ensures { option_copied result ≡ option_map arc_value (slice_get files.entry.now at) }
+// The delegation at an index of the file at an index.
+fn row_at(files: &[Arc<Stats>], at: usize, index: usize) -> Option<&Delegation>
+    ensures { option_copied result ≡ option_and_then (λ t. slice_get t.rows index)
+        (slice_get (map arc_value files.entry.now) at) }
 {
-    let file = files.get(at)?;
-    Some(file)
-}
-
-fn row_at(file: &Stats, index: usize) -> Option<&Delegation>
-    ensures { option_copied result ≡ slice_get file.entry.now.rows index }
-{
-    file.rows.as_slice().get(index)
+    files.get(at)?.rows.as_slice().get(index)
 }
 
 /// The first delegation of these files that holds an address: each one is looked at.
@@ -84,21 +95,20 @@ pub fn first_of_all(files: &[Arc<Stats>], at: Addr) -> Option<&Delegation>
     first
 }
 
-// The delegations of all files, borrowed, and where those of each file start.
-fn gathered<'a>(
-    alloc: Global,
+// Appends the delegations of all files, borrowed, and where those of each file start.
+fn push_files<'a>(
+    rows: &mut Vec<&'a Delegation>,
+    starts: &mut Vec<usize>,
     files: &'a [Arc<Stats>],
-) -> Result<(Vec<&'a Delegation>, Vec<usize>), Memory>
-    ensures rows { IfOk result (λ all. map (λ d. d.now) all.0.items
-        ≡ flat_map (λ t. t.rows) (map arc_value files.entry.now)) }
-    ensures starts { IfOk result
-        (λ all. all.1.items ≡ starts_from 0 (map arc_value files.entry.now)) }
+) -> Result<(), Memory>
+    ensures rows { OnOk result (map (λ d. d.now) rows.new.items ≡ map (λ d. d.now) rows.old.items
+        ++ flat_map (λ t. t.rows) (map arc_value files.entry.now)) }
+    ensures starts { OnOk result (starts.new.items ≡ starts.old.items
+        ++ starts_from (length rows.old.items) (map arc_value files.entry.now)) }
 {
-    let mut rows = Vec::new(alloc);
-    let mut starts = Vec::with_capacity(alloc, files.len())?;
     for file in files {
         starts.push(rows.len())?;
-        push_borrows(&mut rows, file.rows.as_slice())?;
+        push_borrows(rows, file.rows.as_slice())?;
     }
-    Ok((rows, starts))
+    Ok(())
 }

@@ -32,7 +32,7 @@ pub fn push_dump_notes(notes: &mut Vec<Note>, dumps: &[Arc<Dump>]) -> Result<(),
 {
     for dump in dumps {
         let origin = Origin::Rpsl(dump.slot.copied()?);
-        push_notes(notes, &origin, dump.notes.as_slice())?;
+        push_named(notes, origin, dump.notes.as_slice())?;
     }
     Ok(())
 }
@@ -45,7 +45,7 @@ pub fn push_feed_notes(notes: &mut Vec<Note>, feeds: &[ReadyFeed]) -> Result<(),
     for ready in feeds {
         let feed = ready.feed();
         let origin = Origin::Feed(feed.url.copied()?);
-        push_notes(notes, &origin, feed.notes.as_slice())?;
+        push_named(notes, origin, feed.notes.as_slice())?;
     }
     Ok(())
 }
@@ -57,9 +57,18 @@ pub fn push_file_notes(notes: &mut Vec<Note>, files: &[Arc<Stats>]) -> Result<()
 {
     for file in files {
         let origin = Origin::Stats(file.slot.copied()?);
-        push_notes(notes, &origin, file.notes.as_slice())?;
+        push_named(notes, origin, file.notes.as_slice())?;
     }
     Ok(())
+}
+
+// Appends the notes of one source by its name, which is let go.
+fn push_named(notes: &mut Vec<Note>, origin: Origin, more: &[LineNote]) -> Result<(), Memory>
+    ensures { OnOk result (notes.new.items ≡ notes.old.items ++ named origin more.now) }
+{
+    let pushed = push_notes(notes, &origin, more);
+    drop(origin);
+    pushed
 }
 
 fn same_origin(origin: &Origin) -> Result<Origin, Memory>

@@ -93,18 +93,8 @@ impl Overriding {
         Some(&held.overrides)
     }
 
-    /// The first override that holds an address.
-    pub fn first_at(&self, at: Addr) -> Option<&Override>
-        ensures { option_copied result
-            ≡ first_at override_before (λ o. o.range) (rows_in self.now) at.0 }
-    {
-        let held = self.held.as_ref()?;
-        let index = held.index.firsts.index_at(at)?;
-        held.overrides.rows.as_slice().get(index)
-    }
-
-    /// The first override that holds an address, as `first_at` gives it. It is looked for first
-    /// where `near` says, which is then where it was found; any number serves.
+    /// The first override that holds an address. It is looked for first where `near` says, which is
+    /// then where it was found; any number serves.
     pub fn first_near(&self, at: Addr, near: &mut usize) -> Option<&Override>
         ensures { option_copied result
             ≡ first_at override_before (λ o. o.range) (rows_in self.now) at.0 }

@@ -1,7 +1,8 @@
-//! The cut points of feeds.
+//! The cut points of feeds, and gathered cut points in order.
 ghost use Rattle.std.specs.Prelude.{◌<◌, ◌++◌, List, All, find, length, map, flat_map};
-ghost use Rattle.std.specs.Prelude.{OnOk};
+ghost use Rattle.std.specs.Prelude.{IfOk, OnOk};
 ghost use Rattle.std.specs.List.{AllAdjacentBelow};
+ghost use Rattle.std.specs.List.Sorted.{IsStrictlyIncreasing};
 ghost use Rattle.geo_addr.specs.Ranges.{Ends, IsRange, range_of_block};
 ghost use Rattle.authority.specs.Held.{url_of};
 ghost use Rattle.geo_terms.specs.PlaceForm.{same_text};
@@ -52,4 +53,17 @@ pub fn push_feed_inside(
         push_inside(cuts, feed.cuts(), bounds)?;
     }
     Ok(())
+}
+
+/// These points ascending, each once.
+pub fn in_order(points: Vec<u128>) -> Result<Vec<u128>, Memory>
+    ensures same { IfOk result (λ sorted. (ranges bounds : List Ends)
+        → AreCutsInside ranges bounds points.items → AreCutsInside ranges bounds sorted.items) }
+    ensures ascending { IfOk result (λ sorted. IsStrictlyIncreasing sorted.items) }
+{
+    let mut points = points;
+    // A merge: each list that was appended ascends.
+    points.sort()?;
+    points.dedup();
+    Ok(points)
 }

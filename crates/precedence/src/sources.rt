@@ -9,7 +9,7 @@ use crate::delegations::Delegations;
 use crate::near::Near;
 use crate::notes::{push_dump_notes, push_feed_notes, push_file_notes};
 use crate::overriding::Overriding;
-use crate::points::{push_feed_inside, push_feeds_inside};
+use crate::points::{in_order, push_feed_inside, push_feeds_inside};
 use crate::statistics::Statistics;
 use crate::why::Why;
 use authority::{Authority, DropFault, ReadyFeed, Speakers};
@@ -52,15 +52,15 @@ impl Model for Sources {
 }
 
 impl Sources {
-    ghost use Rattle.std.specs.Prelude.{◌≡◌, ◌↔◌, ◌∷◌, ◌++◌, ◌<◌, ℕ, List, Some, None, length, map};
-    ghost use Rattle.std.specs.Prelude.{find, is_some, option_map, All, Any, IfOk, IfErr, IsTrue};
+    ghost use Rattle.std.specs.Prelude.{◌≡◌, ◌++◌, ◌<◌, [], ℕ, List, Some, None, length, map};
+    ghost use Rattle.std.specs.Prelude.{is_some, option_map, All, Any, IfOk, IfErr, IsTrue};
     ghost use Rattle.std.specs.Prelude.{OnOk, OnErr};
     ghost use Rattle.std.specs.Arc.{arc_value};
     ghost use Rattle.std.specs.List.{AllAdjacentBelow};
     ghost use Rattle.std.specs.List.Sorted.{IsStrictlyIncreasing};
     ghost use Rattle.std.specs.Option.{option_copied};
-    ghost use Rattle.geo_addr.specs.Ranges.{AreCuts, IsRange, IsWithin, range_of_block};
-    ghost use Rattle.authority.specs.Held.{slot_of, url_of};
+    ghost use Rattle.geo_addr.specs.Ranges.{AreCuts, Ends, IsRange, IsWithin, range_of_block};
+    ghost use Rattle.authority.specs.Held.{AreSpeakers, slot_of, url_of};
     ghost use Rattle.geo_terms.specs.Covering.{covering};
     ghost use Rattle.geo_terms.specs.Cuts.{statement_ranges};
     ghost use Rattle.geo_terms.specs.Precedence.{first_delegation, first_override, reasons_at};
@@ -71,10 +71,11 @@ impl Sources {
     ghost use Rattle.source_changes.specs.Changes.{DropDump, DropFeed, DropOverrides, DropStats};
     ghost use Rattle.source_changes.specs.Changes.{SetDump, SetFeed, SetOverrides, SetStats};
     ghost use Rattle.source_changes.specs.Changes.{after, named};
-    ghost use Rattle.source_changes.specs.CutPoints.{whole};
+    ghost use Rattle.source_changes.specs.CutPoints.{AreCutsOf, whole};
     ghost use Rattle.cut_segments.specs.CutPoints.{AreCutsInside};
     ghost use Rattle.precedence.specs.Chunks.{AreChunks, AreSegmentsIn};
     ghost use Rattle.precedence.specs.CutPoints.{IsConstantBetween};
+    ghost use Rattle.precedence.specs.Delegations.{IsIndex};
     ghost use Rattle.source_changes.specs.Touched.{is_touched};
     ghost use Rattle.precedence.specs.Why.{reasons_of};
     ghost use Rattle.authority.specs.declared.fault.DropFault.{DropFault};
@@ -287,20 +288,6 @@ impl Sources {
     }
 
     #[tactic(auto, unfolding(geo_terms::specs::Precedence::first_override))]
-    fn override_at(&self, at: Addr) -> Option<&Override>
-        ensures { option_copied result ≡ first_override self.now at.0 }
-    {
-        self.overriding.first_at(at)
-    }
-
-    #[tactic(auto, unfolding(geo_terms::specs::Precedence::first_delegation))]
-    fn delegation_at(&self, at: Addr) -> Option<&Delegation>
-        ensures { option_copied result ≡ first_delegation self.now at.0 }
-    {
-        self.statistics.first_at(at)
-    }
-
-    #[tactic(auto, unfolding(geo_terms::specs::Precedence::first_override))]
     fn override_near(&self, at: Addr, near: &mut Near) -> Option<&Override>
         ensures { option_copied result ≡ first_override self.now at.0 }
     {
@@ -319,13 +306,6 @@ impl Sources {
         ensures { option_copied result ≡ speaker self.now at.0 }
     {
         self.authority.speaker_at(at)
-    }
-
-    #[tactic(auto, unfolding(geo_terms::specs::Precedence::speaking_entry))]
-    fn entry_at(&self, at: Addr) -> Option<&Entry>
-        ensures { option_copied result ≡ speaking_entry self.now at.0 }
-    {
-        self.authority.entry_at(at)
     }
 
     #[tactic(auto, unfolding(geo_terms::specs::Precedence::speaking_entry))]
@@ -456,15 +436,30 @@ impl Sources {
     {
         let speakers = self.authority.speakers()?;
         let more = cut_points(self.alloc, more)?;
+        self.hearing_points(&speakers, url, more.as_slice())
+    }
+
+    // The cut points of the speakers, of the entries of the feed of this URL, and some more.
+    fn hearing_points(
+        &self,
+        speakers: &Speakers,
+        url: &str,
+        more: &[u128],
+    ) -> Result<Vec<u128>, Memory>
+        requires speakers { AreSpeakers (references self.now) speakers.now }
+        requires more { IsStrictlyIncreasing more.now }
+        ensures exact { IfOk result (λ points. (ranges : List Ends) → AreCutsOf ranges more.now
+            → AreCuts (map (λ r. r.range) (references self.now)
+            ++ (map (λ e. range_of_block e.block) (entries_in (feed_of self.now url.now))
+            ++ ranges)) whole points.items) }
+        ensures ascending { IfOk result (λ points. IsStrictlyIncreasing points.items) }
+    {
         let bounds = [whole()];
         let mut points = Vec::with_capacity(self.alloc, speakers.cuts.len())?;
         push_inside(&mut points, speakers.cuts.as_slice(), &bounds)?;
         push_feed_inside(&mut points, self.authority.feeds(), url, &bounds)?;
-        push_inside(&mut points, more.as_slice(), &bounds)?;
-        // A merge: each list that was appended ascends.
-        points.sort()?;
-        points.dedup();
-        Ok(points)
+        push_inside(&mut points, more, &bounds)?;
+        in_order(points)
     }
 
     /// The address space in neighbouring chunks, ascending, at most `pieces` of them, each with
@@ -572,12 +567,7 @@ impl Sources {
 
     // How much room to make for the cut points inside ascending ranges. One range is mostly the
     // whole address space, or a chunk of it.
-    fn room_in(
-        &self,
-        speakers: &Arc<Speakers>,
-        delegations: &Arc<Delegations>,
-        bounds: &[Range],
-    ) -> usize {
+    fn room_in(&self, speakers: &Speakers, delegations: &Delegations, bounds: &[Range]) -> usize {
         if bounds.len() != 1 {
             return 0;
         }
@@ -601,18 +591,33 @@ impl Sources {
     {
         let speakers = self.authority.speakers()?;
         let delegations = self.statistics.delegations()?;
-        let mut points = Vec::with_capacity(
-            self.alloc,
-            self.room_in(&speakers, &delegations, bounds),
-        )?;
-        push_inside(&mut points, speakers.cuts.as_slice(), bounds)?;
-        push_feeds_inside(&mut points, self.authority.feeds(), bounds)?;
-        push_inside(&mut points, delegations.index.cuts(), bounds)?;
-        push_inside(&mut points, self.overriding.cuts(), bounds)?;
-        // A merge: each list that was appended ascends.
-        points.sort()?;
-        points.dedup();
-        Ok(points)
+        let room = self.room_in(&speakers, &delegations, bounds);
+        let mut points = Vec::with_capacity(self.alloc, room)?;
+        self.push_points(&mut points, &speakers, &delegations, bounds)?;
+        in_order(points)
+    }
+
+    // Appends the cut points of all sources that lie inside one of ascending ranges: those of each
+    // kind, and of each feed, ascend.
+    fn push_points(
+        &self,
+        points: &mut Vec<u128>,
+        speakers: &Speakers,
+        delegations: &Delegations,
+        bounds: &[Range],
+    ) -> Result<(), Memory>
+        requires speakers { AreSpeakers (references self.now) speakers.now }
+        requires delegations { IsIndex self.now.stats delegations.now }
+        requires ranges { All IsRange bounds.now }
+        requires apart { AllAdjacentBelow (λ r t. r.last < t.first) bounds.now (length bounds.now) }
+        ensures { OnOk result (AreCutsInside [] bounds.now points.old.items
+            → AreCutsInside (statement_ranges self.now) bounds.now points.new.items) }
+    {
+        push_inside(points, speakers.cuts.as_slice(), bounds)?;
+        push_feeds_inside(points, self.authority.feeds(), bounds)?;
+        push_inside(points, delegations.index.cuts(), bounds)?;
+        push_inside(points, self.overriding.cuts(), bounds)?;
+        Ok(())
     }
 }
 

@@ -137,17 +137,8 @@ impl Statistics {
         count
     }
 
-    /// The first delegation that holds an address.
-    pub fn first_at(&self, at: Addr) -> Option<&Delegation>
-        ensures { option_copied result
-            ≡ first_at delegation_before (λ d. d.range) (flat_map (λ t. t.rows) self.now) at.0 }
-    {
-        let mut near = 0;
-        self.first_near(at, &mut near)
-    }
-
-    /// The first delegation that holds an address, as `first_at` gives it. It is looked for first
-    /// where `near` says, which is then where it was found; any number serves.
+    /// The first delegation that holds an address. It is looked for first where `near` says, which
+    /// is then where it was found; any number serves.
     pub fn first_near(&self, at: Addr, near: &mut usize) -> Option<&Delegation>
         ensures { option_copied result
             ≡ first_at delegation_before (λ d. d.range) (flat_map (λ t. t.rows) self.now) at.0 }

@@ -1,9 +1,8 @@
-use Rattle.std.proofs.Common.{◌≡◌, ◌∙◌, ◌-◌, ℕ, suc, List, ap, arith, get_or}
+use Rattle.std.proofs.Common.{◌≡◌, ◌∙◌, ℕ, suc, List, ap, arith}
 use Rattle.std.proofs.Common.{map, slice_get, subst, sym}
 use Rattle.std.specs.Arc.{arc_value}
 use Rattle.std.specs.List.Sorted.{IsNonDecreasing}
-use Rattle.std.specs.Option.{option_and_then, option_copied}
-use Rattle.std.proofs.lemmas.Option.{slice_get-map}
+use Rattle.std.specs.Option.{option_copied}
 use Rattle.geo_terms.specs.SourceForm.{StatsParts}
 use Rattle.precedence.specs.Delegations.{starts_from}
 use Rattle.precedence.proofs.RowLemmas.{HaveBegun, all_rows, none_found, row_found, starts_rise}
@@ -29,26 +28,9 @@ overflow_sub-index c =
     let last : c.begun.result ≡ suc c.in_ok-at.at = omega (arith, c.in_ok-at.ensures) in
     c.begun.ensures.point.0 c.in_ok-at.at 0 (omega arith) (omega arith)
 
-pub returns-in_err-file : goal.returns-in_err-file
-returns-in_err-file c =
-    let last : c.begun.result ≡ suc c.in_ok-at.at = omega (arith, c.in_ok-at.ensures) in
-    ap option_copied c.from_residual-in_err-file.ensures
-    ∙ ap (option_and_then
-    (λ (t : StatsParts). slice_get t.rows
-    (c.args.index - get_or c.args.starts.now c.in_ok-at.at 0)))
-    (c.in_err-file.ensures ∙ sym (slice_get-map (arc_value {X = StatsParts}) c.args.files.now
-    c.in_ok-at.at))
-    ∙ row_found (map arc_value c.args.files.now) c.args.starts.now c.begun.result c.in_ok-at.at
-    c.args.index c.requires last c.begun.ensures.bound c.begun.ensures.point
-
 pub returns : goal.returns
 returns c =
     let last : c.begun.result ≡ suc c.in_ok-at.at = omega (arith, c.in_ok-at.ensures) in
     c.row_at.ensures
-    ∙ ap (option_and_then
-    (λ (t : StatsParts). slice_get t.rows
-    (c.args.index - get_or c.args.starts.now c.in_ok-at.at 0)))
-    (c.in_ok-file.ensures ∙ sym (slice_get-map (arc_value {X = StatsParts}) c.args.files.now
-    c.in_ok-at.at))
     ∙ row_found (map arc_value c.args.files.now) c.args.starts.now c.begun.result c.in_ok-at.at
     c.args.index c.requires last c.begun.ensures.bound c.begun.ensures.point
