@@ -1,13 +1,19 @@
 //! The statements of a source that a call replaces, and the grounds that come to those touched.
-ghost use Rattle.std.specs.Prelude.{◌≡◌, ◌+◌, ◌≤◌, ◌++◌, option_map, OnOk};
+ghost use Rattle.std.specs.Prelude.{◌≡◌, ◌+◌, ◌≤◌, ◌++◌, None, map, option_map, IfOk};
 ghost use Rattle.std.specs.Prelude.{vec_capacity, vec_len};
+ghost use Rattle.std.specs.List.Sorted.{IsPermutation};
 ghost use Rattle.std.specs.Arc.{arc_value};
 ghost use Rattle.std.specs.Option.{option_copied};
 ghost use Rattle.geo_terms.specs.Sources.{entries_in, rows_in};
+ghost use Rattle.source_changes.specs.Changed.{changed};
 ghost use Rattle.source_changes.specs.Changes.{delegations_in, references_in};
+ghost use Rattle.source_changes.specs.Touched.{ground_of};
 
+use crate::grounds::Grounds;
 use geo_addr::{Memory, Range};
 use geo_terms::{Delegation, Dump, Entry, Feed, Override, Overrides, Reference, Stats};
+use source_changes::{Compared, changed_grounds};
+use std::alloc::Global;
 use std::sync::Arc;
 
 /// The references of a dump, and none where there is no dump.
@@ -50,17 +56,37 @@ pub(crate) fn rows_of<'a>(overrides: Option<&'a Arc<Overrides>>) -> &'a [Overrid
     }
 }
 
-/// Makes room for more grounds.
-pub(crate) fn make_room(touched: &mut Vec<Range>, more: &Vec<Range>) -> Result<(), Memory>
+/// The grounds that change where new statements come for old ones, for all of which `touched` has
+/// room then.
+pub(crate) fn grounds_to_add<S: Compared>(
+    alloc: Global,
+    touched: &mut Vec<Range>,
+    old: &[S],
+    new: &[S],
+) -> Result<Vec<Range>, Memory>
     ensures items { touched.new.items ≡ touched.old.items }
-    ensures room { OnOk result (vec_len touched.new + vec_len more.now ≤ vec_capacity touched.new) }
+    ensures grounds { IfOk result (λ grounds. IsPermutation
+        (map (λ x. ground_of (S.range x)) (changed S.same old.now new.now)) grounds.items) }
+    ensures room { IfOk result
+        (λ grounds. vec_len touched.new + vec_len grounds ≤ vec_capacity touched.new) }
 {
-    touched.reserve(more.len())?;
-    Ok(())
+    let grounds = changed_grounds(alloc, old, new)?;
+    touched.reserve(grounds.len())?;
+    Ok(grounds)
 }
 
-/// Adds grounds for which there is room.
-pub(crate) fn add(touched: &mut Vec<Range>, more: Vec<Range>)
+/// Adds grounds for which there is room, so that no list has been noted of those touched now.
+pub(crate) fn touch(touched: &mut Vec<Range>, noted: &mut Option<Grounds>, more: Vec<Range>)
+    requires { vec_len touched.old + vec_len more ≤ vec_capacity touched.old }
+    ensures touched { touched.new.items ≡ touched.old.items ++ more.items }
+    ensures noted { noted.new ≡ None }
+{
+    add(touched, more);
+    *noted = None;
+}
+
+// Adds grounds for which there is room.
+fn add(touched: &mut Vec<Range>, more: Vec<Range>)
     requires { vec_len touched.old + vec_len more ≤ vec_capacity touched.old }
     ensures { touched.new.items ≡ touched.old.items ++ more.items }
 {

@@ -4,13 +4,13 @@
 //! each finds the statements that come and go, makes room for their grounds,
 //! and only then changes the sources.
 
-use crate::replaced::{add, delegations_of, entries_of, make_room, references_of, rows_of};
+use crate::replaced::{delegations_of, entries_of, grounds_to_add, references_of, rows_of, touch};
 use crate::session::Session;
 use geo_addr::Memory;
 use geo_terms::{Dump, Feed, Overrides, Stats};
 use precedence::{DropFault, ReadyFeed};
+use source_changes::keep_all;
 use source_changes::laws::{kept_by_one_more, sources_stay};
-use source_changes::{changed_grounds, keep_all};
 
 impl Session {
     ghost use Rattle.std.specs.Prelude.{◌≡◌, ◌↔◌, IsSome, None, OnOk, OnErr, Err};
@@ -29,11 +29,9 @@ impl Session {
         sources_stay();
         let new = dump.refs.as_slice();
         let old = references_of(self.sources.dump_of(dump.slot.as_str()));
-        let grounds = changed_grounds(self.alloc, old, new)?;
-        make_room(&mut self.touched, &grounds)?;
+        let grounds = grounds_to_add(self.alloc, &mut self.touched, old, new)?;
         self.sources.set_rpsl(dump)?;
-        add(&mut self.touched, grounds);
-        self.noted = None;
+        touch(&mut self.touched, &mut self.noted, grounds);
         Ok(())
     }
 
@@ -52,11 +50,9 @@ impl Session {
             return Err(DropFault::NotThere);
         };
         let old = references_of(Some(dump));
-        let grounds = changed_grounds(self.alloc, old, &[])?;
-        make_room(&mut self.touched, &grounds)?;
+        let grounds = grounds_to_add(self.alloc, &mut self.touched, old, &[])?;
         self.sources.drop_rpsl(slot)?;
-        add(&mut self.touched, grounds);
-        self.noted = None;
+        touch(&mut self.touched, &mut self.noted, grounds);
         Ok(())
     }
 
@@ -79,11 +75,9 @@ impl Session {
         let feed = ready.feed();
         let new = feed.entries.as_slice();
         let old = entries_of(self.sources.feed_of(feed.url.as_str()));
-        let grounds = changed_grounds(self.alloc, old, new)?;
-        make_room(&mut self.touched, &grounds)?;
+        let grounds = grounds_to_add(self.alloc, &mut self.touched, old, new)?;
         self.sources.set_ready_feed(ready)?;
-        add(&mut self.touched, grounds);
-        self.noted = None;
+        touch(&mut self.touched, &mut self.noted, grounds);
         Ok(())
     }
 
@@ -102,11 +96,9 @@ impl Session {
             return Err(DropFault::NotThere);
         };
         let old = entries_of(Some(feed));
-        let grounds = changed_grounds(self.alloc, old, &[])?;
-        make_room(&mut self.touched, &grounds)?;
+        let grounds = grounds_to_add(self.alloc, &mut self.touched, old, &[])?;
         self.sources.drop_feed(url)?;
-        add(&mut self.touched, grounds);
-        self.noted = None;
+        touch(&mut self.touched, &mut self.noted, grounds);
         Ok(())
     }
 
@@ -120,11 +112,9 @@ impl Session {
         let new = stats.rows.as_slice();
         keep_all(new);
         let old = delegations_of(self.sources.stats_of(stats.slot.as_str()));
-        let grounds = changed_grounds(self.alloc, old, new)?;
-        make_room(&mut self.touched, &grounds)?;
+        let grounds = grounds_to_add(self.alloc, &mut self.touched, old, new)?;
         self.sources.set_stats(stats)?;
-        add(&mut self.touched, grounds);
-        self.noted = None;
+        touch(&mut self.touched, &mut self.noted, grounds);
         Ok(())
     }
 
@@ -143,11 +133,9 @@ impl Session {
             return Err(DropFault::NotThere);
         };
         let old = delegations_of(Some(stats));
-        let grounds = changed_grounds(self.alloc, old, &[])?;
-        make_room(&mut self.touched, &grounds)?;
+        let grounds = grounds_to_add(self.alloc, &mut self.touched, old, &[])?;
         self.sources.drop_stats(slot)?;
-        add(&mut self.touched, grounds);
-        self.noted = None;
+        touch(&mut self.touched, &mut self.noted, grounds);
         Ok(())
     }
 
@@ -159,11 +147,9 @@ impl Session {
         kept_by_one_more();
         sources_stay();
         let old = rows_of(self.sources.overrides());
-        let grounds = changed_grounds(self.alloc, old, rows.rows.as_slice())?;
-        make_room(&mut self.touched, &grounds)?;
+        let grounds = grounds_to_add(self.alloc, &mut self.touched, old, rows.rows.as_slice())?;
         self.sources.set_overrides(rows)?;
-        add(&mut self.touched, grounds);
-        self.noted = None;
+        touch(&mut self.touched, &mut self.noted, grounds);
         Ok(())
     }
 
@@ -181,11 +167,9 @@ impl Session {
             return Err(DropFault::NotThere);
         };
         let old = rows_of(Some(rows));
-        let grounds = changed_grounds(self.alloc, old, &[])?;
-        make_room(&mut self.touched, &grounds)?;
+        let grounds = grounds_to_add(self.alloc, &mut self.touched, old, &[])?;
         self.sources.drop_overrides()?;
-        add(&mut self.touched, grounds);
-        self.noted = None;
+        touch(&mut self.touched, &mut self.noted, grounds);
         Ok(())
     }
 }

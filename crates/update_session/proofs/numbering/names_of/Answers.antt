@@ -19,7 +19,7 @@ loop-at-preserved c =
           c.in_ok-name.ensures.places c.loop-at.invariant.stands c.in_ok-name.ensures.few
           (c.in_ok-name.ensures.place ∙ c.get.ensures ∙ ap (place_at local) (add-one at))
           (omega (arith, length-map local (λ (p : PlaceParts). Some p), below))
-          (some_at local at below) (search rules);
+          (some_at local at below) c.in_ok-push.ensures.items;
       grown = GrowsBy-trans _ _ _ _ _ _ c.loop-at.invariant.grown c.in_ok-name.ensures.places
           (omega arith);
     }

@@ -1,5 +1,5 @@
 -- One chunk more.
-use Rattle.std.proofs.Common.{◌+◌, ◌++◌, ◌∙◌, List, Option, ap, arith, map, rules, subst, take}
+use Rattle.std.proofs.Common.{◌+◌, ◌++◌, ◌∙◌, List, Option, ap, arith, map, subst, take}
 use Rattle.std.specs.Prelude.{flat_map}
 use Rattle.geo_addr.specs.Ranges.{Ends}
 use Rattle.geo_terms.specs.PlaceForm.{PlaceParts}
@@ -17,7 +17,7 @@ returns-in_err-push_parts-clause-places c =
     GrowsBy-trans _ _ _ _ _ _ c.loop-one.invariant.grown c.push_parts.ensures.places
     (omega (
       arith,
-      places_more chosen at c.one-item.result c.loop-one-test.true (search rules),
+      places_more chosen at c.one-item.result c.loop-one-test.true c.one-item.is,
       places_within chosen (at + 1),
     ))
 
@@ -29,15 +29,15 @@ loop-one-preserved c =
     record {
       ranges = c.in_ok-push_parts.ensures.ranges
           ∙ ap (λ (rs : List Ends). rs ++ segments_of one) c.loop-one.invariant.ranges
-          ∙ segments_more chosen at one c.loop-one-test.true (search rules);
+          ∙ segments_more chosen at one c.loop-one-test.true c.one-item.is;
       stands = subst
           (λ (said : List (Option PlaceParts)).
           StandFor c.push_parts.new.places
           (map (λ (p : Part). p.leaf) c.push_parts.new.parts.items) said)
-          (said_more chosen at one c.loop-one-test.true (search rules))
+          (said_more chosen at one c.loop-one-test.true c.one-item.is)
           (c.in_ok-push_parts.ensures.leaves (flat_map said_in (take at chosen))
           c.loop-one.invariant.stands);
       grown =
           GrowsBy-trans _ _ _ _ _ _ c.loop-one.invariant.grown c.in_ok-push_parts.ensures.places
-          (omega (arith, places_more chosen at one c.loop-one-test.true (search rules)));
+          (omega (arith, places_more chosen at one c.loop-one-test.true c.one-item.is));
     }
