@@ -1,6 +1,6 @@
 #!/usr/bin/env bash
 # Who does the work: what runs side by side begins one thread fewer than there are pieces, since one
-# piece stays where it is. So it is for long statistics and for a long feed, which are read by
+# piece stays where it is. So it is for long statistics and for each long feed, which are read by
 # parts, for several feeds, and for the tree of an emit, of a census and of a published feed. No
 # result tells, so the threads that are begun are counted (checks/counted.cpp).
 set -u
@@ -50,6 +50,17 @@ done
 job 'stats made stats.txt' && begins 3 'long statistics' build job
 job "feed ${url}a feed.csv" && begins 3 'a long feed' build job
 job "feed ${url}"{a,b,c,d}' short.csv' && begins 3 'four feeds' build job
+# A long feed stands between others: those before it, itself, those behind it, and the emit. What
+# is written is the same in one piece.
+printf 'inetnum: 10.0.0.0 - 11.255.255.255\ngeofeed: %s\n\n' "$url"{a,b,c,d,e} > dump.db
+sed 's/^10/11/' short.csv > other.csv
+job 'rpsl made dump.db' "feed ${url}"{a,b}' short.csv' "feed ${url}c feed.csv" \
+    "feed ${url}"{d,e}' other.csv' 'emit out.mmdb' \
+    && begins 12 'a long feed between others' build job
+mv out.mmdb one.mmdb
+sed -i 's/^pieces .*/pieces 4/' job
+threads build job
+cmp -s out.mmdb one.mmdb || fail 'a long feed between others gives other files in other pieces'
 job 'stats made short.txt' && begins 0 'short statistics' build job
 begins 3 'a census' census job
 begins 3 'a published feed' publish job 10.0.0.0/8 own.csv

@@ -102,6 +102,23 @@ AllZip-pushed R xs ys results i x y below is zipped related pushed =
     (subst (λ zs. AllZip R zs (ys ++ (y ∷ []))) (sym longer)
     (all_zipped_more R (take i xs) ys x y zipped related))
 
+-- the results of two lists, one behind the other
+AllZip-append : {X Y : Type 0} (R : X → Y → Type 0) (xs xs' : List X) (ys ys' : List Y)
+    → AllZip R xs ys → AllZip R xs' ys' → AllZip R (xs ++ xs') (ys ++ ys')
+AllZip-append R [] xs' [] ys' here there = there
+AllZip-append R [] xs' (y ∷ ys) ys' here there = absurd here
+AllZip-append R (x ∷ xs) xs' [] ys' here there = absurd here
+AllZip-append R (x ∷ xs) xs' (y ∷ ys) ys' here there =
+    (here.0, AllZip-append R xs xs' ys ys' here.1 there)
+
+pub parses_joined : (run rest helds : List Held) (first others all : List (Result FeedParts Stop))
+    → run ++ rest ≡ helds → AllZip Parses run first → AllZip Parses rest others
+    → all ≡ first ++ others → AllZip Parses helds all
+parses_joined run rest helds first others all are here there joined =
+    subst (λ zs. AllZip Parses helds zs) (sym joined)
+    (subst (λ zs. AllZip Parses zs (first ++ others)) are
+    (AllZip-append Parses run rest first others here there))
+
 pub reads_pushed : (told : Told) (steps : List Step)
     (helds results : List Held) (i : ℕ) (step : Step) (held : Held) → i < length steps
     → step ≡ get_or steps i step

@@ -1,7 +1,7 @@
 //! Lines that set feeds together: their files are read in order, then parsed side by side, then
 //! set in order.
-ghost use Rattle.std.specs.Prelude.{◌≡◌, ◌≢◌, ◌≤◌, ◌<◌, ◌+◌, ◌⊎◌, [], ◌∷◌, true, length, map};
-ghost use Rattle.std.specs.Prelude.{IfErr, IfOk, None, Ok, OnOk, Some};
+ghost use Rattle.std.specs.Prelude.{◌≡◌, ◌≢◌, ◌≤◌, ◌<◌, ◌+◌, ◌-◌, ◌⊎◌, [], ◌∷◌, ◌++◌, true};
+ghost use Rattle.std.specs.Prelude.{IfErr, IfOk, None, Ok, OnOk, Some, length, map};
 ghost use Rattle.std.specs.List.{AllZip, list_all};
 ghost use Rattle.feed_csv.specs.File.{feed, longest};
 ghost use Rattle.geo_outside.specs.Count.{Rose};
@@ -193,9 +193,53 @@ fn parse_all<R: Threads + Sync, G: Gate>(
     }
 }
 
+/// What each of those that were read is, one run of them after another.
+fn parsed_all<R: Threads + Sync, G: Gate>(
+    forks: &Forks<R, G>,
+    held: &[Held<'_>],
+) -> Result<Vec<Result<ReadyFeed, Stop>>, Memory>
+    ensures related { IfOk result (λ parsed. AllZip Parses held.now parsed.items) }
+{
+    let (run, rest) = first_run(held);
+    let parsed = parsed_run(forks, run)?;
+    if rest.is_empty() {
+        return Ok(parsed);
+    }
+    match parsed_all(forks, rest) {
+        Ok(others) => joined(parsed, others),
+        Err(Memory) => {
+            drop(parsed);
+            Err(Memory)
+        }
+    }
+}
+
+/// The first that are parsed together, and the others: a long one alone, or those before the first
+/// long one.
+fn first_run<'a, 'b>(held: &'b [Held<'a>]) -> (&'b [Held<'a>], &'b [Held<'a>])
+    ensures joined { result.0.now ++ result.1.now ≡ held.now }
+    ensures fewer { length result.1.now ≤ length held.now - 1 }
+{
+    let mut short = 0;
+    while short < held.len() && held[short].bytes.len() <= FEED_PART {
+        short += 1;
+    }
+    held.split_at(short.max(1).min(held.len()))
+}
+
+/// Some items, and others behind them.
+fn joined<T: Drop>(first: Vec<T>, others: Vec<T>) -> Result<Vec<T>, Memory>
+    ensures { IfOk result (λ all. all.items ≡ first.items ++ others.items) }
+{
+    let mut all = first;
+    let mut others = others;
+    all.append(&mut others)?;
+    Ok(all)
+}
+
 /// What each of those that were read is, by pieces side by side. A long one that stands alone is
 /// read by parts side by side instead.
-fn parsed_all<R: Threads + Sync, G: Gate>(
+fn parsed_run<R: Threads + Sync, G: Gate>(
     forks: &Forks<R, G>,
     held: &[Held<'_>],
 ) -> Result<Vec<Result<ReadyFeed, Stop>>, Memory>
