@@ -50,17 +50,19 @@ done
 job 'stats made stats.txt' && begins 3 'long statistics' build job
 job "feed ${url}a feed.csv" && begins 3 'a long feed' build job
 job "feed ${url}"{a,b,c,d}' short.csv' && begins 3 'four feeds' build job
-# A long feed stands between others: those before it, itself, those behind it, and the emit. What
-# is written is the same in one piece.
+# Of a group the feeds before a long one are read in pieces, then it, then those behind it. What is
+# written is the file of one piece.
 printf 'inetnum: 10.0.0.0 - 11.255.255.255\ngeofeed: %s\n\n' "$url"{a,b,c,d,e} > dump.db
 sed 's/^10/11/' short.csv > other.csv
 job 'rpsl made dump.db' "feed ${url}"{a,b}' short.csv' "feed ${url}c feed.csv" \
-    "feed ${url}"{d,e}' other.csv' 'emit out.mmdb' \
-    && begins 12 'a long feed between others' build job
+    "feed ${url}"{d,e}' other.csv' \
+    && begins 9 'a long feed between others' build job
+echo 'emit out.mmdb' >> job
+threads build job
 mv out.mmdb one.mmdb
 sed -i 's/^pieces .*/pieces 4/' job
 threads build job
-cmp -s out.mmdb one.mmdb || fail 'a long feed between others gives other files in other pieces'
+cmp -s out.mmdb one.mmdb || fail 'a long feed between others gives another file in four pieces'
 job 'stats made short.txt' && begins 0 'short statistics' build job
 begins 3 'a census' census job
 begins 3 'a published feed' publish job 10.0.0.0/8 own.csv
