@@ -52,11 +52,14 @@ job "feed ${url}a feed.csv" && begins 3 'a long feed' build job
 job "feed ${url}"{a,b,c,d}' short.csv' && begins 3 'four feeds' build job
 # Of a group the feeds before a long one are read in pieces, then it, then those behind it. What is
 # written is the file of one piece.
-printf 'inetnum: 10.0.0.0 - 11.255.255.255\ngeofeed: %s\n\n' "$url"{a,b,c,d,e} > dump.db
-sed 's/^10/11/' short.csv > other.csv
-job 'rpsl made dump.db' "feed ${url}"{a,b}' short.csv' "feed ${url}c feed.csv" \
-    "feed ${url}"{d,e}' other.csv' \
-    && begins 9 'a long feed between others' build job
+lines=('rpsl made dump.db')
+for at in 1 2 0 3 4; do
+    printf 'inetnum: 1%s.0.0.0 - 1%s.255.255.255\ngeofeed: %s\n\n' $at $at $url$at >> dump.db
+    sed "s/^10/1$at/" short.csv > $at.csv
+    lines+=("feed $url$at $at.csv")
+done
+cp feed.csv 0.csv
+job "${lines[@]}" && begins 9 'a long feed between others' build job
 echo 'emit out.mmdb' >> job
 threads build job
 mv out.mmdb one.mmdb
