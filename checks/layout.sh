@@ -21,7 +21,7 @@ for crate in crates/*/; do
     # In a crate of tests an edit would make nothing wrong of which a clause says something.
     if [[ "$name" != test_* ]] && grep -qs '^pub ' "$crate/src/lib.rt"; then
         edits=$(find "$crate/must-fail" -name '*.edit' 2> /dev/null | wc -l)
-        [ "$edits" -ge 4 ] || fail "$name has $edits must-fail edits, fewer than four"
+        [ "$edits" -ge 3 ] || fail "$name has $edits must-fail edits, fewer than three"
     fi
 done
 counted 20 "$crates" crates

@@ -4,10 +4,6 @@ use Rattle.std.specs.Prelude.{OnOk}
 use Rattle.mmdb_data.specs.ValueTree.{Members, Items, map, list, members_len, items_len}
 use Rattle.mmdb_data.specs.Spelling.{head, spelling, members_spelling, items_spelling}
 
-pub for_any : {T E : Type 0} {P : Type 0} (r : Result T E) → P → OnOk r P
-for_any (Ok x) h = h
-for_any (Err e) h = tt
-
 pub map_written : {T E : Type 0} (r : Result T E) (new mid old : List ℕ) (len : ℕ) (pairs : Members)
     → len ≡ members_len pairs → mid ≡ old ++ head 7 len
     → OnOk r (new ≡ mid ++ members_spelling pairs) → OnOk r (new ≡ old ++ spelling (map pairs))
