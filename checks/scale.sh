@@ -97,7 +97,8 @@ if needs perl perl; then
     printf 'epoch 1700000000\nrpsl made wide.db\n' > job
     printf 'feed https://made.example/wide%d.csv wide%d.csv\n' 0 0 1 1 >> job
     printf 'report\nemit wide.mmdb\n' >> job
-    runs 20 800000 build job
+    # A long feed takes its room ahead, which is addresses and not memory.
+    runs 20 1200000 build job
     [ "$status" -eq 0 ] && [ "$(head -n 1 printed)" = 'notes 0' ] \
         && grep -q '^emit wide.mmdb nodes .* bits 28 bytes ' printed \
         || fail "records of 28 bits end with status $status and '$(cat printed)'"
