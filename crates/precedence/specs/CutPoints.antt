@@ -1,4 +1,4 @@
--- Between the cut points of all sources.
+-- What is said between the cut points of all sources.
 use Rattle.std.specs.Prelude.{◌≡◌, ℕ, ◌^◌, ◌<◌, ◌≤◌, List, Contains}
 use Rattle.geo_terms.specs.Precedence.{spoken_at}
 use Rattle.geo_terms.specs.Sources.{InForce}

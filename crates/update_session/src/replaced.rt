@@ -75,7 +75,7 @@ pub(crate) fn grounds_to_add<S: Compared>(
     Ok(grounds)
 }
 
-/// Adds grounds for which there is room, so that no list has been noted of those touched now.
+/// Adds grounds for which there is room. The list that was noted of those touched before goes.
 pub(crate) fn touch(touched: &mut Vec<Range>, noted: &mut Option<Grounds>, more: Vec<Range>)
     requires { vec_len touched.old + vec_len more ≤ vec_capacity touched.old }
     ensures touched { touched.new.items ≡ touched.old.items ++ more.items }
