@@ -1,6 +1,5 @@
 -- The cut points of statements, from where the boundaries of their index stand.
 use Rattle.std.proofs.Common.{◌≡◌, ℕ, List, map, subst, sym}
-use Rattle.std.specs.Prelude.{Contains}
 use Rattle.std.specs.List.Sorted.{IsStrictlyIncreasing}
 use Rattle.geo_addr.specs.Ranges.{AreCuts, Ends}
 use Rattle.first_index.specs.FirstIndex.{StandAtCuts}

@@ -1,5 +1,5 @@
 -- Sources behind their owners: what holds of them holds of the sources themselves.
-use Rattle.std.proofs.Common.{◌≡◌, ℕ, zero, suc, ◌<◌, true, false, cond, not, Less, Equal, Greater}
+use Rattle.std.proofs.Common.{◌≡◌, ℕ, zero, suc, true, false, cond, not, Less, Equal, Greater}
 use Rattle.std.proofs.Common.{List, [], ◌∷◌, length, get_or, map, Option, Some, refl, sym, ap, ◌∙◌}
 use Rattle.std.proofs.Common.{None, subst, arith}
 use Rattle.std.specs.List.{AllZip, find}

@@ -1,6 +1,6 @@
 -- What is told is what the last boundary at or below the address tells.
 use Rattle.std.proofs.Common.{◌≡◌, ◌∙◌, ◌+◌, ◌-◌, ◌≤◌, ◌<◌, ℕ, List, None, Some, get_or, length}
-use Rattle.std.proofs.Common.{slice_get, eqb, false, arith, ap, sym, subst}
+use Rattle.std.proofs.Common.{slice_get, eqb, false, arith, ap, sym}
 use Rattle.std.proofs.lemmas.Bool.Decides.{nat_tests}
 use Rattle.std.proofs.lemmas.Option.{slice_get-get_or}
 use Rattle.first_index.specs.Boundaries.{told}

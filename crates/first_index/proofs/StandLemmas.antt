@@ -1,14 +1,13 @@
 -- What one pass tells of statements that are seen through borrows, and where its boundaries stand.
 use Rattle.std.proofs.Common.{◌≡◌, ℕ, ◌+◌, ◌-◌, ◌^◌, ◌<◌, ◌≤◌, Bool, true, false, cond}
-use Rattle.std.proofs.Common.{◌&&◌, ◌||◌, ◌↔◌, eqb, ltb, inl, inr, List, [], ◌∷◌, length, map}
-use Rattle.std.proofs.Common.{get_or, fold, Option, Some, None, slice_get, Ordering, refl, sym, ap}
+use Rattle.std.proofs.Common.{◌&&◌, ◌||◌, eqb, ltb, inl, inr, List, [], ◌∷◌, map}
+use Rattle.std.proofs.Common.{fold, Option, Some, None, slice_get, Ordering, refl, sym, ap}
 use Rattle.std.proofs.Common.{◌∙◌, subst, arith}
-use Rattle.std.specs.Prelude.{Contains}
 use Rattle.std.specs.Cmp.{IsTotalOrder}
 use Rattle.std.specs.List.{enumerate_from, filter}
-use Rattle.std.specs.List.Sorted.{IsNonDecreasingBy, IsPermutation, IsSorted, IsStrictlyIncreasing}
+use Rattle.std.specs.List.Sorted.{IsPermutation}
 use Rattle.std.specs.Option.{option_and_then, option_map}
-use Rattle.std.specs.Ordering.{is_lt, nat_cmp}
+use Rattle.std.specs.Ordering.{is_lt}
 use Rattle.std.proofs.lemmas.Bool.Decides.{nat_tests}
 use Rattle.std.proofs.lemmas.List.Folds.{Any-from_list_any, list_any-from_Any}
 use Rattle.std.proofs.lemmas.List.Sorted.{IsPermutation-map, list_any-IsPermutation}

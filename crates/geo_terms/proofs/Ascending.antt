@@ -1,6 +1,6 @@
 -- Ascending numbers, by recursion; lists of them with the same members are equal.
 use Rattle.std.proofs.Common.{◌≡◌, ℕ, suc, ◌+◌, ◌<◌, ◌≤◌, List, [], ◌∷◌, sym, ap, ◌∙◌, subst}
-use Rattle.std.proofs.Common.{get_or, refl, inl, inr, arith}
+use Rattle.std.proofs.Common.{refl, inl, inr, arith}
 use Rattle.std.specs.List.Sorted.{IsStrictlyIncreasing}
 use Rattle.geo_terms.proofs.Members.{Among}
 

@@ -1,5 +1,5 @@
 -- Texts that are joined are found again between the places where they begin.
-use Rattle.std.proofs.Common.{◌≡◌, ℕ, ◌+◌, ◌-◌, List, ◌++◌, length, take, drop, map, sym, ap, ◌∙◌}
+use Rattle.std.proofs.Common.{◌≡◌, ℕ, ◌+◌, ◌-◌, List, ◌++◌, length, take, drop, sym, ap, ◌∙◌}
 use Rattle.std.proofs.Common.{arith, subst, ◌≤◌, [], ◌∷◌, get_or, refl}
 use Rattle.std.specs.Char.{to_ascii_uppercase}
 use Rattle.std.specs.Str.{IsUtf8, IsCharBoundary}
@@ -8,7 +8,7 @@ use Rattle.std.proofs.lemmas.List.{drop_at, get_or_at}
 use Rattle.std.proofs.lemmas.Str.{IsCharBoundary-at_seam, IsCharBoundary-start, IsUtf8-append}
 use Rattle.std.proofs.lemmas.Bool.Decides.{nat_tests}
 use Rattle.geo_terms.specs.JoinedTexts.{IsCutAt, parts_at}
-use Rattle.geo_terms.specs.PlaceForm.{PlaceParts, upper}
+use Rattle.geo_terms.specs.PlaceForm.{upper}
 
 -- the whole, from its second part on in one piece, and from its third, and from its fourth
 two_ends : (text country region city postal : List ℕ)

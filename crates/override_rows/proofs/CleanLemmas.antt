@@ -21,8 +21,7 @@ use Rattle.csv_lines.proofs.OrderLemmas.{all_members, kept_from, member_filter}
 use Rattle.csv_lines.proofs.TextLemmas.{fields_are_texts}
 use Rattle.override_rows.specs.File.{AreClean, accepted, row_by, row_line, row_of_line, row_range}
 use Rattle.override_rows.specs.File.{row_said, rows}
-use Rattle.override_rows.specs.Outcomes.{acted, located_at, set_at, set_by, outcome, outcome_by}
-use Rattle.override_rows.specs.declared.outcome.LineOutcome.{LineOutcome}
+use Rattle.override_rows.specs.Outcomes.{located_at, set_at, set_by, outcome, outcome_by}
 use Rattle.override_rows.specs.declared.outcome.LineOutcome.TheVariants.{Accepted, Broken}
 
 set_clean : (range : Ends) (said : Said) (n : ℕ) (e : Override) → IsCleanSaid said

@@ -17,7 +17,7 @@ use Rattle.publish_least.specs.Lines.{longer, longest, leaf_or, IsBefore, InPreo
 use Rattle.publish_least.specs.Price.{cost, has, best}
 use Rattle.publish_least.specs.Choice.{lower_half, upper_half, first_of, standing, root_line}
 use Rattle.publish_least.specs.Choice.{lines_below}
-use Rattle.publish_least.proofs.HasLemmas.{has-first, has-rest, has-cases, has-append}
+use Rattle.publish_least.proofs.HasLemmas.{has-cases, has-append}
 use Rattle.publish_least.proofs.PriceLemmas.{miss, priced, halves_of, node_priced, or_left}
 use Rattle.publish_least.proofs.PriceLemmas.{or_right}
 use Rattle.publish_least.proofs.Spans.{spans, spans-true, spans-false_before, spans-false_behind}

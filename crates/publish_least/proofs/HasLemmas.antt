@@ -1,6 +1,6 @@
 -- Lemmas on which leaves a list has.
 use Rattle.std.proofs.Common.{◌≡◌, inl, inr, ◌⊎◌, ℕ, Bool, true, false, ◌&&◌, ◌||◌, nat_eq}
-use Rattle.std.proofs.Common.{if◌then◌else◌, List, [], ◌∷◌, ◌++◌, filter, refl, sym, ap, ap₂, ◌∙◌}
+use Rattle.std.proofs.Common.{if◌then◌else◌, List, [], ◌∷◌, ◌++◌, filter, refl, sym, ap, ◌∙◌}
 use Rattle.trie_core.proofs.TreeLemmas.{nat_equality}
 use Rattle.std.proofs.lemmas.Bool.{or_cases}
 use Rattle.publish_least.specs.Price.{has, shared}

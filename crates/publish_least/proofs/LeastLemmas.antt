@@ -1,5 +1,5 @@
 -- The least lines under a block of a store's root.
-use Rattle.std.proofs.Common.{◌≡◌, ℕ, ◌-◌, ◌≤◌, List, length, Some, sym, ap, subst, ◌∙◌}
+use Rattle.std.proofs.Common.{◌≡◌, ℕ, ◌-◌, ◌≤◌, List, length, sym, ap, subst, ◌∙◌}
 use Rattle.geo_addr.specs.Bits.{bits_of}
 use Rattle.geo_addr.specs.Ranges.{Prefix, IsBlock, IsWithin, range_of_block}
 use Rattle.trie_core.specs.declared.node.Root.{Root}

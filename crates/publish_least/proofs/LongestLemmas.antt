@@ -1,8 +1,8 @@
 -- Lemmas on the longest of lines: which lines do not count,
 -- and how a list of lines comes apart at the middle of its block.
-use Rattle.std.proofs.Common.{◌≡◌, inl, inr, ℕ, suc, ◌+◌, ◌-◌, ◌*◌, ◌^◌, ◌<◌, ◌≤◌, Bool, true}
+use Rattle.std.proofs.Common.{◌≡◌, ℕ, suc, ◌+◌, ◌-◌, ◌*◌, ◌^◌, ◌<◌, ◌≤◌, Bool, true}
 use Rattle.std.proofs.Common.{false, if◌then◌else◌, List, [], ◌∷◌, ◌++◌, length, Option, None, Some}
-use Rattle.std.proofs.Common.{refl, sym, ap, subst, ◌∙◌, arith}
+use Rattle.std.proofs.Common.{refl, ap, subst, ◌∙◌, arith}
 use Rattle.std.specs.Prelude.{nat_le}
 use Rattle.std.proofs.lemmas.Bool.{le-leb}
 use Rattle.std.proofs.Math.Nat.{two-pow-succ}
@@ -11,7 +11,7 @@ use Rattle.geo_addr.specs.Ranges.{Prefix}
 use Rattle.publish_least.specs.declared.line.Line.{Line}
 use Rattle.publish_least.specs.Lines.{longer, longest, leaf_or}
 use Rattle.publish_least.proofs.Spans.{spans, nat_le-false, spans-true, spans-false_before}
-use Rattle.publish_least.proofs.Spans.{spans-false_behind, Fits, Side, whole, lower, upper, side}
+use Rattle.publish_least.proofs.Spans.{spans-false_behind, Fits, whole, lower, upper, side}
 use Rattle.publish_least.proofs.Spans.{doubled, doubled_more}
 
 -- each element of a list is so

@@ -1,5 +1,5 @@
 -- No list of lines that answers as a tree does is shorter than the tree's price.
-use Rattle.std.proofs.Common.{◌≡◌, inl, inr, ℕ, zero, suc, ◌+◌, ◌-◌, ◌*◌, ◌^◌, ◌<◌, ◌≤◌, Bool, true}
+use Rattle.std.proofs.Common.{◌≡◌, ℕ, zero, suc, ◌+◌, ◌-◌, ◌*◌, ◌^◌, ◌<◌, ◌≤◌, Bool, true}
 use Rattle.std.proofs.Common.{false, nat_eq, if◌then◌else◌, List, [], ◌∷◌, length, Option, None}
 use Rattle.std.proofs.Common.{Some, refl, sym, ap, subst, ◌∙◌, arith}
 use Rattle.std.proofs.Math.Nat.{two-pow-succ}
@@ -13,7 +13,7 @@ use Rattle.publish_least.specs.Lines.{longest, leaf_or}
 use Rattle.publish_least.specs.Price.{cost, has, best}
 use Rattle.publish_least.proofs.PriceLemmas.{miss, halves_of, node_priced}
 use Rattle.publish_least.proofs.Spans.{spans, Fits, doubled, doubled_more}
-use Rattle.publish_least.proofs.LongestLemmas.{Each, or_else, leaf_or-or_else, Split, split}
+use Rattle.publish_least.proofs.LongestLemmas.{Each, leaf_or-or_else, Split, split}
 
 -- the way of an address of the lower half, and of one of the upper half
 pub bits_of-in_lower : (n q a : ℕ) → q * 2 ^ suc n ≤ a → a < q * 2 ^ suc n + 2 ^ n

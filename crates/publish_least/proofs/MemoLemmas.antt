@@ -1,28 +1,28 @@
 -- What a walk keeps, and how it grows.
-use Rattle.std.proofs.Common.{◌≡◌, ◌≢◌, ◌⊎◌, inl, inr, ℕ, zero, suc, ◌+◌, ◌<◌, ◌≤◌, Bool, true}
-use Rattle.std.proofs.Common.{false, true≢false, nat_eq, if◌then◌else◌, List, [], ◌∷◌, ◌++◌, length}
+use Rattle.std.proofs.Common.{◌≡◌, ◌≢◌, ◌⊎◌, inl, inr, ℕ, Bool, true}
+use Rattle.std.proofs.Common.{false, true≢false, nat_eq, if◌then◌else◌, List, [], ◌∷◌, ◌++◌}
 use Rattle.std.proofs.Common.{get_or, slice_get, Option, None, Some, unwrap_or, position, is_some}
-use Rattle.std.proofs.Common.{refl, sym, ap, ap₂, subst, ◌∙◌, arith, append-nil, append_assoc}
+use Rattle.std.proofs.Common.{refl, sym, ap, subst, ◌∙◌, arith, append-nil, append_assoc}
 use Rattle.std.proofs.lemmas.List.Quantifiers.{position-Some}
-use Rattle.std.proofs.lemmas.Option.{get_or_from_slice_get, slice_get-get_or, slice_get_within}
+use Rattle.std.proofs.lemmas.Option.{slice_get-get_or, slice_get_within}
 use Rattle.trie_core.specs.declared.node.NodeId.{NodeId}
 use Rattle.trie_core.specs.declared.node.Rec.{Rec}
 use Rattle.trie_core.specs.declared.node.Rec.TheVariants.{Leaf, Node}
 use Rattle.trie_core.specs.declared.node.Pair.{Pair}
 use Rattle.trie_core.specs.Tree.{Tree, leaf, node}
-use Rattle.trie_core.specs.Store.{meaning, pair_of, IsOf}
-use Rattle.trie_core.proofs.StoreLemmas.{slice_get-append, slice_get-push, meaning-leaf}
+use Rattle.trie_core.specs.Store.{meaning, pair_of}
+use Rattle.trie_core.proofs.StoreLemmas.{slice_get-push, meaning-leaf}
 use Rattle.trie_core.proofs.TreeLemmas.{nat_equality}
 use Rattle.least_nodes.specs.Layout.{leaves, each_once}
 use Rattle.least_nodes.proofs.Elements.{each_once-append, each_once-known, In-from_any, any-from_In}
 use Rattle.least_nodes.proofs.WalkLemmas.{same_node_equality}
-use Rattle.publish_least.specs.Price.{has, best}
+use Rattle.publish_least.specs.Price.{has}
 use Rattle.publish_least.specs.Choice.{order_after}
 use Rattle.publish_least.specs.Memo.{Table, same_node, IsSet, IsKnown, IsMemo, Stays, IsNoted}
 use Rattle.publish_least.specs.Memo.{HasIndex, IsSetOf, single}
 use Rattle.publish_least.proofs.HasLemmas.{has-first, has-cases, has-append}
 use Rattle.publish_least.proofs.PriceLemmas.{or_left, or_right}
-use Rattle.publish_least.proofs.SetLemmas.{index_in, has-from_slice_get, IsSet-leaf, IsSet-grown}
+use Rattle.publish_least.proofs.SetLemmas.{has-from_slice_get, IsSet-leaf, IsSet-grown}
 
 -- the index at which a leaf was found
 pub HasIndex-found : (order : List ℕ) (rec : Rec) (x : ℕ) (found : Option ℕ) (index : ℕ)

@@ -1,12 +1,12 @@
 -- The price of a tree by its best leaves.
 use Rattle.std.proofs.Common.{◌≡◌, inl, inr, ℕ, ◌+◌, ◌≤◌, min, Bool, true, false, ◌&&◌, ◌||◌}
-use Rattle.std.proofs.Common.{nat_eq, if◌then◌else◌, List, [], ◌∷◌, ◌++◌, refl, sym, ap, ap₂, subst}
+use Rattle.std.proofs.Common.{nat_eq, if◌then◌else◌, List, [], ◌∷◌, ◌++◌, refl, sym, ap}
 use Rattle.std.proofs.Common.{◌∙◌, arith}
 use Rattle.std.proofs.lemmas.Bool.{or_cases, and_parts}
 use Rattle.trie_core.specs.Tree.{Tree, leaf, node}
 use Rattle.least_nodes.specs.Layout.{leaves}
 use Rattle.publish_least.specs.Price.{least_price, cost, has, shared, or_either, best}
-use Rattle.publish_least.proofs.HasLemmas.{has-first, has-rest, has-cases, has-append, has-shared}
+use Rattle.publish_least.proofs.HasLemmas.{has-first, has-cases, has-append, has-shared}
 
 -- 0 where a leaf is among the best ones, else 1
 abbrev pub miss : Bool → ℕ

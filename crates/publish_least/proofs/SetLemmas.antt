@@ -1,7 +1,7 @@
 -- Sets of indexes: what a search says, what two sets join to, and which leaf the first index has.
-use Rattle.std.proofs.Common.{◌≡◌, ◌⊎◌, inl, inr, ℕ, zero, suc, ◌+◌, ◌<◌, ◌≤◌, Bool, true, false}
+use Rattle.std.proofs.Common.{◌≡◌, inl, inr, ℕ, zero, suc, ◌<◌, ◌≤◌, Bool, true, false}
 use Rattle.std.proofs.Common.{true≢false, ◌&&◌, ◌||◌, nat_eq, if◌then◌else◌, List, [], ◌∷◌, ◌++◌}
-use Rattle.std.proofs.Common.{length, get_or, slice_get, Contains, Option, None, Some, Result, Ok}
+use Rattle.std.proofs.Common.{length, get_or, slice_get, Contains, Some, Result, Ok}
 use Rattle.std.proofs.Common.{Err, MatchResult, is_ok, refl, sym, ap, ap₂, subst, ◌∙◌, arith}
 use Rattle.std.specs.List.Sorted.{IsNonDecreasing}
 use Rattle.std.proofs.lemmas.Bool.{cases_lt, or_cases, and_parts}
@@ -18,7 +18,7 @@ use Rattle.publish_least.specs.Choice.{first_of}
 use Rattle.publish_least.specs.Sets.{IsJoined}
 use Rattle.publish_least.specs.Memo.{IsSet}
 use Rattle.publish_least.proofs.HasLemmas.{has-first, has-cases, has-append, has-shared}
-use Rattle.publish_least.proofs.PriceLemmas.{priced, or_left, or_right}
+use Rattle.publish_least.proofs.PriceLemmas.{priced, or_left}
 
 -- what is in a list has an index there
 pub index_in : (xs : List ℕ) (x : ℕ) → has xs x ≡ true → (i : ℕ) × (slice_get xs i ≡ Some x)

@@ -1,15 +1,15 @@
 -- The least lines of a tree under a block: what holds of its numbers holds of the block.
-use Rattle.std.proofs.Common.{◌≡◌, ◌⊎◌, inl, inr, ℕ, ◌+◌, ◌-◌, ◌*◌, ◌/◌, ◌%◌, ◌^◌, ◌<◌, ◌≤◌, Bool}
+use Rattle.std.proofs.Common.{◌≡◌, inl, inr, ℕ, ◌+◌, ◌-◌, ◌*◌, ◌/◌, ◌^◌, ◌<◌, ◌≤◌, Bool}
 use Rattle.std.proofs.Common.{true, false, ◌&&◌, if◌then◌else◌, max, nat_eq, List, [], ◌∷◌, ◌++◌}
-use Rattle.std.proofs.Common.{length, All, Option, None, Some, refl, sym, ap, subst, ◌∙◌, arith}
-use Rattle.std.specs.Prelude.{nat_le, nat_lt}
+use Rattle.std.proofs.Common.{length, All, Some, refl, sym, ap, ◌∙◌, arith}
+use Rattle.std.specs.Prelude.{nat_le}
 use Rattle.std.proofs.lemmas.Bool.{cases_lt}
 use Rattle.std.proofs.lemmas.Bool.Decides.{Decides-ltb}
 use Rattle.std.proofs.lemmas.List.Elements.{All-head, All-tail}
 use Rattle.std.proofs.lemmas.Nat.{pow_pos}
 use Rattle.std.proofs.Math.Pow.{pow-lt}
 use Rattle.geo_addr.specs.Bits.{bits_of}
-use Rattle.geo_addr.specs.Ranges.{Ends, Prefix, IsBlock, IsWithin, range_of_block, ground_first}
+use Rattle.geo_addr.specs.Ranges.{Prefix, IsBlock, IsWithin, range_of_block, ground_first}
 use Rattle.geo_addr.specs.Ranges.{holds, is_v4}
 use Rattle.trie_core.specs.Tree.{Tree, height, look}
 use Rattle.least_nodes.specs.Layout.{leaves, each_once}

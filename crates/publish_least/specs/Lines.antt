@@ -1,5 +1,5 @@
 -- Lists of lines, each a block with a leaf, and what they answer by longest match.
-use Rattle.std.specs.Prelude.{◌≡◌, ℕ, ◌+◌, ◌^◌, ◌<◌, ◌≤◌, ◌⊎◌, Bool, nat_le, if◌then◌else◌, List}
+use Rattle.std.specs.Prelude.{◌≡◌, ℕ, ◌^◌, ◌<◌, ◌≤◌, ◌⊎◌, Bool, nat_le, if◌then◌else◌, List}
 use Rattle.std.specs.Prelude.{[], ◌∷◌, Option, None, Some, All, length}
 use Rattle.geo_addr.specs.Ranges.{Prefix, IsBlock, IsWithin, range_of_block, holds}
 use Rattle.publish_least.specs.declared.line.Line.{Line}

@@ -1,6 +1,6 @@
 -- What a walk through a store keeps of its leaves and of each node's best leaves.
-use Rattle.std.specs.Prelude.{◌≡◌, ◌≢◌, ℕ, ◌<◌, ◌≤◌, Bool, true, nat_eq, List, slice_get, Option}
-use Rattle.std.specs.Prelude.{Some, option_map, Contains}
+use Rattle.std.specs.Prelude.{◌≡◌, ◌≢◌, ℕ, Bool, true, nat_eq, List, slice_get, Option}
+use Rattle.std.specs.Prelude.{Some, option_map}
 use Rattle.std.specs.List.Sorted.{IsNonDecreasing}
 use Rattle.indexmap.specs.IndexMap.{get}
 use Rattle.trie_core.specs.declared.node.NodeId.{NodeId}
@@ -8,7 +8,7 @@ use Rattle.trie_core.specs.declared.node.Rec.{Rec}
 use Rattle.trie_core.specs.declared.node.Rec.TheVariants.{Leaf, Node}
 use Rattle.trie_core.specs.declared.node.Pair.{Pair}
 use Rattle.trie_core.specs.Tree.{Tree, leaf}
-use Rattle.trie_core.specs.Store.{meaning, pair_of, IsOf}
+use Rattle.trie_core.specs.Store.{meaning, pair_of}
 use Rattle.least_nodes.specs.Layout.{leaves}
 use Rattle.publish_least.specs.declared.memo.Memo.{Memo}
 use Rattle.publish_least.specs.Price.{has, best}

@@ -1,6 +1,6 @@
 -- What a search by halving for a name tells of a shelf, and what is put in or taken out by it.
-use Rattle.std.proofs.Common.{◌≡◌, ℕ, zero, suc, ◌<◌, ◌≤◌, true, false, cond, not, List, [], ◌∷◌}
-use Rattle.std.proofs.Common.{length, get_or, set, Option, Some, None, Ok}
+use Rattle.std.proofs.Common.{◌≡◌, ℕ, ◌<◌, ◌≤◌, true, false, cond, not, List, [], ◌∷◌}
+use Rattle.std.proofs.Common.{length, set, Some, None, Ok}
 use Rattle.std.proofs.Common.{Err, slice_get, refl, sym}
 use Rattle.std.proofs.Common.{ap, ◌∙◌, subst, arith}
 use Rattle.std.proofs.lemmas.Option.{slice_get-get_or}
@@ -10,7 +10,7 @@ use Rattle.std.specs.Prelude.{Result}
 use Rattle.geo_terms.specs.PlaceForm.{same_text}
 use Rattle.geo_terms.specs.Precedence.{text_cmp}
 use Rattle.geo_terms.specs.SlotOrder.{AreInOrder, placed, removed}
-use Rattle.geo_terms.proofs.SlotLemmas.{none_by_search, not_there, placed_in_order, put_between}
+use Rattle.geo_terms.proofs.SlotLemmas.{not_there, placed_in_order, put_between}
 use Rattle.geo_terms.proofs.SlotLemmas.{put_over, removed_in_order, taken_out}
 
 -- where none has the name, nothing is removed

@@ -1,4 +1,4 @@
-use Rattle.std.proofs.Common.{◌≡◌, ◌++◌, drop, map}
+use Rattle.std.proofs.Common.{◌≡◌, ◌++◌, drop}
 use Rattle.std.specs.List.{flat_map}
 use Rattle.geo_terms.specs.Report.{uncovered_in}
 use Rattle.authority.proofs.notes.push_uncovered.Given as goal

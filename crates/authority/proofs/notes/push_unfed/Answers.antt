@@ -1,4 +1,4 @@
-use Rattle.std.proofs.Common.{◌∙◌, ◌+◌, ◌++◌, cond, List, [], ◌∷◌, ap, sym, map, drop, append_assoc}
+use Rattle.std.proofs.Common.{◌∙◌, ◌+◌, ◌++◌, cond, List, [], ◌∷◌, ap, sym, drop, append_assoc}
 use Rattle.std.specs.List.{find}
 use Rattle.std.specs.Option.{is_none}
 use Rattle.geo_terms.specs.PlaceForm.{same_text}

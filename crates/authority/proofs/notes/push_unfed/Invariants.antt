@@ -1,4 +1,4 @@
-use Rattle.std.proofs.Common.{◌≡◌, ◌++◌, drop, map}
+use Rattle.std.proofs.Common.{◌≡◌, ◌++◌, drop}
 use Rattle.authority.specs.Ranked.{unfed_in}
 use Rattle.authority.proofs.notes.push_unfed.Given as goal
 

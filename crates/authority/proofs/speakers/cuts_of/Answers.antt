@@ -1,4 +1,4 @@
-use Rattle.std.proofs.Common.{◌∙◌, List, ap, map, subst}
+use Rattle.std.proofs.Common.{◌∙◌, List, subst}
 use Rattle.geo_addr.specs.Ranges.{Ends, AreCuts}
 use Rattle.source_changes.specs.CutPoints.{whole}
 use Rattle.authority.proofs.speakers.cuts_of.Goals as goal

@@ -1,6 +1,5 @@
 use Rattle.std.proofs.Common.{◌≡◌, ◌∙◌, ◌+◌, ◌<◌, ◌++◌, ◌∷◌, [], ℕ, true, false, List, None, ap}
-use Rattle.std.proofs.Common.{arith, append-nil, drop, get_or, length, rules, sym, subst}
-use Rattle.std.proofs.lemmas.Bool.Decides.{nat_tests}
+use Rattle.std.proofs.Common.{arith, append-nil, drop, get_or, length, rules, sym}
 use Rattle.std.proofs.lemmas.Grind.{common_steps}
 use Rattle.std.proofs.lemmas.List.{drop_all, get_or_default}
 use Rattle.first_index.specs.Columns.{begin_at, last_ones, of_columns}

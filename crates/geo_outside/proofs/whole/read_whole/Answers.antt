@@ -31,3 +31,9 @@ loop-piece-preserved g c =
           (c.in-Ok.ensures.held w now) (λ file is. c.in-Ok.ensures.bytes w file now is) more
           (c.loop-piece.invariant.first w told);
     }
+
+pub returns-in-Err-Failed-clause-absent : goal.returns-in-Err-Failed-clause-absent
+returns-in-Err-Failed-clause-absent g c = search rules steps 1000000
+
+pub returns-in-Err-Failed-clause-missing : goal.returns-in-Err-Failed-clause-missing
+returns-in-Err-Failed-clause-missing g c = grind (arith, common_steps) steps 1000000

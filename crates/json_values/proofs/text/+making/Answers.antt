@@ -6,6 +6,8 @@ use Rattle.mmdb_data.specs.View.{value_tree, items_view, members_view}
 use Rattle.json_values.specs.JsonData.{data_of, members_put, items_data}
 use Rattle.json_values.proofs.JsonViews.{items_made, object_made, array_made}
 use Rattle.json_values.proofs.text.+making.Goals as goal
+use Rattle.std.proofs.Common.{arith}
+use Rattle.std.proofs.lemmas.Grind.{common_steps}
 
 pub json_of-returns-in_ok-object_of-in-Map : goal.json_of-returns-in_ok-object_of-in-Map
 json_of-returns-in_ok-object_of-in-Map t c =
@@ -24,3 +26,9 @@ array_of-returns t c =
     let values = c.args.values.now in
     ap data_items_of (c.loop-value.invariant ∙ ap (map (λ v. data_of (value_tree v)))
     (take_all c.loop-value.value-index values c.loop-value-test.false)) ∙ items_made values
+
+pub array_of-loop-value-preserved : goal.array_of-loop-value-preserved
+array_of-loop-value-preserved t c = grind (arith, common_steps) steps 3500000
+
+pub object_of-loop-key-preserved : goal.object_of-loop-key-preserved
+object_of-loop-key-preserved t c = grind (arith, common_steps) steps 1000000

@@ -55,3 +55,9 @@ loop-left-preserved c =
             count_by-le-length (λ b. eqb b 10) text,
           );
     }
+
+pub returns-clause-cut : goal.returns-clause-cut
+returns-clause-cut c = search rules steps 1000000
+
+pub returns-clause-lines : goal.returns-clause-lines
+returns-clause-lines c = search rules steps 1000000

@@ -1,5 +1,5 @@
 -- The middle is an address, and both halves are blocks.
-use Rattle.std.proofs.Common.{◌≡◌, ◌+◌, ◌-◌, ◌*◌, ◌%◌, ◌^◌, ◌<◌, ap, sym, subst, arith}
+use Rattle.std.proofs.Common.{◌+◌, ◌<◌, ap, sym, subst, arith}
 use Rattle.geo_addr.specs.Ranges.{Prefix}
 use Rattle.publish_least.proofs.HalfLemmas.{half_size, middle_within, IsBlock-lower, IsBlock-upper}
 use Rattle.publish_least.proofs.half.halves.Goals as goal

@@ -1,7 +1,7 @@
 -- What holds of the lines of the tree under the block holds of the root.
 use Rattle.std.proofs.lemmas.Result.{IfOk-weaker}
 use Rattle.trie_core.specs.Store.{meaning}
-use Rattle.publish_least.proofs.LeastLemmas.{lines_are, are_inside, in_preorder, answer_as}
+use Rattle.publish_least.proofs.LeastLemmas.{are_inside, in_preorder, answer_as}
 use Rattle.publish_least.proofs.LeastLemmas.{are_fewest, price_is}
 use Rattle.publish_least.proofs.least.least_lines.Goals as goal
 

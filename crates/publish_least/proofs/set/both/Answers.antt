@@ -1,7 +1,7 @@
 use Rattle.std.proofs.Common.{ap, ◌∙◌, subst, sym}
 use Rattle.std.specs.List.Sorted.{IsNonDecreasing}
 use Rattle.std.proofs.lemmas.Result.{IfOk-weaker}
-use Rattle.publish_least.specs.Price.{has, shared}
+use Rattle.publish_least.specs.Price.{has}
 use Rattle.publish_least.proofs.SetLemmas.{rises-shared, has-shared_other}
 use Rattle.publish_least.proofs.set.both.Goals as goal
 

@@ -1,4 +1,4 @@
-use Rattle.std.proofs.Common.{sym, ◌∙◌}
+use Rattle.std.proofs.Common.{◌∙◌}
 use Rattle.std.proofs.lemmas.List.Sorted.{searched}
 use Rattle.publish_least.proofs.SetLemmas.{has-found}
 use Rattle.publish_least.proofs.set.is_in.Goals as goal

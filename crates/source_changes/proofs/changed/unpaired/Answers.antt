@@ -1,5 +1,5 @@
 use Rattle.std.proofs.Common.{◌≡◌, ◌∙◌, ◌++◌, ◌∷◌, ◌+◌, ◌<◌, true, [], List, ℕ, Bor, ap, arith}
-use Rattle.std.proofs.Common.{drop, length, map, rules, subst, sym, take}
+use Rattle.std.proofs.Common.{length, map, rules, subst, sym, take}
 use Rattle.source_changes.proofs.Found.{far_changed, rest_all}
 use Rattle.source_changes.proofs.Paired.{AsFar, now_more, pair_kept, pair_passed, rest_kept}
 use Rattle.source_changes.proofs.changed.unpaired.Goals as goal

@@ -1,5 +1,5 @@
 use Rattle.std.proofs.Common.{◌∙◌, refl, sym}
-use Rattle.source_changes.proofs.ShelfLemmas.{found_within, missed_within, not_found, placed_order}
+use Rattle.source_changes.proofs.ShelfLemmas.{found_within, not_found, placed_order}
 use Rattle.source_changes.proofs.ShelfLemmas.{put_here, put_there, there}
 use Rattle.source_changes.proofs.shelf.put.Goals as goal
 

@@ -1,5 +1,5 @@
 use Rattle.std.proofs.Common.{◌∙◌, refl, sym}
-use Rattle.source_changes.proofs.ShelfLemmas.{found_within, not_found, nothing_removed}
+use Rattle.source_changes.proofs.ShelfLemmas.{not_found, nothing_removed}
 use Rattle.source_changes.proofs.ShelfLemmas.{removed_order, taken, there}
 use Rattle.source_changes.proofs.shelf.take.Goals as goal
 

@@ -2,6 +2,7 @@ use Rattle.std.proofs.Common.{ℕ, subst, ◌+◌, ◌<◌, ◌≤◌, ◌^◌, 
 use Rattle.geo_addr.specs.Ranges.{Ends, IsBlock}
 use Rattle.split_core.proofs.Rooms.{length_more, length_is, length_block}
 use Rattle.split_core.proofs.walk.largest_of.Goals as goal
+use Rattle.std.proofs.Common.{rules}
 
 pub loop-range-smaller : goal.loop-range-smaller
 loop-range-smaller c =
@@ -42,3 +43,6 @@ returns c =
     let len_is = length_is c.loop-range.len r.first (r.last + 1) c.loop-range.invariant.short
     (sym c.loop-range-test.ensures) c.loop-range.invariant.same in
     λ i. record { first = first_is i; len = len_is i }
+
+pub loop-range-init : goal.loop-range-init
+loop-range-init c = search rules steps 1000000

@@ -1,14 +1,12 @@
-use Rattle.std.proofs.Common.{◌≡◌, ◌∙◌, ◌++◌, List, ℕ, Some, None, Option}
-use Rattle.std.proofs.Common.{ap, sym, subst, map, refl}
+use Rattle.std.proofs.Common.{◌∙◌, List}
+use Rattle.std.proofs.Common.{ap, map}
 use Rattle.std.specs.Arc.{arc_value}
 use Rattle.std.specs.List.{find}
-use Rattle.std.specs.Option.{option_map, option_copied}
 use Rattle.geo_terms.specs.PlaceForm.{same_text}
-use Rattle.geo_terms.specs.SlotOrder.{placed, removed}
-use Rattle.geo_terms.specs.SourceForm.{DumpParts, FeedParts}
+use Rattle.geo_terms.specs.SlotOrder.{placed}
+use Rattle.geo_terms.specs.SourceForm.{FeedParts}
 use Rattle.geo_terms.specs.Sources.{InForce}
-use Rattle.authority.specs.Held.{IsHeld, in_force, slot_of, url_of}
-use Rattle.authority.proofs.HeldLemmas.{dumps_placed, dumps_removed, dump_found}
+use Rattle.authority.specs.Held.{in_force}
 use Rattle.authority.proofs.force.Authority.set_ready_feed.Goals as goal
 
 pub invariant_of-self-2 : goal.invariant_of-self-2

@@ -1,6 +1,5 @@
 use Rattle.std.proofs.Common.{◌≡◌, ◌∙◌, List, [], ◌∷◌, ap, map, refl, subst, sym}
 use Rattle.std.specs.Arc.{arc_value}
-use Rattle.geo_terms.specs.SlotOrder.{AreInOrder}
 use Rattle.geo_terms.specs.SourceForm.{DumpParts, FeedParts}
 use Rattle.authority.specs.Held.{AreMade, in_force, references_in, url_of}
 use Rattle.authority.proofs.HeldLemmas.{clones_same, made_same, order_same}

@@ -1,11 +1,10 @@
-use Rattle.std.proofs.Common.{◌≡◌, ◌∙◌, Option, Some, None, ap, slice_get}
+use Rattle.std.proofs.Common.{◌≡◌, ◌∙◌, Some, None, ap, slice_get}
 use Rattle.std.specs.Arc.{arc_value}
 use Rattle.std.specs.Option.{option_and_then, option_copied}
 use Rattle.first_index.specs.Boundaries.{told}
 use Rattle.geo_terms.specs.First.{first_of}
 use Rattle.geo_terms.specs.Precedence.{entries_within, entry_before}
 use Rattle.geo_terms.specs.SourceForm.{FeedParts}
-use Rattle.geo_terms.specs.declared.statement.Entry.{Entry}
 use Rattle.authority.specs.declared.kind_index.KindIndex.{KindIndex}
 use Rattle.authority.proofs.EntryLemmas.{by_index, kept}
 use Rattle.authority.proofs.ready.ReadyFeed.entry_within.Goals as goal

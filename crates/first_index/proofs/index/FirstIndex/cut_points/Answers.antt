@@ -1,4 +1,4 @@
-use Rattle.std.proofs.Common.{◌∙◌, ℕ, List, ap, map, sym}
+use Rattle.std.proofs.Common.{◌∙◌, ap, map, sym}
 use Rattle.first_index.specs.declared.boundaries.Boundary.{Boundary}
 use Rattle.first_index.proofs.ColumnLemmas.{points_are}
 use Rattle.first_index.proofs.index.FirstIndex.cut_points.Goals as goal

@@ -3,6 +3,7 @@ use Rattle.std.proofs.Common.{◌≡◌, None, Some, ap, length, refl, sym, ◌�
 use Rattle.geo_terms.specs.Numbers.{number_of}
 use Rattle.geo_terms.proofs.NumberLemmas.{number_new, numbers_name_places, table_kept, table_new}
 use Rattle.geo_terms.proofs.places.Places.intern.Goals as goal
+use Rattle.std.proofs.Common.{rules}
 
 pub returns-in-Some-clause-table : goal.returns-in-Some-clause-table
 returns-in-Some-clause-table c =
@@ -27,3 +28,6 @@ pub returns-in-Ok-clause-table : goal.returns-in-Ok-clause-table
 returns-in-Ok-clause-table c =
     table_new c.args.self.now c.push.new.self c.args.place.now (sym c.in_default.ensures)
     c.in-Ok.ensures.pushed
+
+pub returns-then-len-clause-full : goal.returns-then-len-clause-full
+returns-then-len-clause-full c = search rules steps 1000000

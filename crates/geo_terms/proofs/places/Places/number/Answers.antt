@@ -8,3 +8,6 @@ slot_of-slot-requires c =
     let t = c.self.invariant.2 in
     let two : 1 < length c.self.inside.slots.items = t.some some in
     search rules
+
+pub returns : goal.returns
+returns c = search rules steps 1000000

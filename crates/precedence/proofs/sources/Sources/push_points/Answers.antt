@@ -2,7 +2,7 @@ use Rattle.std.proofs.Common.{◌∙◌, ◌++◌, List, [], ap, map, append_ass
 use Rattle.std.specs.List.{flat_map}
 use Rattle.geo_addr.specs.Ranges.{Ends}
 use Rattle.geo_terms.specs.DelegationForm.{DelegationParts}
-use Rattle.geo_terms.specs.SourceForm.{FeedParts, OverridesParts, StatsParts}
+use Rattle.geo_terms.specs.SourceForm.{FeedParts, StatsParts}
 use Rattle.geo_terms.specs.Sources.{InForce, references, rows_in}
 use Rattle.geo_terms.specs.declared.statement.Override.{Override}
 use Rattle.geo_terms.specs.declared.statement.Reference.{Reference}

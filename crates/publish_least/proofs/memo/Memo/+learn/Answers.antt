@@ -1,5 +1,5 @@
 -- A leaf gets its index; a node gets its set, behind those of its children.
-use Rattle.std.proofs.Common.{◌≡◌, ap, sym, ◌∙◌, subst}
+use Rattle.std.proofs.Common.{ap, sym, ◌∙◌, subst}
 use Rattle.std.proofs.lemmas.Result.{on_ok_weaker}
 use Rattle.trie_core.specs.Store.{meaning}
 use Rattle.trie_core.proofs.StoreLemmas.{meaning-leaf}

@@ -1,5 +1,4 @@
-use Rattle.std.proofs.Common.{◌≡◌, Some, ap, refl, option_map}
-use Rattle.publish_least.specs.Memo.{table_of}
+use Rattle.std.proofs.Common.{ap, refl, option_map}
 use Rattle.publish_least.proofs.MemoLemmas.{IsNoted-from_updates}
 use Rattle.publish_least.proofs.memo.Memo.note.Goals as goal
 

@@ -1,5 +1,5 @@
 -- What stands at a root, and its line, by the set of its best leaves.
-use Rattle.std.proofs.Common.{◌≡◌, ◌++◌, ap, sym, ◌∙◌, append-nil}
+use Rattle.std.proofs.Common.{◌++◌, ap, sym, ◌∙◌, append-nil}
 use Rattle.trie_core.specs.Store.{meaning}
 use Rattle.publish_least.specs.Memo.{table_of}
 use Rattle.publish_least.proofs.SetLemmas.{set_some}
