@@ -1,12 +1,13 @@
--- What a root answers after the segments were painted on it.
+-- What a root answers while chunks of segments are painted on it, and after all were.
 use Rattle.std.proofs.Common.{◌≡◌, ℕ, zero, suc, ◌+◌, ◌*◌, ◌^◌, ◌<◌, ◌≤◌, Bool, true, false, cond}
 use Rattle.std.proofs.Common.{◌&&◌, leb, eqb, List, [], ◌∷◌, ◌++◌, length, map, get_or}
-use Rattle.std.proofs.Common.{Option, Some, None, refl, sym, ap, ◌∙◌, subst, arith}
-use Rattle.std.proofs.Common.{length-append, append_assoc, append-nil}
-use Rattle.std.specs.Prelude.{slice_get}
-use Rattle.std.specs.List.{All, Any, AllByRecursion}
+use Rattle.std.proofs.Common.{Option, Some, None, inl, inr, refl, sym, ap, ◌∙◌, subst, arith}
+use Rattle.std.proofs.Common.{length-append, append_assoc, append-nil, MatchOption}
+use Rattle.std.specs.Prelude.{slice_get, flat_map}
+use Rattle.std.specs.List.{All, AllAdjacentBelow, Any, AllByRecursion}
 use Rattle.std.proofs.lemmas.Bool.Decides.{nat_tests}
 use Rattle.std.proofs.lemmas.List.{length-map}
+use Rattle.std.proofs.lemmas.List.Concat.{flat_map-append}
 use Rattle.std.proofs.Math.ListN.{get_or-map}
 use Rattle.std.proofs.lemmas.List.Elements.{recursion_from_All}
 use Rattle.geo_addr.specs.Ranges.{Ends, IsRange, IsWithin}
@@ -16,15 +17,17 @@ use Rattle.geo_terms.specs.Alias.{is_alias}
 use Rattle.geo_terms.specs.Cuts.{statement_ranges}
 use Rattle.geo_terms.specs.Precedence.{spoken_at}
 use Rattle.geo_terms.specs.Sources.{InForce}
+use Rattle.cut_segments.proofs.CutLemmas.{any_cases, any_left, any_one, any_right, one_any}
 use Rattle.source_changes.specs.Touched.{is_touched}
 use Rattle.trie_core.specs.declared.node.Pair.{Pair}
 use Rattle.trie_core.specs.declared.node.Root.{Root}
 use Rattle.trie_core.specs.declared.paint.Part.{Part}
 use Rattle.trie_core.specs.Paint.{IsAscending, leaf_in, over}
 use Rattle.trie_core.specs.Store.{leaf_at}
-use Rattle.update_session.specs.Build.{AreSteady, HasNumber}
+use Rattle.update_session.specs.Build.{AreChosen, IsChosenIn, StandFor, said_in, segments_of}
 use Rattle.update_session.specs.Touch.{bound, few_places, touch}
 use Rattle.update_session.specs.Kept.{Answers, AnswersSpoken, GrowsBy}
+use Rattle.update_session.specs.declared.choosing.Chosen.{Chosen}
 
 -- ---- a list of places that grows
 
@@ -40,9 +43,6 @@ pub place_at-grown : (before more : List PlaceParts) (k : ℕ) → k ≤ length 
 place_at-grown before more zero few = refl
 place_at-grown before more (suc i) few = slice_get-grown before more i (omega arith)
 
-pub GrowsBy-refl : (places : List PlaceParts) (n : ℕ) → GrowsBy places places n
-GrowsBy-refl places n = ([], sym (append-nil places), omega arith)
-
 pub GrowsBy-trans : (x y z : List PlaceParts) (m n all : ℕ) → GrowsBy x y m → GrowsBy y z n
     → m + n ≤ all → GrowsBy x z all
 GrowsBy-trans x y z m n all (more, y-is, few) (late, z-is, few') le = (
@@ -52,25 +52,22 @@ GrowsBy-trans x y z m n all (more, y-is, few) (late, z-is, few') le = (
 )
 
 -- where something is touched, an emit gives numbers to no more places than the touch,
--- and paints no more parts
-pub few_places_of : (s : InForce) (touched : List Ends) (before after : List PlaceParts)
-    → eqb (length touched) 0 ≡ false
-    → GrowsBy before after (touch touched (statement_ranges s))
-    → GrowsBy before after (few_places touched s)
+-- and may paint as many parts
+pub few_places_of : (s : InForce) (touched : List Ends) (before after : List PlaceParts) (n : ℕ)
+    → eqb (length touched) 0 ≡ false → n ≤ touch touched (statement_ranges s)
+    → GrowsBy before after n → GrowsBy before after (few_places touched s)
 unfolding few_places
-few_places_of s [] before after some grown =
+few_places_of s [] before after n some le grown =
     absurd (let this : true ≡ false = some in cc)
-few_places_of s (r ∷ rs) before after some (more, after-is, few) =
-    (more, after-is, omega (arith, few))
+few_places_of s (r ∷ rs) before after n some le (more, after-is, few) =
+    (more, after-is, omega (arith, few, le))
 
-pub few_parts : (s : InForce) (touched segments : List Ends) (ps : List Part)
-    → eqb (length touched) 0 ≡ false → AreSteady s touched segments
-    → map (λ p. p.range) ps ≡ segments
-    → 256 * length ps + 256 ≤ bound touched s
+pub within_bound : (s : InForce) (touched : List Ends) (n : ℕ)
+    → eqb (length touched) 0 ≡ false → n ≤ touch touched (statement_ranges s)
+    → 256 * n + 256 ≤ bound touched s
 unfolding bound few_places
-few_parts s [] segments ps some steady ranges = absurd (let this : true ≡ false = some in cc)
-few_parts s (r ∷ rs) segments ps some steady ranges =
-    omega (arith, sym (length-map ps (λ (p : Part). p.range)) ∙ ap length ranges, steady.few)
+within_bound s [] n some le = absurd (let this : true ≡ false = some in cc)
+within_bound s (r ∷ rs) n some le = omega (arith, le)
 
 pub Answers-grown : (pairs : List Pair) (before after : List PlaceParts)
     (n : ℕ) (root : Root) (wanted : Option PlaceParts) (a : ℕ) → GrowsBy before after n
@@ -84,20 +81,21 @@ Answers-grown pairs before after n root wanted a (more, after-is, few) h =
       place = place_at-grown before more h.leaf h.few ∙ h.place;
     })
 
--- ---- the parts of the segments
+-- ---- the parts of a chunk
 
--- parts with the ranges of steady segments ascend
-pub IsAscending-from_steady : (s : InForce) (touched segments : List Ends) (parts : List Part)
-    → AreSteady s touched segments → map (λ p. p.range) parts ≡ segments → IsAscending parts
-IsAscending-from_steady s touched segments parts steady ranges = record {
+-- parts with the ranges of ascending segments ascend
+pub IsAscending-from_segments : (segments : List Ends) (parts : List Part) → All IsRange segments
+    → AllAdjacentBelow (λ r t. r.last < t.first) segments (length segments)
+    → map (λ p. p.range) parts ≡ segments → IsAscending parts
+IsAscending-from_segments segments parts are apart ranges = record {
   ranges =
       λ k d below. let is : IsRange (get_or segments k d.range) =
-      steady.ranges k d.range (omega (arith, below, same_length)) in
+      are k d.range (omega (arith, below, same_length)) in
       subst IsRange (range_at k d) is;
   apart = λ k d below.
       subst (λ (r : Ends). r.last < (get_or parts (k + 1) d).range.first) (range_at k d)
       (subst (λ (r : Ends). (get_or segments k d.range).last < r.first) (range_at (k + 1) d)
-      (steady.apart k d.range (omega (arith, below, same_length))));
+      (apart k d.range (omega (arith, below, same_length))));
 }
   where
     same_length : length segments ≡ length parts
@@ -112,85 +110,171 @@ IsAscending-from_steady s touched segments parts steady ranges = record {
 abbrev Steady : InForce → Ends → Type 0
 Steady s r = (a : ℕ) → IsWithin r a → spoken_at s a ≡ spoken_at s r.first
 
--- where the parts have a leaf, it is the number of what is said
-leaf_found : (s : InForce) (places : List PlaceParts) (parts : List Part) (a k : ℕ)
-    → AllByRecursion (HasNumber s places) parts
-    → AllByRecursion (Steady s) (map (λ p. p.range) parts)
-    → leaf_in parts a ≡ Some k → (k ≤ length places) × (place_at places k ≡ spoken_at s a)
-leaf_found s places [] a k have steady found = absurd (cc)
-leaf_found s places (p ∷ ps) a k have steady found =
-    by (leaf_found s places ps a k have.1 steady.1)
-    (leb p.range.first a && leb a p.range.last) refl found
+abbrev Have : List Ends → ℕ → Type 0
+Have segments a = Any (λ r. IsWithin r a) segments
+
+-- what was painted at an address: nothing where no segment has it, else the number of what is said
+abbrev Tells : InForce → List PlaceParts → List Ends → ℕ → Option ℕ → Type 0
+Tells s places segments a found =
+    MatchOption found (Have segments a → ⊥)
+    (λ k. Have segments a × (k ≤ length places) × (place_at places k ≡ spoken_at s a))
+
+abbrev Numbered : InForce → List PlaceParts → List Part → Type 0
+Numbered s places ps =
+    StandFor places (map (λ p. p.leaf) ps) (map (λ r. spoken_at s r.first) (map (λ p. p.range) ps))
+
+leaf_tells : (s : InForce) (places : List PlaceParts) (ps : List Part) (a : ℕ)
+    → Numbered s places ps → AllByRecursion (Steady s) (map (λ p. p.range) ps)
+    → Tells s places (map (λ p. p.range) ps) a (leaf_in ps a)
+leaf_tells s places [] a stand steady = none
   where
-    by : (leaf_in ps a ≡ Some k → (k ≤ length places) × (place_at places k ≡ spoken_at s a))
+    none : Have [] a → ⊥
+    none (k, r, below, is, within) = omega (arith, below)
+leaf_tells s places (p ∷ ps) a stand steady =
+    let e : place_at places p.leaf ∷ map (place_at places) (map (λ (q : Part). q.leaf) ps)
+    ≡ spoken_at s p.range.first
+    ∷ map (λ (r : Ends). spoken_at s r.first) (map (λ (q : Part). q.range) ps) =
+    stand.means in
+    let first : place_at places p.leaf ≡ spoken_at s p.range.first = cc in
+    let rest : map (place_at places) (map (λ (q : Part). q.leaf) ps)
+    ≡ map (λ (r : Ends). spoken_at s r.first) (map (λ (q : Part). q.range) ps) = cc in
+    by first
+    (leaf_tells s places ps a (record { known = stand.known.1; means = rest }) steady.1)
+    (leb p.range.first a && leb a p.range.last) refl
+  where
+    later : List Ends
+    later = map (λ q. q.range) ps
+
+    behind : (found : Option ℕ) → (IsWithin p.range a → ⊥) → Tells s places later a found
+        → Tells s places (p.range ∷ later) a found
+    behind None out none = λ any. elim (any_cases (λ r. IsWithin r a) (p.range ∷ []) later any) [
+      | inl here ↦ out (one_any (λ r. IsWithin r a) p.range here)
+      | inr there ↦ none there
+    ]
+    behind (Some k) out h = (any_right (λ r. IsWithin r a) (p.range ∷ []) later h.0, h.1, h.2)
+
+    by : place_at places p.leaf ≡ spoken_at s p.range.first
+        → Tells s places later a (leaf_in ps a)
         → (b : Bool) → (leb p.range.first a && leb a p.range.last) ≡ b
-        → cond b (Some p.leaf) (leaf_in ps a) ≡ Some k
-        → (k ≤ length places) × (place_at places k ≡ spoken_at s a)
-    by rest true inside is =
-        let same : p.leaf ≡ k = cc in
-        let within : IsWithin p.range a = (grind (arith, nat_tests), grind (arith, nat_tests)) in
-        subst (λ (n : ℕ). (n ≤ length places) × (place_at places n ≡ spoken_at s a)) same
-        (have.0.0, have.0.1 ∙ sym (steady.0 a within))
-    by rest false outside is = rest is
+        → Tells s places (p.range ∷ later) a (cond b (Some p.leaf) (leaf_in ps a))
+    by first rest true inside =
+        let within : IsWithin p.range a = (grind (arith, nat_tests), grind (arith, nat_tests)) in (
+          any_left (λ r. IsWithin r a) (p.range ∷ []) later
+              (any_one (λ r. IsWithin r a) p.range within),
+          stand.known.0,
+          first ∙ sym (steady.0 a within),
+        )
+    by first rest false outside =
+        behind (leaf_in ps a)
+        (λ within. let low : p.range.first ≤ a = within.0 in
+        let high : a ≤ p.range.last = within.1 in grind (arith, nat_tests)) rest
 
--- where they have none, no segment has the address
-leaf_missed : (parts : List Part) (a : ℕ) → leaf_in parts a ≡ None
-    → Any (λ r. IsWithin r a) (map (λ p. p.range) parts) → ⊥
-leaf_missed [] a none (k, r, below, is, within) = absurd (omega (arith, below))
-leaf_missed (p ∷ ps) a none any =
-    by (leaf_missed ps a) (leb p.range.first a && leb a p.range.last) refl none any
+-- ---- the root, while the chunks are painted
+
+-- the root after these segments were painted: in them it answers what is said,
+-- elsewhere it has the leaf that the root before had
+pub record IsPaintedSoFar (s : InForce) (done : List Ends) (old : List Pair) (before : Root)
+    (new : List Pair) (places : List PlaceParts) (root : Root) : Type 0 where
+  pub within : (a : ℕ) → a < 2 ^ 128 → Any (λ r. IsWithin r a) done
+      → Answers new places root (spoken_at s a) a
+  pub outside : (a : ℕ) → a < 2 ^ 128 → (Any (λ r. IsWithin r a) done → ⊥)
+      → leaf_at new root a ≡ leaf_at old before a
+
+-- the segments of one chunk more; the parts are those that were made of them
+pub painted_more : (s : InForce) (touched : List Ends) (chunk : Ends) (before : List Chosen)
+    (one : Chosen) (made parts : List Part) (old mid new : List Pair)
+    (places more : List PlaceParts) (n : ℕ) (first root painted : Root)
+    → IsPaintedSoFar s (flat_map segments_of before) old first mid places root
+    → IsChosenIn s touched chunk one → GrowsBy places more n → parts ≡ made
+    → map (λ p. p.range) made ≡ one.segments.items
+    → StandFor more (map (λ p. p.leaf) made) (said_in one)
+    → ((a : ℕ) → a < 2 ^ 128 → leaf_at new painted a ≡ over (leaf_in parts a) (leaf_at mid root a))
+    → IsPaintedSoFar s (flat_map segments_of (before ++ one ∷ [])) old first new more painted
+painted_more s touched chunk before one made parts old mid new places more n first root painted
+    so_far chosen grown same made_ranges made_stand lookups =
+    subst (λ (rs : List Ends). IsPaintedSoFar s rs old first new more painted) (sym longer)
+    (record {
+      within = λ a below any. inside a below any (leaf_in parts a) refl (tells a);
+      outside = λ a below none. beside a below none (leaf_in parts a) refl (tells a);
+    })
   where
-    by : (leaf_in ps a ≡ None → Any (λ r. IsWithin r a) (map (λ q. q.range) ps) → ⊥)
-        → (b : Bool) → (leb p.range.first a && leb a p.range.last) ≡ b
-        → cond b (Some p.leaf) (leaf_in ps a) ≡ None
-        → Any (λ r. IsWithin r a) (map (λ q. q.range) (p ∷ ps)) → ⊥
-    by rest true inside none any = absurd (let e : Some p.leaf ≡ None = none in cc)
-    by rest false outside none (zero, r, below, is, within) =
-        let low : p.range.first ≤ a = omega (arith, ap (λ (e : Ends). e.first) is, within.0) in
-        let high : a ≤ p.range.last = omega (arith, ap (λ (e : Ends). e.last) is, within.1) in
-        grind (arith, nat_tests)
-    by rest false outside none (suc k, r, below, is, within) =
-        rest none (k, r, omega (arith, below), is, within)
+    done : List Ends
+    done = flat_map segments_of before
 
--- the root on which the segments were painted answers what is said,
--- outside the blocks that carry IPv4 addresses
-pub AnswersSpoken-painted : (s : InForce) (touched segments : List Ends) (parts : List Part)
-    (old new : List Pair) (before after : List PlaceParts) (n : ℕ) (root painted : Root)
-    → AreSteady s touched segments → map (λ p. p.range) parts ≡ segments
-    → All (HasNumber s after) parts → GrowsBy before after n
-    → ((a : ℕ) → a < 2 ^ 128 → is_alias a ≡ false → is_touched touched a ≡ false
-    → Answers old before root (spoken_at s a) a)
-    → ((a : ℕ) → a < 2 ^ 128 → leaf_at new painted a ≡ over (leaf_in parts a) (leaf_at old root a))
-    → AnswersSpoken new after painted s
-AnswersSpoken-painted s touched segments parts old new before after n root painted steady ranges
-    have grown elsewhere lookups a below own = by (leaf_in parts a) refl
-  where
-    none_touched : leaf_in parts a ≡ None → is_touched touched a ≡ false
-    none_touched none = by (is_touched touched a) refl
-      where
-        by : (b : Bool) → is_touched touched a ≡ b → is_touched touched a ≡ false
-        by true is =
-            absurd (leaf_missed parts a none (subst (λ (rs : List Ends). Any (λ r. IsWithin r a) rs)
-            (sym ranges) (steady.covered a below is)))
-        by false is = is
+    segments : List Ends
+    segments = one.segments.items
 
-    by : (found : Option ℕ) → leaf_in parts a ≡ found → Answers new after painted (spoken_at s a) a
-    by (Some k) is =
-        let right = leaf_found s after parts a k (recursion_from_All (HasNumber s after) parts have)
-        (subst (AllByRecursion (Steady s)) (sym ranges)
-        (recursion_from_All (Steady s) segments steady.steady)) is in
-        record {
-          leaf = k;
-          is = lookups a below ∙ ap (λ found. over found (leaf_at old root a)) is;
-          few = right.0;
-          place = right.1;
-        }
-    by None is =
-        let was = Answers-grown old before after n root (spoken_at s a) a grown
-        (elsewhere a below own (none_touched is)) in
+    longer : flat_map segments_of (before ++ one ∷ []) ≡ done ++ segments
+    longer =
+        flat_map-append segments_of before (one ∷ [])
+        ∙ ap (λ (rs : List Ends). done ++ rs) (append-nil segments)
+
+    tells : (a : ℕ) → Tells s more segments a (leaf_in parts a)
+    tells a =
+        subst (λ (ps : List Part). Tells s more segments a (leaf_in ps a)) (sym same)
+        (subst (λ (rs : List Ends). Tells s more rs a (leaf_in made a)) made_ranges
+        (leaf_tells s more made a
+        (subst (StandFor more (map (λ (p : Part). p.leaf) made))
+        (chosen.chosen.stands.means ∙ ap (map (λ (r : Ends). spoken_at s r.first))
+        (sym made_ranges)) made_stand)
+        (subst (AllByRecursion (Steady s)) (sym made_ranges)
+        (recursion_from_All (Steady s) segments chosen.cut.steady))))
+
+    inside : (a : ℕ) → a < 2 ^ 128 → Have (done ++ segments) a → (found : Option ℕ)
+        → leaf_in parts a ≡ found → Tells s more segments a found
+        → Answers new more painted (spoken_at s a) a
+    inside a below any None is none =
+        let was = Answers-grown mid places more n root (spoken_at s a) a grown
+        (so_far.within a below (elim (any_cases (λ r. IsWithin r a) done segments any) [
+          | inl here ↦ here
+          | inr there ↦ absurd (none there)
+        ])) in
         record {
           leaf = was.leaf;
-          is = lookups a below ∙ ap (λ found. over found (leaf_at old root a)) is ∙ was.is;
+          is = lookups a below ∙ ap (λ found. over found (leaf_at mid root a)) is ∙ was.is;
+          few = was.few;
+          place = was.place;
+        }
+    inside a below any (Some k) is h =
+        record {
+          leaf = k;
+          is = lookups a below ∙ ap (λ found. over found (leaf_at mid root a)) is;
+          few = h.1;
+          place = h.2;
+        }
+
+    beside : (a : ℕ) → a < 2 ^ 128 → (Have (done ++ segments) a → ⊥) → (found : Option ℕ)
+        → leaf_in parts a ≡ found → Tells s more segments a found
+        → leaf_at new painted a ≡ leaf_at old first a
+    beside a below none None is h =
+        lookups a below ∙ ap (λ found. over found (leaf_at mid root a)) is
+        ∙ so_far.outside a below (λ any. none (any_left (λ r. IsWithin r a) done segments any))
+    beside a below none (Some k) is h =
+        absurd (none (any_right (λ r. IsWithin r a) done segments h.0))
+
+-- the root on which the segments of all chunks were painted answers what is said,
+-- outside the blocks that carry IPv4 addresses
+pub AnswersSpoken-painted : (s : InForce) (touched : List Ends) (chosen : List Chosen)
+    (old new : List Pair) (before after : List PlaceParts) (n : ℕ) (root painted : Root)
+    → AreChosen s touched chosen
+    → IsPaintedSoFar s (flat_map segments_of chosen) old root new after painted
+    → GrowsBy before after n
+    → ((a : ℕ) → a < 2 ^ 128 → is_alias a ≡ false → is_touched touched a ≡ false
+    → Answers old before root (spoken_at s a) a)
+    → AnswersSpoken new after painted s
+AnswersSpoken-painted s touched chosen old new before after n root painted are so_far grown
+    elsewhere a below own = by (is_touched touched a) refl
+  where
+    by : (b : Bool) → is_touched touched a ≡ b → Answers new after painted (spoken_at s a) a
+    by true is = so_far.within a below (are.covered a below is)
+    by false is =
+        let none : Have (flat_map segments_of chosen) a → ⊥ = λ any.
+        (let e : true ≡ false = sym (are.inside a any) ∙ is in cc) in
+        let was = Answers-grown old before after n root (spoken_at s a) a grown
+        (elsewhere a below own is) in
+        record {
+          leaf = was.leaf;
+          is = so_far.outside a below none ∙ was.is;
           few = was.few;
           place = was.place;
         }

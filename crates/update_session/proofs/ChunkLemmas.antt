@@ -1,30 +1,34 @@
 -- The segments of chunks, one chunk after another, are the segments of the whole address space.
 use Rattle.std.proofs.Common.{◌≡◌, ℕ, suc, ◌+◌, ◌^◌, ◌<◌, ◌≤◌, ◌⊎◌, max, List, []}
-use Rattle.std.proofs.Common.{◌∷◌, ◌++◌, length, map, get_or, Contains, sym, subst}
-use Rattle.std.proofs.Common.{inl, inr, arith, eqb, length-append}
+use Rattle.std.proofs.Common.{◌∷◌, ◌++◌, length, map, map-id, get_or, take, Contains, sum_by, sym}
+use Rattle.std.proofs.Common.{Option, Some, None, ap, ◌∙◌, subst, inl, inr, arith, eqb}
+use Rattle.std.proofs.Common.{length-append}
 use Rattle.std.specs.List.{All, Any, AllAdjacentBelow, AllByRecursion, AllZip, filter, flat_map}
+use Rattle.std.specs.Iterator.{Yields}
 use Rattle.std.specs.Prelude.{IsTrue}
 use Rattle.std.proofs.lemmas.Bool.{cases_lt}
 use Rattle.std.proofs.lemmas.Bool.Decides.{Decides-eqb}
+use Rattle.std.proofs.lemmas.Iterator.{YieldsList}
+use Rattle.std.proofs.lemmas.Iterator.Consumers.{YieldsList-end, YieldsList-so_far, YieldsList-turn}
 use Rattle.std.proofs.lemmas.List.{length-map}
+use Rattle.std.proofs.lemmas.List.Concat.{length-flat_map}
+use Rattle.std.proofs.lemmas.List.Sums.{sum_by-cons, sum_by-take-le, sum_by_more}
 use Rattle.std.proofs.lemmas.List.Elements.{All-append, All-contains_itself, All-from_recursion}
 use Rattle.std.proofs.lemmas.List.Elements.{All-get_or, recursion_from_All}
 use Rattle.geo_addr.specs.Ranges.{Ends, IsCut, IsRange, IsWithin, edges_of, ground_first}
 use Rattle.geo_terms.proofs.Ascending.{Up, up_weaker}
 use Rattle.geo_terms.proofs.Members.{Among, among_filter, among_from_contains}
 use Rattle.geo_terms.specs.Cuts.{statement_ranges}
-use Rattle.geo_terms.specs.Precedence.{spoken_at}
 use Rattle.geo_terms.specs.Sources.{InForce}
 use Rattle.cut_segments.proofs.CutLemmas.{any_cases, any_left, any_right}
-use Rattle.cut_segments.proofs.SegmentLemmas.{Ascending, apart}
+use Rattle.cut_segments.proofs.SegmentLemmas.{Ascending}
 use Rattle.cut_segments.specs.Segments.{starts_in}
 use Rattle.least_nodes.proofs.Elements.{In-each_once-new}
 use Rattle.precedence.specs.Chunks.{AreChunks, IsMark, Tiles}
 use Rattle.source_changes.specs.Touched.{is_touched}
-use Rattle.update_session.specs.Build.{AreSteady, IsChosenIn, segments_of}
+use Rattle.update_session.specs.Build.{AreChosen, IsChosenIn, segments_of}
 use Rattle.update_session.specs.Touch.{edges, touch}
 use Rattle.update_session.specs.declared.choosing.Chosen.{Chosen}
-use Rattle.update_session.proofs.NumberingLemmas.{RunsSay, runs_say}
 use Rattle.update_session.proofs.TouchLemmas.{among_edges, among_from_in, different_are_few}
 use Rattle.update_session.proofs.TouchLemmas.{in_from_among}
 
@@ -96,22 +100,6 @@ ends_within out are =
     ))
 
 module _ (s : InForce) (touched : List Ends) where
-  Cut : Ends → Chosen → Type 0
-  Cut chunk one = IsChosenIn s touched chunk one
-
-  -- a property that all segments of each chunk have
-  all_flat : (P : Ends → Type 0) (Q : Ends → Type 0) (chunks : List Ends) (chosen : List Chosen)
-      → ((chunk : Ends) (one : Chosen) → Q chunk → IsChosenIn s touched chunk one
-      → All P (segments_of one))
-      → AllByRecursion Q chunks → AllZip (λ chunk one. IsChosenIn s touched chunk one) chunks chosen
-      → All P (flat_map segments_of chosen)
-  all_flat P Q [] [] each are h = All-from_recursion P [] tt
-  all_flat P Q [] (c ∷ cs) each are h = absurd h
-  all_flat P Q (r ∷ rs) [] each are h = absurd h
-  all_flat P Q (r ∷ rs) (c ∷ cs) each are h =
-      All-append P (segments_of c) (flat_map segments_of cs) (each r c are.0 h.0)
-      (all_flat P Q rs cs each are.1 h.1)
-
   any_flat : (a : ℕ) (chunks : List Ends) (chosen : List Chosen)
       → AllZip (λ chunk one. IsChosenIn s touched chunk one) chunks chosen
       → Any (λ r. IsWithin r a) (flat_map segments_of chosen) → IsTrue (is_touched touched a)
@@ -251,6 +239,16 @@ module _ (s : InForce) (touched : List Ends) where
       (h.cut.inside r.first (here.0, r, here.1, here.2, (omega arith, le))).0 in
       segment_begins chunk r.first begun on (h.cut.begun k d below)
 
+  all_begun : (chunks : List Ends) (chosen : List Chosen) → AllByRecursion Begun chunks
+      → AllZip (λ chunk one. IsChosenIn s touched chunk one) chunks chosen
+      → All (λ r. Among r.first marks) (flat_map segments_of chosen)
+  all_begun [] [] begun h = All-from_recursion (λ r. Among r.first marks) [] tt
+  all_begun [] (c ∷ cs) begun h = absurd h
+  all_begun (r ∷ rs) [] begun h = absurd h
+  all_begun (r ∷ rs) (c ∷ cs) begun h =
+      All-append (λ (x : Ends). Among x.first marks) (segments_of c) (flat_map segments_of cs)
+      (begun_in r c begun.0 h.0) (all_begun rs cs begun.1 h.1)
+
   among_map : (c : ℕ) (rs : List Ends) → AllByRecursion (λ r. Among r.first marks) rs
       → Among c (map (λ r. r.first) rs) → Among c marks
   among_map c [] all is = absurd is
@@ -267,50 +265,126 @@ module _ (s : InForce) (touched : List Ends) where
         length-map touched (λ (r : Ends). ground_first r),
       )
 
-  -- the segments of all chunks, one after another
-  pub AreSteady-from_chunks : (chunks : List Ends) (chosen : List Chosen)
-      → AreChunks s touched chunks
+  -- ---- what all chunks say
+
+  abbrev InChunk : Chosen → Type 0
+  InChunk one = (chunk : Ends) × IsChosenIn s touched chunk one
+
+  each_in : (chunks : List Ends) (chosen : List Chosen)
       → AllZip (λ chunk one. IsChosenIn s touched chunk one) chunks chosen
-      → AreSteady s touched (flat_map segments_of chosen)
-  AreSteady-from_chunks chunks chosen are h =
+      → AllByRecursion InChunk chosen
+  each_in [] [] h = tt
+  each_in [] (c ∷ cs) h = absurd h
+  each_in (r ∷ rs) [] h = absurd h
+  each_in (r ∷ rs) (c ∷ cs) h = ((r, h.0), each_in rs cs h.1)
+
+  -- they have no more places than segments
+  fewer_places : (chosen : List Chosen) → AllByRecursion InChunk chosen
+      → sum_by (λ c. length c.places) chosen ≤ sum_by (λ c. length c.segments.items) chosen
+  fewer_places [] h = omega arith
+  fewer_places (c ∷ cs) h =
+      omega (
+        arith,
+        sum_by-cons (λ (x : Chosen). length x.places) c cs,
+        sum_by-cons (λ (x : Chosen). length x.segments.items) c cs,
+        h.0.1.chosen.few,
+        fewer_places cs h.1,
+      )
+
+  -- what is said in all chunks of the address space
+  pub AreChosen-made : (chunks chunks' : List Ends) (chosen : List Chosen)
+      → AreChunks s touched chunks → chunks' ≡ chunks
+      → AllZip (λ chunk one. IsChosenIn s touched chunk one) chunks' chosen
+      → AreChosen s touched chosen
+  AreChosen-made chunks chunks' chosen whole same h =
+      let are = subst (AreChunks s touched) (sym same) whole in
       let out = flat_map segments_of chosen in
-      let order = flat_ascends 0 (2 ^ 128) chunks chosen are.tiles h in
-      let Any-chunk : Ends → Type 0 = λ r. Unit {0} in
-      let begun = all_flat (λ r. Among r.first marks) Begun chunks chosen begun_in
-      (recursion_from_All Begun chunks are.begun) h in
+      let order = flat_ascends 0 (2 ^ 128) chunks' chosen are.tiles h in
+      let begun = all_begun chunks' chosen (recursion_from_All Begun chunks' are.begun) h in
       let few : length (map (λ (r : Ends). r.first) out) ≤ length marks =
       different_are_few 0 (map (λ (r : Ends). r.first) out) marks (ranges_up 0 out order)
       (λ c is. among_map c out
       (recursion_from_All (λ (r : Ends). Among r.first marks) out begun) is) in
+      let segments : sum_by (λ (c : Chosen). length c.segments.items) chosen
+      ≤ touch touched (statement_ranges s) =
+      omega (
+        arith,
+        few,
+        length-marks,
+        length-map out (λ (r : Ends). r.first),
+        length-flat_map segments_of chosen,
+      ) in
+      let each = each_in chunks' chosen h in
       record {
-        ranges = all_flat IsRange Any-chunk chunks chosen (λ r c q one. one.cut.ranges)
-            (none chunks) h;
-        apart = apart 0 out order;
-        inside = λ a is. any_flat a chunks chosen h is;
+        each = All-from_recursion InChunk chosen each;
+        inside = λ a is. any_flat a chunks' chosen h is;
         covered = λ a below is.
-            flat_any a 0 (2 ^ 128) chunks chosen are.tiles h (omega arith) below is;
-        steady = all_flat (λ r. (a : ℕ) → IsWithin r a → spoken_at s a ≡ spoken_at s r.first)
-            Any-chunk chunks chosen (λ r c q one. one.cut.steady) (none chunks) h;
-        few = omega (arith, few, length-marks, length-map out (λ (r : Ends). r.first));
+            flat_any a 0 (2 ^ 128) chunks' chosen are.tiles h (omega arith) below is;
+        segments = segments;
+        places = omega (arith, fewer_places chosen each, segments);
       }
-    where
-      none : (rs : List Ends) → AllByRecursion (λ r. Unit {0}) rs
-      none [] = tt
-      none (r ∷ rs) = (tt, none rs)
 
--- what the chunks say, and that their segments are those of what is touched
-pub record ChunksSay (s : InForce) (touched : List Ends) (chosen : List Chosen) : Type 0 where
-  pub steady : AreSteady s touched (flat_map segments_of chosen)
-  pub runs : RunsSay s (flat_map segments_of chosen) chosen
+-- ---- a loop over the chunks
 
-pub chunks_say : (s : InForce) (touched chunks chunks' : List Ends) (chosen chosen' : List Chosen)
-    → AreChunks s touched chunks → chunks' ≡ chunks → chosen' ≡ chosen
-    → AllZip (λ chunk one. IsChosenIn s touched chunk one) chunks' chosen
-    → ChunksSay s touched chosen'
-chunks_say s touched chunks chunks' chosen chosen' are same same' h =
-    subst (ChunksSay s touched) (sym same')
-    (record {
-      steady = AreSteady-from_chunks s touched chunks' chosen
-          (subst (AreChunks s touched) (sym same) are) h;
-      runs = runs_say s touched chunks' chosen h;
-    })
+-- a chunk that a loop comes to behind others: with these it has no more segments than the touch,
+-- and no more places
+pub record IsNext (s : InForce) (touched : List Ends) (before : List Chosen) (one : Chosen)
+    : Type 0 where
+  pub chunk : Ends
+  pub is : IsChosenIn s touched chunk one
+  pub segments : sum_by (λ c. length c.segments.items) before + length one.segments.items
+      ≤ touch touched (statement_ranges s)
+  pub places : sum_by (λ c. length c.places) before + length one.places
+      ≤ touch touched (statement_ranges s)
+
+so_far_within : (f : Chosen → ℕ) (chosen before : List Chosen) (i : ℕ) (one : Chosen)
+    → before ≡ take i chosen → i < length chosen → one ≡ get_or chosen i one
+    → sum_by f before + f one ≤ sum_by f chosen
+so_far_within f chosen before i one same below is =
+    omega (
+      arith,
+      ap (sum_by f) same,
+      ap f is,
+      sum_by_more f chosen i one below,
+      sum_by-take-le f chosen (i + 1),
+    )
+
+pub next_in : {S : Type 0} {steps : S → Option Chosen → S → Type 0} {start : S} (ready s : InForce)
+    (touched : List Ends) (chosen before : List Chosen) (now after : S) (given : Option Chosen)
+    (one : Chosen) → ready ≡ s → AreChosen ready touched chosen
+    → YieldsList steps (λ c. c) start chosen → Yields steps start before now
+    → given ≡ Some one → steps now given after → IsNext s touched before one
+next_in ready s touched chosen before now after given one same_sources are_ready yields so_far is
+    step =
+    let are = subst (λ (t : InForce). AreChosen t touched chosen) same_sources are_ready in
+    let turn = YieldsList-turn yields before now so_far given after one is step in
+    let i = length before in
+    let same : before ≡ take i chosen =
+    sym (map-id before) ∙ YieldsList-so_far yields before now so_far in
+    let this = subst (λ (c : Chosen). (chunk : Ends) × IsChosenIn s touched chunk c) (sym turn.1)
+    (are.each i one turn.0) in
+    record {
+      chunk = this.0;
+      is = this.1;
+      segments = omega (
+        arith,
+        so_far_within (λ c. length c.segments.items) chosen before i one same turn.0 turn.1,
+        are.segments,
+      );
+      places = omega (
+        arith,
+        so_far_within (λ c. length c.places) chosen before i one same turn.0 turn.1,
+        are.places,
+      );
+    }
+
+-- where the loop ends it came to all of them
+pub all_in : {S : Type 0} {steps : S → Option Chosen → S → Type 0} {start : S} (ready s : InForce)
+    (touched : List Ends) (chosen before : List Chosen) (now after : S) (given : Option Chosen)
+    → ready ≡ s → AreChosen ready touched chosen
+    → YieldsList steps (λ c. c) start chosen → Yields steps start before now
+    → given ≡ None → steps now given after → AreChosen s touched before
+all_in ready s touched chosen before now after given same_sources are_ready yields so_far is step =
+    subst (AreChosen s touched)
+    (sym (YieldsList-end yields before now so_far given after is step).0 ∙ map-id before)
+    (subst (λ (t : InForce). AreChosen t touched chosen) same_sources are_ready)

@@ -1,9 +1,9 @@
 -- How the tree is painted anew: the touched grounds are cut, each segment gets its place's number,
--- and all are painted.
-use Rattle.std.specs.Prelude.{◌≡◌, ℕ, ◌+◌, ◌^◌, ◌<◌, ◌≤◌, IsTrue, List, [], ◌∷◌, length, map}
+-- and the segments are painted, one chunk's after another's.
+use Rattle.std.specs.Prelude.{◌≡◌, ℕ, ◌^◌, ◌<◌, ◌≤◌, IsTrue, List, length, map, flat_map, sum_by}
 use Rattle.std.specs.Prelude.{All, Any, Option, zero, suc, get_or}
-use Rattle.std.specs.List.{AllAdjacentBelow, AllByRecursion}
-use Rattle.geo_addr.specs.Ranges.{Ends, IsRange, IsWithin}
+use Rattle.std.specs.List.{AllByRecursion}
+use Rattle.geo_addr.specs.Ranges.{Ends, IsWithin}
 use Rattle.geo_terms.specs.Cuts.{statement_ranges}
 use Rattle.geo_terms.specs.Numbers.{place_at}
 use Rattle.geo_terms.specs.PlaceForm.{PlaceParts}
@@ -11,24 +11,8 @@ use Rattle.geo_terms.specs.Precedence.{spoken_at}
 use Rattle.geo_terms.specs.Sources.{InForce}
 use Rattle.precedence.specs.Chunks.{AreSegmentsIn}
 use Rattle.source_changes.specs.Touched.{is_touched}
-use Rattle.trie_core.specs.declared.paint.Part.{Part}
 use Rattle.update_session.specs.Touch.{touch}
 use Rattle.update_session.specs.declared.choosing.Chosen.{Chosen}
-
--- ascending ranges that have the touched addresses and no others, of all of each the same is said,
--- and there are no more of them than the touch
-pub record AreSteady (s : InForce) (touched out : List Ends) : Type 0 where
-  pub ranges : All IsRange out
-  pub apart : AllAdjacentBelow (λ r t. r.last < t.first) out (length out)
-  pub inside : (a : ℕ) → Any (λ r. IsWithin r a) out → IsTrue (is_touched touched a)
-  pub covered : (a : ℕ) → a < 2 ^ 128 → IsTrue (is_touched touched a) → Any (λ r. IsWithin r a) out
-  pub steady : All (λ r. (a : ℕ) → IsWithin r a → spoken_at s a ≡ spoken_at s r.first) out
-  pub few : length out ≤ touch touched (statement_ranges s)
-
--- the leaf of a part is the number of what is said of its first address
-abbrev pub HasNumber : InForce → List PlaceParts → Part → Type 0
-HasNumber s places p =
-    (p.leaf ≤ length places) × (place_at places p.leaf ≡ spoken_at s p.range.first)
 
 -- numbers of a list of places, and what they stand for
 pub record StandFor (places : List PlaceParts) (leaves : List ℕ) (said : List (Option PlaceParts))
@@ -50,11 +34,6 @@ IsKnown c =
     AllByRecursion (λ leaf. leaf ≤ length c.places) c.leaves.items
     × (length c.leaves.items ≡ length c.segments.items)
 
--- how many places chunks have together
-abbrev pub places_in : List Chosen → ℕ
-places_in [] = 0
-places_in (c ∷ cs) = length c.places + places_in cs
-
 -- what is said of segments: of each that of its first address; they have no more places
 pub record IsChosen (s : InForce) (c : Chosen) : Type 0 where
   pub stands : StandFor c.places c.leaves.items (map (λ r. spoken_at s r.first) c.segments.items)
@@ -64,6 +43,17 @@ pub record IsChosen (s : InForce) (c : Chosen) : Type 0 where
 pub record IsChosenIn (s : InForce) (touched : List Ends) (chunk : Ends) (c : Chosen) : Type 0 where
   pub cut : AreSegmentsIn s touched chunk c.segments.items
   pub chosen : IsChosen s c
+
+-- what is said in chunks: their segments have the touched addresses and no others, and there are no
+-- more of them, nor of places, than the touch
+pub record AreChosen (s : InForce) (touched : List Ends) (chosen : List Chosen) : Type 0 where
+  pub each : All (λ c. (chunk : Ends) × IsChosenIn s touched chunk c) chosen
+  pub inside : (a : ℕ) → Any (λ r. IsWithin r a) (flat_map segments_of chosen)
+      → IsTrue (is_touched touched a)
+  pub covered : (a : ℕ) → a < 2 ^ 128 → IsTrue (is_touched touched a)
+      → Any (λ r. IsWithin r a) (flat_map segments_of chosen)
+  pub segments : sum_by (λ c. length c.segments.items) chosen ≤ touch touched (statement_ranges s)
+  pub places : sum_by (λ c. length c.places) chosen ≤ touch touched (statement_ranges s)
 
 -- the number for one of a chunk, where the chunk's places have these numbers
 abbrev pub renamed : List ℕ → ℕ → ℕ

@@ -1,14 +1,12 @@
-//! The kept tree, painted anew: the touched grounds are cut into segments, what is said of each
-//! gets its number, all segments are painted in one pass, and the blocks
+//! The kept tree, painted anew: the touched grounds are cut into segments, chunk by chunk what is
+//! said of each gets its number and the segments are painted, and the blocks
 //! that carry IPv4 addresses follow.
-ghost use Rattle.std.specs.Prelude.{◌≡◌, ℕ, ◌+◌, ◌-◌, ◌*◌, ◌^◌, ◌<◌, ◌≤◌, ◌⊎◌, [], length, map};
-ghost use Rattle.std.specs.Prelude.{All, IfOk, Ok, Err};
-ghost use Rattle.geo_terms.specs.Cuts.{statement_ranges};
+ghost use Rattle.std.specs.Prelude.{◌≡◌, ℕ, ◌+◌, ◌-◌, ◌*◌, ◌^◌, ◌<◌, ◌≤◌, ◌⊎◌, [], length, IfOk};
+ghost use Rattle.std.specs.Prelude.{Ok, Err};
 ghost use Rattle.trie_core.specs.Paint.{IsAscending, leaf_in, over};
 ghost use Rattle.trie_core.specs.Store.{leaf_at, IsRootOf, GrowsBy};
-ghost use Rattle.update_session.specs.Build.{AreSteady, HasNumber};
 ghost use Rattle.update_session.specs.Kept.{AnswersAll, GrowsBy as PlacesGrowBy, HasBase};
-ghost use Rattle.update_session.specs.Touch.{bound, few_places, touch};
+ghost use Rattle.update_session.specs.Touch.{bound, few_places};
 
 use crate::alias::with_aliases;
 use crate::choosing::choose;
@@ -57,30 +55,14 @@ pub(crate) fn repaint<R: Threads + Sync, G: Gate, L: Ledger>(
         return Ok(root);
     }
     sources.make_ready()?;
-    let parts = numbered(forks, sources, touched, places)?;
-    let painted = paint(store, root, parts.as_slice(), steps)?;
+    let chosen = choose(forks, sources, touched)?;
+    let mut painted = root;
+    // Each chunk is let go once it is painted, so the parts of one alone are held at a time.
+    for one in chosen {
+        let parts = parts_of(forks.alloc, &one, places)?;
+        painted = paint(store, painted, parts.as_slice(), steps)?;
+    }
     with_aliases(store, painted, steps)
-}
-
-// The touched grounds, cut where something else may be said, each part with the number of what is
-// said of it.
-fn numbered<R: Threads + Sync, G: Gate>(
-    forks: &Forks<R, G>,
-    sources: &Sources,
-    touched: &[Range],
-    places: &mut Places,
-) -> Result<Vec<Part>, EmitFault>
-    ensures segments { IfOk result
-        (λ parts. AreSteady sources.now touched.now (map (λ p. p.range) parts.items)) }
-    ensures numbers { IfOk result (λ parts. All (HasNumber sources.now places.new) parts.items) }
-    ensures places { PlacesGrowBy places.old places.new
-        (touch touched.now (statement_ranges sources.now)) }
-    ensures full { result ≡ Err EmitFault.TooLarge → length places.new + 1 ≡ 2 ^ 32 }
-{
-    let chunks = sources.chunks(touched, forks.pieces)?;
-    let chosen = choose(forks, sources, touched, chunks.as_slice())?;
-    let parts = parts_of(forks.alloc, chosen.as_slice(), places)?;
-    Ok(parts)
 }
 
 // The root with the parts painted on it.

@@ -1,7 +1,6 @@
 //! What the sources say of each segment, cut and looked up by pieces side by side.
 ghost use Rattle.std.specs.Prelude.{◌≡◌, IfOk};
-ghost use Rattle.std.specs.List.{AllZip};
-ghost use Rattle.update_session.specs.Build.{IsChosen, IsChosenIn};
+ghost use Rattle.update_session.specs.Build.{AreChosen, IsChosen};
 
 use crate::numbering::leaf_of;
 use fan_work::{Forks, Work, map_pieces};
@@ -43,17 +42,17 @@ impl<'a, 'b> Work<Range, Chosen> for Choosing<'a, 'b> {
     }
 }
 
-/// What the sources say in each chunk, cut and looked up by pieces that enter the gate.
+/// What the sources say in the touched grounds, chunk by chunk, cut and looked up by pieces that
+/// enter the gate.
 pub(crate) fn choose<R: Threads + Sync, G: Gate>(
     forks: &Forks<R, G>,
     sources: &Sources,
     touched: &[Range],
-    chunks: &[Range],
 ) -> Result<Vec<Chosen>, Memory>
     ensures { IfOk result
-        (λ chosen. AllZip (λ chunk one. IsChosenIn sources.entry.now touched.entry.now chunk one)
-        chunks.now chosen.items) }
+        (λ chosen. AreChosen sources.entry.now touched.entry.now chosen.items) }
 {
+    let chunks = sources.chunks(touched, forks.pieces)?;
     let work = Choosing {
         alloc: forks.alloc,
         sources,
@@ -64,7 +63,7 @@ pub(crate) fn choose<R: Threads + Sync, G: Gate>(
         forks.alloc,
         forks.gate,
         forks.pieces,
-        chunks,
+        chunks.as_slice(),
         &work,
     )?;
     Ok(chosen)

@@ -1,12 +1,8 @@
 //! Numbers of places in the one table of a session.
-ghost use Rattle.std.specs.Prelude.{◌≡◌, ◌+◌, ◌^◌, ◌≤◌, ◌<◌, ◌++◌, ℕ, List, Option, Some, Err};
-ghost use Rattle.std.specs.Prelude.{length, map, flat_map, IfOk, OnOk};
-ghost use Rattle.std.specs.List.{AllByRecursion};
+ghost use Rattle.std.specs.Prelude.{◌≡◌, ◌+◌, ◌^◌, ◌≤◌, ◌<◌, Some, Err, length, map, IfOk};
 ghost use Rattle.std.specs.Option.{option_copied};
 ghost use Rattle.geo_terms.specs.Numbers.{place_at};
-ghost use Rattle.geo_terms.specs.PlaceForm.{PlaceParts};
-ghost use Rattle.update_session.specs.Build.{IsKnown, StandFor, places_in, renamed, said_in};
-ghost use Rattle.update_session.specs.Build.{segments_of};
+ghost use Rattle.update_session.specs.Build.{IsKnown, StandFor, renamed, said_in};
 ghost use Rattle.update_session.specs.Kept.{GrowsBy};
 
 use crate::choosing::Chosen;
@@ -42,58 +38,27 @@ fn number_of(places: &mut Places, place: &Place) -> Result<u32, EmitFault>
     }
 }
 
-/// Each segment of all chunks with the number of what is said of it.
+/// The segments of a chunk, each with the number of what is said of it.
 pub(crate) fn parts_of(
-    alloc: Global,
-    chosen: &[Chosen],
-    places: &mut Places,
-) -> Result<Vec<Part>, EmitFault>
-    requires { AllByRecursion IsKnown chosen.now }
-    ensures ranges { IfOk result
-        (λ parts. map (λ p. p.range) parts.items ≡ flat_map segments_of chosen.now) }
-    ensures leaves { IfOk result (λ parts. StandFor places.new (map (λ p. p.leaf) parts.items)
-        (flat_map said_in chosen.now)) }
-    ensures places { GrowsBy places.old places.new (places_in chosen.now) }
-    ensures full { result ≡ Err EmitFault.TooLarge → length places.new + 1 ≡ 2 ^ 32 }
-{
-    let mut parts = Vec::with_capacity(alloc, count_of(chosen))?;
-    for one in chosen {
-        push_parts(alloc, one, places, &mut parts)?;
-    }
-    Ok(parts)
-}
-
-// How many segments there are in all chunks.
-fn count_of(chosen: &[Chosen]) -> usize {
-    let mut count = 0usize;
-    for one in chosen {
-        count = count.saturating_add(one.segments.len());
-    }
-    count
-}
-
-// Adds the segments of a chunk, each with the number of what is said of it.
-fn push_parts(
     alloc: Global,
     one: &Chosen,
     places: &mut Places,
-    parts: &mut Vec<Part>,
-) -> Result<(), EmitFault>
+) -> Result<Vec<Part>, EmitFault>
     requires { IsKnown one.now }
-    ensures ranges { OnOk result (map (λ p. p.range) parts.new.items
-        ≡ map (λ p. p.range) parts.old.items ++ segments_of one.now) }
-    ensures leaves { (said : List (Option PlaceParts))
-        → StandFor places.old (map (λ p. p.leaf) parts.old.items) said → OnOk result
-        (StandFor places.new (map (λ p. p.leaf) parts.new.items) (said ++ said_in one.now)) }
+    ensures ranges { IfOk result
+        (λ parts. map (λ p. p.range) parts.items ≡ one.now.segments.items) }
+    ensures leaves { IfOk result
+        (λ parts. StandFor places.new (map (λ p. p.leaf) parts.items) (said_in one.now)) }
     ensures places { GrowsBy places.old places.new (length one.now.places) }
     ensures full { result ≡ Err EmitFault.TooLarge → length places.new + 1 ≡ 2 ^ 32 }
 {
     let names = names_of(alloc, &one.places, places)?;
+    let mut parts = Vec::with_capacity(alloc, one.segments.len())?;
     for (at, range) in one.segments.iter().enumerate() {
         let (range, leaf) = (*range, name_of(names.as_slice(), one.leaves[at]));
         parts.push(Part { range, leaf })?;
     }
-    Ok(())
+    Ok(parts)
 }
 
 // The number in the session's table for one of a run.

@@ -1,43 +1,17 @@
--- One chunk more.
-use Rattle.std.proofs.Common.{◌+◌, ◌++◌, ◌∙◌, List, Option, ap, arith, map, subst, take}
-use Rattle.std.specs.Prelude.{flat_map}
-use Rattle.geo_addr.specs.Ranges.{Ends}
-use Rattle.geo_terms.specs.PlaceForm.{PlaceParts}
-use Rattle.trie_core.specs.declared.paint.Part.{Part}
-use Rattle.update_session.specs.Build.{StandFor, said_in, segments_of}
-use Rattle.update_session.proofs.BuildLemmas.{GrowsBy-trans}
-use Rattle.update_session.proofs.NumberingLemmas.{places_more, places_within, said_more}
-use Rattle.update_session.proofs.NumberingLemmas.{segments_more}
+-- All numbers of the chunk came, renamed.
+use Rattle.std.proofs.Common.{arith, ◌∙◌, ℕ, List, ap, map, subst, sym}
+use Rattle.update_session.specs.Build.{StandFor, renamed, said_in}
+use Rattle.update_session.proofs.NumberingLemmas.{StandFor-renamed, take_whole}
 use Rattle.update_session.proofs.numbering.parts_of.Goals as goal
 
-pub returns-in_err-push_parts-clause-places : goal.returns-in_err-push_parts-clause-places
-returns-in_err-push_parts-clause-places c =
-    let chosen = c.args.chosen.now in
-    let at = c.loop-one.one-index in
-    GrowsBy-trans _ _ _ _ _ _ c.loop-one.invariant.grown c.push_parts.ensures.places
-    (omega (
-      arith,
-      places_more chosen at c.one-item.result c.loop-one-test.true c.one-item.is,
-      places_within chosen (at + 1),
-    ))
-
-pub loop-one-preserved : goal.loop-one-preserved
-loop-one-preserved c =
-    let chosen = c.args.chosen.now in
-    let at = c.loop-one.one-index in
-    let one = c.one-item.result in
-    record {
-      ranges = c.in_ok-push_parts.ensures.ranges
-          ∙ ap (λ (rs : List Ends). rs ++ segments_of one) c.loop-one.invariant.ranges
-          ∙ segments_more chosen at one c.loop-one-test.true c.one-item.is;
-      stands = subst
-          (λ (said : List (Option PlaceParts)).
-          StandFor c.push_parts.new.places
-          (map (λ (p : Part). p.leaf) c.push_parts.new.parts.items) said)
-          (said_more chosen at one c.loop-one-test.true c.one-item.is)
-          (c.in_ok-push_parts.ensures.leaves (flat_map said_in (take at chosen))
-          c.loop-one.invariant.stands);
-      grown =
-          GrowsBy-trans _ _ _ _ _ _ c.loop-one.invariant.grown c.in_ok-push_parts.ensures.places
-          (omega (arith, places_more chosen at one c.loop-one-test.true c.one-item.is));
-    }
+pub returns-clause-leaves : goal.returns-clause-leaves
+returns-clause-leaves c =
+    let one = c.args.one.now in
+    let names = c.in_ok-names.names.items in
+    let came = c.loop-at.invariant.leaves
+    ∙ ap (λ (ls : List ℕ). map (renamed names) ls)
+    (take_whole one.leaves.items c.loop-at.at
+    (omega (arith, c.requires.1, c.loop-at-test.false))) in
+    subst (λ (ls : List ℕ). StandFor c.names_of.new.places ls (said_in one)) (sym came)
+    (StandFor-renamed c.names_of.new.places one.places names one.leaves.items
+    c.in_ok-names.ensures.names c.requires.0)
