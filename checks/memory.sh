@@ -87,9 +87,10 @@ tried made.mmdb gen 3000 made.mmdb
 tried - lookup large 192.0.2.1
 
 # Marks between which nothing changed share the list of touched grounds: before the first emit of
-# 100,000 statements 10,000 of them take at most 50 MB.
+# 100,000 statements 10,000 of them take at most 50 MB. By one piece, since the addresses that each
+# thread's own arena wants come and go with the limit.
 awk -v lines=120000 -f "$statistics" > many.txt
-printf 'epoch 1700000000\nstats made many.txt\nemit many.mmdb\n' > plain
+printf 'epoch 1700000000\npieces 1\nstats made many.txt\nemit many.mmdb\n' > plain
 awk '/^emit/ { for (n = 0; n < 10000; n++) print "mark m" n } { print }' plain > marked
 limit=$least
 until { (ulimit -v "$limit" && exec "$program" build plain > whole 2> told); } 2> told; do
