@@ -28,7 +28,7 @@ pub use block::{Block, is_aligned, span_of};
 pub use bytes::Bytes;
 pub use digits::{are_digits, decimal};
 pub use fault::{AddrFault, BlockFault};
-pub use line::{Line, Lines, cut_at, is_blank, skip_mark, trim_blanks};
+pub use line::{Line, Lines, cut_at, cut_near, is_blank, skip_mark, trim_blanks};
 pub use list::List;
 pub use memory::Memory;
 pub use prefix::parse_block;

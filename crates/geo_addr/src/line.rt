@@ -26,7 +26,7 @@ pub fn cut_at(text: &[u8], separator: u8) -> (&[u8], Option<&[u8]>)
 }
 
 /// The same of a text that is short as far as the separator: its bytes are looked at one by one.
-pub(crate) fn cut_near(text: &[u8], separator: u8) -> (&[u8], Option<&[u8]>)
+pub fn cut_near(text: &[u8], separator: u8) -> (&[u8], Option<&[u8]>)
     ensures pieces { pieces separator text.now
         ≡ result.0.now ∷ pieces_after separator (option_copied result.1) }
     ensures free { All (λ b. b ≢ separator) result.0.now }
