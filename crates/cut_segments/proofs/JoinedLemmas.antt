@@ -2,14 +2,14 @@
 use Rattle.std.proofs.Common.{◌≡◌, ◌∙◌, ℕ, ◌+◌, ◌-◌, ◌^◌, ◌<◌, ◌≤◌, Bool, true, false, cond, ◌&&◌}
 use Rattle.std.proofs.Common.{◌||◌, ltb, leb, max, min, List, [], ◌∷◌, ◌++◌, length, get_or}
 use Rattle.std.proofs.Common.{count_by}
-use Rattle.std.proofs.Common.{refl, sym, ap, arith, not, take, add-one, subst, Contains, Option}
+use Rattle.std.proofs.Common.{refl, sym, ap, arith, not, subst, Contains, Option}
 use Rattle.std.proofs.Common.{None, Some}
 use Rattle.std.specs.Option.{option_to_list}
 use Rattle.std.specs.Prelude.{IfSome, IsTrue}
 use Rattle.std.proofs.Math.ListN.{get_or-map}
-use Rattle.std.proofs.Math.Seq.{take-suc}
-use Rattle.std.proofs.lemmas.List.{length-map}
+use Rattle.std.proofs.lemmas.List.{append_assoc, length-map}
 use Rattle.std.proofs.lemmas.List.Elements.{All-append, All-from_recursion}
+use Rattle.std.proofs.lemmas.List.Elements.{Contains-append_left, Contains-push}
 use Rattle.std.specs.Bool.{beq}
 use Rattle.std.proofs.lemmas.Bool.Decides.{nat_tests}
 use Rattle.std.proofs.lemmas.List.Folds.{list_any-append, list_any_at}
@@ -135,15 +135,6 @@ part_holds g c a le =
     ap (λ f. (leb f a && leb a (min g.last c.last)) || false) (part_first g c le)
     ∙ part_some (ground_first g) g.last c.first c.last a
 
--- one ground more
-pub touched_more : (gs : List Ends) (i : ℕ) (g : Ends) → i < length gs → g ≡ get_or gs i g
-    → (a : ℕ) → is_touched (take (i + 1) gs) a ≡ (is_touched (take i gs) a || holds g a)
-touched_more gs i g below is a =
-    ap (λ (xs : List Ends). is_touched xs a)
-    (ap (λ n. take n gs) (add-one i) ∙ take-suc gs i g below
-    ∙ ap (λ (y : Ends). take i gs ++ y ∷ []) (sym is))
-    ∙ with_one (take i gs) g a
-
 within_test : (f l a : ℕ) → (leb f a && leb a l) ≡ true → a ≤ l
 within_test f l a e = grind (arith, nat_tests)
 
@@ -151,16 +142,36 @@ held_below : (g : Ends) (a : ℕ) → holds g a ≡ true → a ≤ g.last
 unfolding holds
 held_below g a e = within_test (ground_first g) g.last a e
 
+-- what is held so far are the addresses of the grounds that were taken which the chunk has
+pub record IsJoined (grounds : List Ends) (chunk : Ends) (held others : List Ends)
+    (last : Option Ends) (left : List Ends) : Type 0 where
+  pub taken : List Ends
+  pub all : grounds ≡ taken ++ left
+  pub same : (a : ℕ)
+      → (is_touched held a || (is_touched (option_to_list last) a || is_touched others a))
+      ≡ (is_touched taken a && (leb chunk.first a && leb a chunk.last))
+  pub below : (a : ℕ) → IsTrue (is_touched taken a) → a < 2 ^ 128
+  pub few : length held + length others + length (option_to_list last) ≤ length taken
+  pub kept : BeginIn (starts_in grounds chunk) held
+  pub rest : BeginIn (starts_in grounds chunk) others
+  pub growing : BeginIn (starts_in grounds chunk) (option_to_list last)
+
 -- what the grounds so far have are addresses
-pub below_more : (gs : List Ends) (i : ℕ) (g : Ends) → i < length gs → g ≡ get_or gs i g
-    → g.last < 2 ^ 128 → ((a : ℕ) → IsTrue (is_touched (take i gs) a) → a < 2 ^ 128)
-    → (a : ℕ) → IsTrue (is_touched (take (i + 1) gs) a) → a < 2 ^ 128
-below_more gs i g below is last so_far a touched =
-    by (is_touched (take i gs) a) refl (sym (touched_more gs i g below is a) ∙ touched)
+pub below_more : (taken : List Ends) (g : Ends) → g.last < 2 ^ 128
+    → ((a : ℕ) → IsTrue (is_touched taken a) → a < 2 ^ 128)
+    → (a : ℕ) → IsTrue (is_touched (taken ++ g ∷ []) a) → a < 2 ^ 128
+below_more taken g last so_far a touched =
+    by (is_touched taken a) refl (sym (with_one taken g a) ∙ touched)
   where
-    by : (b : Bool) → is_touched (take i gs) a ≡ b → (b || holds g a) ≡ true → a < 2 ^ 128
+    by : (b : Bool) → is_touched taken a ≡ b → (b || holds g a) ≡ true → a < 2 ^ 128
     by true before e = so_far a before
     by false before e = omega (arith, held_below g a e, last)
+
+-- the grounds that were taken, with one more of those that are left
+pub taken_more : (grounds taken left later : List Ends) (g : Ends) → grounds ≡ taken ++ left
+    → left ≡ g ∷ later → grounds ≡ (taken ++ g ∷ []) ++ later
+taken_more grounds taken left later g all is =
+    all ∙ ap (λ (gs : List Ends). taken ++ gs) is ∙ sym (append_assoc taken (g ∷ []) later)
 
 in_whole : (a : ℕ) → a < 2 ^ 128 → (leb whole.first a && leb a whole.last) ≡ true
 in_whole a below = grind (arith, nat_tests)
@@ -216,24 +227,29 @@ and_or false false true = refl
 and_or false false false = refl
 
 -- what a ground holds of a chunk begins where the ground does, or the chunk
-pub part_begins : (gs : List Ends) (chunk : Ends) (i : ℕ) (g : Ends) (part : Option Ends)
-    → i < length gs → g ≡ get_or gs i g
+pub part_begins : (gs taken later : List Ends) (chunk g : Ends) (part : Option Ends)
+    → gs ≡ (taken ++ g ∷ []) ++ later
     → IfSome part (λ r. ground_first r ≡ max (ground_first g) chunk.first)
     → BeginIn (starts_in gs chunk) (option_to_list part)
-part_begins gs chunk i g None below is first =
+part_begins gs taken later chunk g None all first =
     All-from_recursion (λ (r : Ends). Contains (starts_in gs chunk) (ground_first r)) [] tt
-part_begins gs chunk i g (Some r) below is first =
+part_begins gs taken later chunk g (Some r) all first =
     All-from_recursion (λ (r : Ends). Contains (starts_in gs chunk) (ground_first r)) (r ∷ [])
     ((subst (Contains (starts_in gs chunk)) (sym first) there), tt)
   where
     start : Ends → ℕ
     start x = max (ground_first x) chunk.first
 
+    among : Contains gs g
+    among =
+        subst (λ (xs : List Ends). Contains xs g) (sym all)
+        (Contains-append_left (taken ++ g ∷ []) later g (Contains-push taken g))
+
     there : Contains (starts_in gs chunk) (max (ground_first g) chunk.first)
     there = (
-      i,
-      omega (arith, length-map gs start, below),
-      get_or-map start gs i g ∙ ap start (sym is),
+      among.0,
+      omega (arith, length-map gs start, among.1),
+      get_or-map start gs among.0 g ∙ ap start among.2,
     )
 
 pub le_from_test : (x y : ℕ) → leb x y ≡ true → x ≤ y

@@ -8,13 +8,18 @@ ghost use Rattle.cut_segments.specs.Segments.{BeginIn, starts_in};
 ghost use Rattle.source_changes.specs.Touched.{is_touched};
 
 use geo_addr::{Memory, Range};
+use source_changes::GroundList;
 use std::alloc::Global;
 
 /// Ranges that hold the same addresses of a chunk, and no others, in the order in which they begin.
 /// There are no more of them than grounds, and each begins where a ground does, or the chunk.
 ///
 /// In one pass neighbours become one range, and grounds that lie in an earlier one are left out.
-pub fn grounds_in(alloc: Global, touched: &[Range], chunk: Range) -> Result<Vec<Range>, Memory>
+pub fn grounds_in(
+    alloc: Global,
+    touched: &GroundList,
+    chunk: Range,
+) -> Result<Vec<Range>, Memory>
     ensures same { IfOk result (λ fewer. (a : ℕ) → is_touched fewer.items a
         ≡ (is_touched touched.now a && (nat_le chunk.first a && nat_le a chunk.last))) }
     // What is touched are addresses, so a chunk that is the whole space leaves none out.
@@ -31,7 +36,7 @@ pub fn grounds_in(alloc: Global, touched: &[Range], chunk: Range) -> Result<Vec<
 }
 
 // The same in the order of the grounds, where that serves.
-fn joined(alloc: Global, grounds: &[Range], chunk: Range) -> Result<Vec<Range>, Memory>
+fn joined(alloc: Global, grounds: &GroundList, chunk: Range) -> Result<Vec<Range>, Memory>
     ensures same { IfOk result (λ fewer. (a : ℕ) → is_touched fewer.items a
         ≡ (is_touched grounds.now a && (nat_le chunk.first a && nat_le a chunk.last))) }
     ensures below { IfOk result
@@ -43,8 +48,9 @@ fn joined(alloc: Global, grounds: &[Range], chunk: Range) -> Result<Vec<Range>, 
     let mut rest = Vec::new(alloc);
     let mut growing = None;
     let mut near = 0;
-    for next in grounds {
-        let part = part_in(*next, chunk);
+    let mut left = grounds.all();
+    while let Some(next) = left.take() {
+        let part = part_in(next, chunk);
         growing = grown_by(&mut kept, &mut rest, growing, part, &mut near)?;
     }
     if let Some(last) = growing {

@@ -1,7 +1,6 @@
 //! Touched grounds cut into segments.
-ghost use Rattle.std.specs.Prelude.{◌≡◌, ◌∷◌, ◌+◌, ◌<◌, ◌≤◌, [], All, IfOk, IfSome, IsSome, IsTrue};
+ghost use Rattle.std.specs.Prelude.{◌≡◌, ◌∷◌, ◌+◌, ◌<◌, ◌≤◌, [], All, IfOk, IfSome, IsSome};
 ghost use Rattle.std.specs.Prelude.{Contains, MatchOption, length, max};
-ghost use Rattle.std.specs.List.{AllAdjacentBelow};
 ghost use Rattle.std.specs.List.Sorted.{IsNonDecreasing, IsNonDecreasingBy};
 ghost use Rattle.std.specs.Option.{option_to_list};
 ghost use Rattle.geo_addr.specs.Ranges.{IsRange, ground_first};
@@ -12,6 +11,7 @@ ghost use Rattle.cut_segments.specs.Segments.{AreSegments, starts_of};
 use crate::joined::grounds_in;
 use crate::points::whole;
 use geo_addr::{Memory, Range};
+use source_changes::GroundList;
 use std::alloc::Global;
 
 // A point where the pieces change: a touched ground begins, which reaches to its last address, or a
@@ -27,15 +27,12 @@ struct Mark {
 /// The grounds may overlap and come in any order.
 pub fn segments_between(
     alloc: Global,
-    touched: &[Range],
+    touched: &GroundList,
     points: &[u128],
 ) -> Result<Vec<Range>, Memory>
     requires { IsNonDecreasing points.now }
     ensures { IfOk result (λ segments. AreSegments touched.now points.now segments.items) }
 {
-    if are_in_order(touched) {
-        return segments_of(alloc, touched, points);
-    }
     let grounds = grounds_in(alloc, touched, whole())?;
     let segments = segments_of(alloc, grounds.as_slice(), points)?;
     Ok(segments)
@@ -52,19 +49,6 @@ pub fn segments_of(alloc: Global, touched: &[Range], points: &[u128]) -> Result<
 {
     let pieces = sweep(alloc, touched, points)?;
     Ok(pieces)
-}
-
-// Whether each ground begins where the one before it does, or behind that.
-fn are_in_order(grounds: &[Range]) -> bool
-    ensures { IsTrue result → AllAdjacentBelow (λ r t. ground_first r ≤ ground_first t) grounds.now
-        (length grounds.now) }
-{
-    for i in 1..grounds.len() {
-        if grounds[i].ground_first() < grounds[i - 1].ground_first() {
-            return false;
-        }
-    }
-    true
 }
 
 fn ground_mark(range: Range) -> Mark

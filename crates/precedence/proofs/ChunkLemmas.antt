@@ -7,8 +7,9 @@ use Rattle.std.specs.List.{All, Any}
 use Rattle.std.specs.Prelude.{IsTrue}
 use Rattle.std.proofs.Math.ListN.{get_or-map}
 use Rattle.std.proofs.lemmas.Bool.Decides.{nat_tests}
-use Rattle.std.proofs.lemmas.List.{length-map}
+use Rattle.std.proofs.lemmas.List.{append_assoc, length-map}
 use Rattle.std.proofs.lemmas.List.Elements.{All-contains, All-weaker, Contains-append_cases}
+use Rattle.std.proofs.lemmas.List.Elements.{Contains-append_left, Contains-push}
 use Rattle.geo_addr.specs.Ranges.{Ends, IsCut, IsWithin, ground_first}
 use Rattle.geo_terms.specs.Cuts.{statement_ranges}
 use Rattle.geo_terms.specs.Sources.{InForce}
@@ -25,13 +26,32 @@ pub Tiles-push : (low mid : ℕ) (rs : List Ends) (r : Ends) → Tiles low rs mi
 Tiles-push low mid [] r h is le = (is ∙ sym h, omega (arith, h), refl)
 Tiles-push low mid (x ∷ xs) r h is le = (h.0, h.1, Tiles-push (x.last + 1) mid xs r h.2 is le)
 
-pub begin_is_there : (touched : List Ends) (k : ℕ) (r : Ends) → k < length touched
-    → get_or touched k r ≡ r → Contains (map (λ r. ground_first r) touched) (ground_first r)
-begin_is_there touched k r below is = (
-  k,
-  omega (arith, length-map touched (λ (x : Ends). ground_first x), below),
-  get_or-map (λ (x : Ends). ground_first x) touched k r ∙ ap (λ (x : Ends). ground_first x) is,
+-- points at which grounds begin that were taken of those touched, and the grounds that are left
+pub record AreBegins (touched : List Ends) (points : List ℕ) (left : List Ends) : Type 0 where
+  pub taken : List Ends
+  pub all : touched ≡ taken ++ left
+  pub begins : All (Contains (map (λ r. ground_first r) touched)) points
+
+-- one ground more is taken
+pub taken_more : (touched taken left later : List Ends) (r : Ends) → touched ≡ taken ++ left
+    → left ≡ r ∷ later → touched ≡ (taken ++ r ∷ []) ++ later
+taken_more touched taken left later r all is =
+    all ∙ ap (λ (rs : List Ends). taken ++ rs) is ∙ sym (append_assoc taken (r ∷ []) later)
+
+pub begin_is_there : (touched taken later : List Ends) (r : Ends)
+    → touched ≡ (taken ++ r ∷ []) ++ later
+    → Contains (map (λ r. ground_first r) touched) (ground_first r)
+begin_is_there touched taken later r all = (
+  among.0,
+  omega (arith, length-map touched (λ (x : Ends). ground_first x), among.1),
+  get_or-map (λ (x : Ends). ground_first x) touched among.0 r
+      ∙ ap (λ (x : Ends). ground_first x) among.2,
 )
+  where
+    among : Contains touched r
+    among =
+        subst (λ (rs : List Ends). Contains rs r) (sym all)
+        (Contains-append_left (taken ++ r ∷ []) later r (Contains-push taken r))
 
 -- chunks that begin where touched grounds do
 pub chunks_of_begins : (s : InForce) (touched chunks : List Ends) (limits : List ℕ)

@@ -4,22 +4,27 @@ ghost use Rattle.geo_addr.specs.Ranges.{ground_first};
 ghost use Rattle.precedence.specs.Chunks.{BeginAt, IsLimit, Tiles};
 
 use geo_addr::{Memory, Range};
+use source_changes::GroundList;
 use std::alloc::Global;
 
 // From how many touched grounds the limits of chunks are taken, at most.
 const MOST_SAMPLES: usize = 1000;
 
 /// Where touched grounds begin, a sample of them in order.
-pub(crate) fn begins_of(alloc: Global, touched: &[Range]) -> Result<Vec<u128>, Memory>
+pub(crate) fn begins_of(alloc: Global, touched: &GroundList) -> Result<Vec<u128>, Memory>
     ensures { IfOk result (λ begins.
         All (Contains (map (λ r. ground_first r) touched.now)) begins.items) }
 {
     let step = touched.len() / MOST_SAMPLES + 1;
     let mut begins = Vec::new(alloc);
-    let mut at = 0;
-    while at < touched.len() {
-        begins.push(touched[at].ground_first())?;
-        at = at.saturating_add(step);
+    let mut left = touched.all();
+    let mut skipped = 0;
+    while let Some(ground) = left.take() {
+        if skipped == 0 {
+            begins.push(ground.ground_first())?;
+            skipped = step;
+        }
+        skipped -= 1;
     }
     begins.sort_unstable();
     Ok(begins)

@@ -20,6 +20,7 @@ use geo_addr::{Addr, Block, Memory, Range};
 use geo_terms::{
     Delegation, Dump, Entry, Feed, Note, Override, Overrides, Place, Reference, Said, Stats, home,
 };
+use source_changes::GroundList;
 use std::alloc::Global;
 use std::marker::Model;
 use std::sync::Arc;
@@ -57,9 +58,10 @@ impl Sources {
     ghost use Rattle.std.specs.Prelude.{OnOk, OnErr};
     ghost use Rattle.std.specs.Arc.{arc_value};
     ghost use Rattle.std.specs.List.{AllAdjacentBelow};
-    ghost use Rattle.std.specs.List.Sorted.{IsStrictlyIncreasing};
+    ghost use Rattle.std.specs.List.Sorted.{IsNonDecreasingBy, IsStrictlyIncreasing};
     ghost use Rattle.std.specs.Option.{option_copied};
-    ghost use Rattle.geo_addr.specs.Ranges.{AreCuts, Ends, IsRange, IsWithin, range_of_block};
+    ghost use Rattle.geo_addr.specs.Ranges.{AreCuts, Ends, IsRange, IsWithin, ground_first};
+    ghost use Rattle.geo_addr.specs.Ranges.{range_of_block};
     ghost use Rattle.authority.specs.Held.{AreSpeakers, slot_of, url_of};
     ghost use Rattle.geo_terms.specs.Covering.{covering};
     ghost use Rattle.geo_terms.specs.Cuts.{statement_ranges};
@@ -467,7 +469,7 @@ impl Sources {
     ///
     /// A chunk begins where a touched ground does or at a cut point, so that no segment is cut for
     /// it.
-    pub fn chunks(&self, touched: &[Range], pieces: u32) -> Result<Vec<Range>, Memory>
+    pub fn chunks(&self, touched: &GroundList, pieces: u32) -> Result<Vec<Range>, Memory>
         requires { 0 < pieces }
         ensures { IfOk result (λ chunks. AreChunks self.now touched.now chunks.items) }
     {
@@ -483,7 +485,7 @@ impl Sources {
     }
 
     /// The segments of a chunk: those of the touched addresses that it has.
-    pub fn segments_in(&self, touched: &[Range], chunk: Range) -> Result<Vec<Range>, Memory>
+    pub fn segments_in(&self, touched: &GroundList, chunk: Range) -> Result<Vec<Range>, Memory>
         ensures { IfOk result
             (λ segments. AreSegmentsIn self.now touched.now chunk segments.items) }
     {
@@ -529,11 +531,12 @@ impl Sources {
     // or, where much is touched, the chunk.
     fn bounds_in(
         &self,
-        touched: &[Range],
+        touched: &GroundList,
         grounds: &[Range],
         chunk: Range,
     ) -> Result<Vec<Range>, Memory>
-        requires { (a : ℕ) → IsTrue (is_touched grounds.now a) → IsWithin chunk a }
+        requires within { (a : ℕ) → IsTrue (is_touched grounds.now a) → IsWithin chunk a }
+        requires order { IsNonDecreasingBy (λ r. ground_first r) grounds.now }
         ensures ranges { IfOk result (λ bounds. All IsRange bounds.items) }
         ensures apart { IfOk result (λ bounds. AllAdjacentBelow (λ r t. r.last < t.first)
             bounds.items (length bounds.items)) }
@@ -544,12 +547,12 @@ impl Sources {
             let bounds = vec![in self.alloc; chunk]?;
             return Ok(bounds);
         }
-        let bounds = segments_between(self.alloc, grounds, &[])?;
+        let bounds = segments_of(self.alloc, grounds, &[])?;
         Ok(bounds)
     }
 
     // Whether so much is touched that all cut points are gathered as well as some.
-    fn is_most(&self, touched: &[Range]) -> bool {
+    fn is_most(&self, touched: &GroundList) -> bool {
         self.count() / 4 <= touched.len()
     }
 

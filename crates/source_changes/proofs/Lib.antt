@@ -5,6 +5,7 @@ pub mod Grounds
 pub mod Law
 pub mod Merges
 pub mod Orders
+pub mod PackingLemmas
 pub mod Paired
 pub mod Partners
 pub mod Several

@@ -4,6 +4,7 @@ pub mod CutPoints
 pub mod Keeping
 pub mod Laws
 pub mod Merging
+pub mod Packing
 pub mod SameStatement
 pub mod Sorting
 pub mod Touched

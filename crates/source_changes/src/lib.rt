@@ -4,8 +4,10 @@
 
 mod changed;
 mod compared;
+mod ground_list;
 pub mod laws;
 pub mod shelf;
 
 pub use changed::{changed_grounds, keep_all, push_borrows};
 pub use compared::Compared;
+pub use ground_list::{GroundList, GroundsLeft};

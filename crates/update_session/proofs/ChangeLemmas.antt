@@ -1,6 +1,7 @@
 -- What a call that sets or drops a source leaves: the grounds that it finds by comparing statements
 -- are those of its change.
-use Rattle.std.proofs.Common.{◌≡◌, ◌∙◌, ℕ, List, None, Option, ap, subst, sym}
+use Rattle.std.proofs.Common.{◌≡◌, ◌∙◌, ◌++◌, ℕ, List, Option, ap, length, subst, take}
+use Rattle.std.proofs.Math.Seq.{take-append_seam}
 use Rattle.std.specs.List.Sorted.{IsPermutation}
 use Rattle.geo_addr.specs.Ranges.{Ends}
 use Rattle.geo_terms.specs.DelegationForm.{DelegationParts}
@@ -11,12 +12,12 @@ use Rattle.geo_terms.specs.declared.statement.Reference.{Reference}
 use Rattle.source_changes.specs.Changes.{SetDump, SetFeed, SetStats, changes, named}
 use Rattle.source_changes.specs.Changes.{delegation_changes, delegations_in, entry_changes}
 use Rattle.source_changes.specs.Changes.{reference_changes, references_in}
-use Rattle.update_session.specs.Kept.{IsNoted}
 
--- where nothing is noted of the touched grounds, nothing wrong is
-pub IsNoted-none : (noted : Option (List Ends)) (touched : List Ends) → noted ≡ None
-    → IsNoted noted touched
-IsNoted-none noted touched is = subst (λ (o : Option (List Ends)). IsNoted o touched) (sym is) tt
+-- grounds that were added go again where the list is cut to its length before
+pub without_more : (old new more : List Ends) (n : ℕ) → n ≡ length old → new ≡ old ++ more
+    → take n new ≡ old
+without_more old new more n len is =
+    (λ i. take (len i) (is i)) ∙ take-append_seam old more
 
 -- delegations compared with those of the file in the same slot
 pub changes_by_stats : (s : InForce) (stats : StatsParts) (old new : List DelegationParts)

@@ -13,11 +13,12 @@ use crate::choosing::choose;
 use crate::fault::EmitFault;
 use crate::numbering::parts_of;
 use fan_work::Forks;
-use geo_addr::Range;
 use geo_outside::{Gate, Steps};
 use geo_terms::Places;
 use precedence::Sources;
+use source_changes::GroundList;
 use std::marker::Sync;
+use std::mem::drop;
 use std::sync::ledger::Ledger;
 use std::thread::Threads;
 use trie_core::{Part, Root, Store, StoreFault};
@@ -31,7 +32,7 @@ use trie_core::{Part, Root, Store, StoreFault};
 pub(crate) fn repaint<R: Threads + Sync, G: Gate, L: Ledger>(
     forks: &Forks<R, G>,
     sources: &mut Sources,
-    touched: &[Range],
+    touched: &GroundList,
     store: &mut Store,
     places: &mut Places,
     root: Root,
@@ -60,6 +61,7 @@ pub(crate) fn repaint<R: Threads + Sync, G: Gate, L: Ledger>(
     // Each chunk is let go once it is painted, so the parts of one alone are held at a time.
     for one in chosen {
         let parts = parts_of(forks.alloc, &one, places)?;
+        drop(one);
         painted = paint(store, painted, parts.as_slice(), steps)?;
     }
     with_aliases(store, painted, steps)

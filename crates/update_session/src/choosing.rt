@@ -8,6 +8,7 @@ use geo_addr::{Memory, Range};
 use geo_outside::Gate;
 use geo_terms::Places;
 use precedence::{Near, Sources};
+use source_changes::GroundList;
 use std::alloc::Global;
 use std::marker::Sync;
 use std::thread::Threads;
@@ -26,7 +27,7 @@ pub(crate) struct Chosen {
 struct Choosing<'a, 'b> {
     alloc: Global,
     sources: &'a Sources,
-    touched: &'b [Range],
+    touched: &'b GroundList,
 }
 
 impl<'a, 'b> Work<Range, Chosen> for Choosing<'a, 'b> {
@@ -47,7 +48,7 @@ impl<'a, 'b> Work<Range, Chosen> for Choosing<'a, 'b> {
 pub(crate) fn choose<R: Threads + Sync, G: Gate>(
     forks: &Forks<R, G>,
     sources: &Sources,
-    touched: &[Range],
+    touched: &GroundList,
 ) -> Result<Vec<Chosen>, Memory>
     ensures { IfOk result
         (λ chosen. AreChosen sources.entry.now touched.entry.now chosen.items) }

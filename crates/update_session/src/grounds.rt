@@ -2,7 +2,8 @@
 ghost use Rattle.std.specs.Prelude.{◌≡◌, IfOk};
 ghost use Rattle.update_session.specs.Kept.{IsNoted};
 
-use geo_addr::{List, Memory, Range};
+use geo_addr::Memory;
+use source_changes::GroundList;
 use std::alloc::Global;
 use std::marker::Model;
 use std::sync::Arc;
@@ -10,7 +11,7 @@ use std::sync::Arc;
 /// Grounds in a list that is never changed, for whoever shares it.
 #[derive(Drop)]
 pub(crate) struct Grounds {
-    list: Arc<List<Range>>,
+    list: Arc<GroundList>,
 }
 
 impl Model for Grounds {
@@ -27,11 +28,10 @@ impl Grounds {
     ghost use Rattle.std.specs.Prelude.{◌≡◌, IfOk};
 
     /// The same grounds in a list of their own.
-    pub(crate) fn of(alloc: Global, grounds: &[Range]) -> Result<Grounds, Memory>
+    pub(crate) fn of(alloc: Global, grounds: &GroundList) -> Result<Grounds, Memory>
         ensures { IfOk result (λ list. list ≡ grounds.now) }
     {
-        let list = List::of(copied(alloc, grounds)?);
-        let list = Arc::new(alloc, list)?;
+        let list = Arc::new(alloc, grounds.copied(alloc)?)?;
         Ok(Grounds { list })
     }
 
@@ -43,10 +43,11 @@ impl Grounds {
         Ok(Grounds { list })
     }
 
-    pub(crate) fn as_slice(&self) -> &[Range]
+    /// The grounds.
+    pub(crate) fn list(&self) -> &GroundList
         ensures { result.now ≡ self.now }
     {
-        self.list.as_slice()
+        &self.list
     }
 }
 
@@ -54,7 +55,7 @@ impl Grounds {
 pub(crate) fn listed(
     alloc: Global,
     noted: &Option<Grounds>,
-    grounds: &[Range],
+    grounds: &GroundList,
 ) -> Result<Grounds, Memory>
     requires { IsNoted noted.now grounds.now }
     ensures { IfOk result (λ list. list ≡ grounds.now) }
@@ -63,13 +64,4 @@ pub(crate) fn listed(
         Some(list) => list.share(),
         None => Grounds::of(alloc, grounds),
     }
-}
-
-/// The same grounds in a vector of their own.
-pub(crate) fn copied(alloc: Global, grounds: &[Range]) -> Result<Vec<Range>, Memory>
-    ensures { IfOk result (λ copy. copy.items ≡ grounds.now) }
-{
-    let mut copy = Vec::with_capacity(alloc, grounds.len())?;
-    copy.extend_from_slice(grounds)?;
-    Ok(copy)
 }

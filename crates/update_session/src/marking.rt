@@ -1,7 +1,7 @@
 //! The calls that mark a session and go back to a mark.
 
 use crate::fault::BackFault;
-use crate::grounds::{copied, listed};
+use crate::grounds::listed;
 use crate::marks::{find_mark, make_mark, put_mark};
 use crate::session::Session;
 use geo_addr::Memory;
@@ -21,7 +21,7 @@ impl Session {
         ensures ok { OnOk result (HasMarked name.now self.old self.new) }
         ensures err { OnErr result (self.new ≡ self.old) }
     {
-        let grounds = listed(self.alloc, &self.noted, self.touched.as_slice())?;
+        let grounds = listed(self.alloc, &self.noted, &self.touched)?;
         let touched = grounds.share()?;
         let mark = make_mark(self.alloc, name, &self.sources, self.root, touched)?;
         put_mark(&mut self.marks, mark)?;
@@ -41,7 +41,7 @@ impl Session {
             return Err(BackFault::NotThere);
         };
         let root = mark.root;
-        let touched = copied(self.alloc, mark.touched.as_slice())?;
+        let touched = mark.touched.list().copied(self.alloc)?;
         let noted = mark.touched.share()?;
         let sources = mark.sources.snapshot()?;
         self.sources = sources;

@@ -1,18 +1,18 @@
 //! The statements of a source that a call replaces, and the grounds that come to those touched.
-ghost use Rattle.std.specs.Prelude.{◌≡◌, ◌+◌, ◌≤◌, ◌++◌, None, map, option_map, IfOk};
-ghost use Rattle.std.specs.Prelude.{vec_capacity, vec_len};
+ghost use Rattle.std.specs.Prelude.{◌≡◌, ◌++◌, List, length, map, option_map};
+ghost use Rattle.std.specs.Prelude.{IfOk, OnErr, OnOk};
 ghost use Rattle.std.specs.List.Sorted.{IsPermutation};
 ghost use Rattle.std.specs.Arc.{arc_value};
 ghost use Rattle.std.specs.Option.{option_copied};
+ghost use Rattle.geo_addr.specs.Ranges.{Ends};
 ghost use Rattle.geo_terms.specs.Sources.{entries_in, rows_in};
 ghost use Rattle.source_changes.specs.Changed.{changed};
 ghost use Rattle.source_changes.specs.Changes.{delegations_in, references_in};
 ghost use Rattle.source_changes.specs.Touched.{ground_of};
 
-use crate::grounds::Grounds;
-use geo_addr::{Memory, Range};
+use geo_addr::Memory;
 use geo_terms::{Delegation, Dump, Entry, Feed, Override, Overrides, Reference, Stats};
-use source_changes::{Compared, changed_grounds};
+use source_changes::{Compared, GroundList, changed_grounds};
 use std::alloc::Global;
 use std::sync::Arc;
 
@@ -56,44 +56,22 @@ pub(crate) fn rows_of<'a>(overrides: Option<&'a Arc<Overrides>>) -> &'a [Overrid
     }
 }
 
-/// The grounds that change where new statements come for old ones, for all of which `touched` has
-/// room then.
-pub(crate) fn grounds_to_add<S: Compared>(
+/// Puts to the touched grounds those that change where new statements come for old ones, and
+/// answers how many there were before.
+pub(crate) fn add_changed<S: Compared>(
     alloc: Global,
-    touched: &mut Vec<Range>,
+    touched: &mut GroundList,
     old: &[S],
     new: &[S],
-) -> Result<Vec<Range>, Memory>
-    ensures items { touched.new.items ≡ touched.old.items }
-    ensures grounds { IfOk result (λ grounds. IsPermutation
-        (map (λ x. ground_of (S.range x)) (changed S.same old.now new.now)) grounds.items) }
-    ensures room { IfOk result
-        (λ grounds. vec_len touched.new + vec_len grounds ≤ vec_capacity touched.new) }
+) -> Result<usize, Memory>
+    ensures before { IfOk result (λ before. before ≡ length touched.old) }
+    ensures added { OnOk result ((more : List Ends) × (touched.new ≡ touched.old ++ more)
+        × IsPermutation (map (λ x. ground_of (S.range x)) (changed S.same old.now new.now)) more) }
+    ensures err { OnErr result (touched.new ≡ touched.old) }
 {
+    let before = touched.len();
     let grounds = changed_grounds(alloc, old, new)?;
-    touched.reserve(grounds.len())?;
-    Ok(grounds)
-}
-
-/// Adds grounds for which there is room. The list that was noted of those touched before goes.
-pub(crate) fn touch(touched: &mut Vec<Range>, noted: &mut Option<Grounds>, more: Vec<Range>)
-    requires { vec_len touched.old + vec_len more ≤ vec_capacity touched.old }
-    ensures touched { touched.new.items ≡ touched.old.items ++ more.items }
-    ensures noted { noted.new ≡ None }
-{
-    add(touched, more);
-    *noted = None;
-}
-
-// Adds grounds for which there is room.
-fn add(touched: &mut Vec<Range>, more: Vec<Range>)
-    requires { vec_len touched.old + vec_len more ≤ vec_capacity touched.old }
-    ensures { touched.new.items ≡ touched.old.items ++ more.items }
-{
-    if touched.is_empty() {
-        *touched = more;
-        return;
-    }
-    let mut more = more;
-    let _moved = touched.append(&mut more);
+    let more = GroundList::of(alloc, grounds.as_slice())?;
+    touched.append(more)?;
+    Ok(before)
 }

@@ -6,11 +6,12 @@ use crate::grounds::Grounds;
 use crate::marks::Mark;
 use crate::write::{means_records, write};
 use fan_work::Forks;
-use geo_addr::{Addr, Memory, Range};
+use geo_addr::{Addr, Memory};
 use geo_outside::{Gate, Steps};
 use geo_terms::{Note, Places};
 use mmdb_file::{Emitted, Meta};
 use precedence::{Sources, Why};
+use source_changes::GroundList;
 use std::alloc::Global;
 use std::marker::{Model, Sync};
 use std::sync::ledger::Ledger;
@@ -29,7 +30,7 @@ pub struct Session {
     pub(crate) store: Store,
     pub(crate) places: Places,
     pub(crate) root: Root,
-    pub(crate) touched: Vec<Range>,
+    pub(crate) touched: GroundList,
     // The touched grounds in the list of the last mark, if they have not changed since.
     pub(crate) noted: Option<Grounds>,
     pub(crate) marks: Vec<Mark>,
@@ -46,12 +47,12 @@ impl Model for Session {
       store = s.store;
       places = s.places;
       root = s.root;
-      touched = s.touched.items;
+      touched = s.touched;
       marks = s.marks.items;
     } };
 
-    ghost invariant = { λ s. ((length s.meta.name ≤ 64) × IsNoted s.noted s.touched.items)
-        × IsSession s.sources s.store s.places s.root s.touched.items s.marks.items };
+    ghost invariant = { λ s. ((length s.meta.name ≤ 64) × IsNoted s.noted s.touched)
+        × IsSession s.sources s.store s.places s.root s.touched s.marks.items };
 }
 
 impl Session {
@@ -90,7 +91,7 @@ impl Session {
             store,
             places: Places::new(alloc),
             root,
-            touched: Vec::new(alloc),
+            touched: GroundList::new(alloc),
             noted: None,
             marks: Vec::new(alloc),
         })
@@ -169,7 +170,7 @@ impl Session {
         let root = repaint(
             &forks,
             &mut self.sources,
-            self.touched.as_slice(),
+            &self.touched,
             &mut self.store,
             &mut self.places,
             self.root,
@@ -212,7 +213,7 @@ impl Session {
         let root = repaint(
             &forks,
             &mut self.sources,
-            self.touched.as_slice(),
+            &self.touched,
             &mut self.store,
             &mut self.places,
             self.root,
@@ -253,9 +254,9 @@ impl Session {
 
     /// The grounds of the statements that came or went since, in any order: each ground as often as
     /// there is such a statement.
-    pub fn touched(&self) -> &[Range]
+    pub fn touched(&self) -> &GroundList
         ensures { result.now ≡ self.now.touched }
     {
-        self.touched.as_slice()
+        &self.touched
     }
 }

@@ -1,10 +1,9 @@
 //! The calls that set and drop sources.
 //!
-//! Each takes its memory before it changes anything: a drop looks whether the source is there, and
-//! each finds the statements that come and go, makes room for their grounds,
-//! and only then changes the sources.
+//! A drop looks whether the source is there. Each finds the statements that come and go, puts their
+//! grounds to those touched, and then changes the sources; where that is refused the grounds go again.
 
-use crate::replaced::{delegations_of, entries_of, grounds_to_add, references_of, rows_of, touch};
+use crate::replaced::{add_changed, delegations_of, entries_of, references_of, rows_of};
 use crate::session::Session;
 use geo_addr::Memory;
 use geo_terms::{Dump, Feed, Overrides, Stats};
@@ -29,10 +28,17 @@ impl Session {
         sources_stay();
         let new = dump.refs.as_slice();
         let old = references_of(self.sources.dump_of(dump.slot.as_str()));
-        let grounds = grounds_to_add(self.alloc, &mut self.touched, old, new)?;
-        self.sources.set_rpsl(dump)?;
-        touch(&mut self.touched, &mut self.noted, grounds);
-        Ok(())
+        let before = add_changed(self.alloc, &mut self.touched, old, new)?;
+        match self.sources.set_rpsl(dump) {
+            Ok(_) => {
+                self.noted = None;
+                Ok(())
+            }
+            Err(fault) => {
+                self.touched.truncate(before);
+                Err(fault)
+            }
+        }
     }
 
     /// Takes the dump of a slot out of force.
@@ -50,10 +56,17 @@ impl Session {
             return Err(DropFault::NotThere);
         };
         let old = references_of(Some(dump));
-        let grounds = grounds_to_add(self.alloc, &mut self.touched, old, &[])?;
-        self.sources.drop_rpsl(slot)?;
-        touch(&mut self.touched, &mut self.noted, grounds);
-        Ok(())
+        let before = add_changed(self.alloc, &mut self.touched, old, &[])?;
+        match self.sources.drop_rpsl(slot) {
+            Ok(_) => {
+                self.noted = None;
+                Ok(())
+            }
+            Err(fault) => {
+                self.touched.truncate(before);
+                Err(fault)
+            }
+        }
     }
 
     /// Sets a feed; the one with the same URL is dropped.
@@ -75,10 +88,17 @@ impl Session {
         let feed = ready.feed();
         let new = feed.entries.as_slice();
         let old = entries_of(self.sources.feed_of(feed.url.as_str()));
-        let grounds = grounds_to_add(self.alloc, &mut self.touched, old, new)?;
-        self.sources.set_ready_feed(ready)?;
-        touch(&mut self.touched, &mut self.noted, grounds);
-        Ok(())
+        let before = add_changed(self.alloc, &mut self.touched, old, new)?;
+        match self.sources.set_ready_feed(ready) {
+            Ok(_) => {
+                self.noted = None;
+                Ok(())
+            }
+            Err(fault) => {
+                self.touched.truncate(before);
+                Err(fault)
+            }
+        }
     }
 
     /// Takes the feed of a URL out of force.
@@ -96,10 +116,17 @@ impl Session {
             return Err(DropFault::NotThere);
         };
         let old = entries_of(Some(feed));
-        let grounds = grounds_to_add(self.alloc, &mut self.touched, old, &[])?;
-        self.sources.drop_feed(url)?;
-        touch(&mut self.touched, &mut self.noted, grounds);
-        Ok(())
+        let before = add_changed(self.alloc, &mut self.touched, old, &[])?;
+        match self.sources.drop_feed(url) {
+            Ok(_) => {
+                self.noted = None;
+                Ok(())
+            }
+            Err(fault) => {
+                self.touched.truncate(before);
+                Err(fault)
+            }
+        }
     }
 
     /// Sets a statistics file; the one with the same slot is dropped.
@@ -112,10 +139,17 @@ impl Session {
         let new = stats.rows.as_slice();
         keep_all(new);
         let old = delegations_of(self.sources.stats_of(stats.slot.as_str()));
-        let grounds = grounds_to_add(self.alloc, &mut self.touched, old, new)?;
-        self.sources.set_stats(stats)?;
-        touch(&mut self.touched, &mut self.noted, grounds);
-        Ok(())
+        let before = add_changed(self.alloc, &mut self.touched, old, new)?;
+        match self.sources.set_stats(stats) {
+            Ok(_) => {
+                self.noted = None;
+                Ok(())
+            }
+            Err(fault) => {
+                self.touched.truncate(before);
+                Err(fault)
+            }
+        }
     }
 
     /// Takes the statistics file of a slot out of force.
@@ -133,10 +167,17 @@ impl Session {
             return Err(DropFault::NotThere);
         };
         let old = delegations_of(Some(stats));
-        let grounds = grounds_to_add(self.alloc, &mut self.touched, old, &[])?;
-        self.sources.drop_stats(slot)?;
-        touch(&mut self.touched, &mut self.noted, grounds);
-        Ok(())
+        let before = add_changed(self.alloc, &mut self.touched, old, &[])?;
+        match self.sources.drop_stats(slot) {
+            Ok(_) => {
+                self.noted = None;
+                Ok(())
+            }
+            Err(fault) => {
+                self.touched.truncate(before);
+                Err(fault)
+            }
+        }
     }
 
     /// Sets overrides; those in force are dropped.
@@ -147,10 +188,17 @@ impl Session {
         kept_by_one_more();
         sources_stay();
         let old = rows_of(self.sources.overrides());
-        let grounds = grounds_to_add(self.alloc, &mut self.touched, old, rows.rows.as_slice())?;
-        self.sources.set_overrides(rows)?;
-        touch(&mut self.touched, &mut self.noted, grounds);
-        Ok(())
+        let before = add_changed(self.alloc, &mut self.touched, old, rows.rows.as_slice())?;
+        match self.sources.set_overrides(rows) {
+            Ok(_) => {
+                self.noted = None;
+                Ok(())
+            }
+            Err(fault) => {
+                self.touched.truncate(before);
+                Err(fault)
+            }
+        }
     }
 
     /// Takes the overrides out of force.
@@ -167,9 +215,16 @@ impl Session {
             return Err(DropFault::NotThere);
         };
         let old = rows_of(Some(rows));
-        let grounds = grounds_to_add(self.alloc, &mut self.touched, old, &[])?;
-        self.sources.drop_overrides()?;
-        touch(&mut self.touched, &mut self.noted, grounds);
-        Ok(())
+        let before = add_changed(self.alloc, &mut self.touched, old, &[])?;
+        match self.sources.drop_overrides() {
+            Ok(_) => {
+                self.noted = None;
+                Ok(())
+            }
+            Err(fault) => {
+                self.touched.truncate(before);
+                Err(fault)
+            }
+        }
     }
 }

@@ -3,6 +3,7 @@ use crate::tests::emits::{Seen, begun, emit};
 use crate::tests::given::{Kind, drop_one, set};
 use crate::tests::lines::{Shape, set_lines};
 use geo_addr::Range;
+use source_changes::GroundList;
 use std::alloc::Global;
 use std::marker::Sync;
 use std::mem::drop;
@@ -58,8 +59,9 @@ fn change(alloc: Global, session: &mut Session, act: Act) -> Option<()> {
 }
 
 // Whether an address lies on one of the grounds.
-fn lies_on(grounds: &[Range], at: u128) -> bool {
-    for ground in grounds {
+fn lies_on(grounds: &GroundList, at: u128) -> bool {
+    let mut left = grounds.all();
+    while let Some(ground) = left.take() {
         if ground.first <= at && at <= ground.last {
             return true;
         }

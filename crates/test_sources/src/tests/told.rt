@@ -2,6 +2,7 @@
 use geo_addr::{Range, parse_addr, parse_span};
 use geo_terms::{Delegation, Entry, Note, Override, Place, Reference, note_text};
 use precedence::Sources;
+use source_changes::GroundList;
 use std::alloc::Global;
 
 // The four fields of a place, as a feed has them, or a dash.
@@ -147,8 +148,9 @@ const WHOLE: Range = Range {
 
 /// The ends of the segments of a range, and what is said on each.
 pub fn segments(alloc: Global, sources: &Sources, range: &str) -> Option<String> {
-    let touched = parse_span(range.as_bytes()).ok()?;
-    let segments = sources.segments_in(&[touched], WHOLE).ok()?;
+    let range = parse_span(range.as_bytes()).ok()?;
+    let touched = GroundList::of(alloc, &[range]).ok()?;
+    let segments = sources.segments_in(&touched, WHOLE).ok()?;
     let mut text = String::new(alloc);
     push_segments(alloc, sources, segments.as_slice(), &mut text)?;
     Some(text)

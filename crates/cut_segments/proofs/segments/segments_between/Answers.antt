@@ -1,17 +1,8 @@
-use Rattle.std.proofs.Common.{◌≤◌, List, ℕ, length, subst, rules}
-use Rattle.std.specs.List.{AllAdjacentBelow}
-use Rattle.std.proofs.lemmas.List.Sorted.{IsNonDecreasingBy-from_all_adjacent}
-use Rattle.geo_addr.specs.Ranges.{Ends, ground_first}
+use Rattle.std.proofs.Common.{List, subst}
+use Rattle.geo_addr.specs.Ranges.{Ends}
 use Rattle.cut_segments.specs.Segments.{AreSegments}
 use Rattle.cut_segments.proofs.JoinedLemmas.{all_in_whole, segments_of_fewer}
 use Rattle.cut_segments.proofs.segments.segments_between.Goals as goal
-
-pub segments_of-requires-clause-order : goal.segments_of-requires-clause-order
-segments_of-requires-clause-order c =
-    let touched = c.args.touched.now in
-    let first : Ends → ℕ = λ r. ground_first r in
-    let up : AllAdjacentBelow (λ r t. first r ≤ first t) touched (length touched) = search rules in
-    IsNonDecreasingBy-from_all_adjacent first touched up
 
 pub returns : goal.returns
 returns c =

@@ -1,10 +1,10 @@
-use Rattle.std.proofs.Common.{◌-◌, Contains, length, map}
-use Rattle.std.specs.List.{All}
-use Rattle.geo_addr.specs.Ranges.{ground_first}
+use Rattle.std.proofs.Common.{length}
+use Rattle.precedence.proofs.ChunkLemmas.{AreBegins}
 use Rattle.precedence.proofs.chunks.begins_of.Given as goal
 
-abbrev pub invariant-loop-at : goal.invariant-loop-at
-invariant-loop-at l = All (Contains (map (λ r. ground_first r) l.touched)) l.begins.items
+abbrev pub invariant-loop-ground : goal.invariant-loop-ground
+invariant-loop-ground l = AreBegins l.touched l.begins.items l.left
 
-abbrev pub decreases-loop-at : goal.decreases-loop-at
-decreases-loop-at l = length l.touched - l.at
+-- each turn takes one ground
+abbrev pub decreases-loop-ground : goal.decreases-loop-ground
+decreases-loop-ground l = length l.left

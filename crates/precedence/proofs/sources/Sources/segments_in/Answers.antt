@@ -9,8 +9,8 @@ use Rattle.cut_segments.specs.Segments.{AreSegments, starts_of}
 use Rattle.precedence.proofs.ChunkLemmas.{in_chunk, segments_of_chunk}
 use Rattle.precedence.proofs.sources.Sources.segments_in.Goals as goal
 
-pub bounds_in-requires : goal.bounds_in-requires
-bounds_in-requires c a on =
+pub bounds_in-requires-clause-within : goal.bounds_in-requires-clause-within
+bounds_in-requires-clause-within c a on =
     (in_chunk c.args.touched.now c.in_ok-grounds.grounds.items c.args.chunk
     c.in_ok-grounds.ensures.same a (subst (λ (gs : List Ends). IsTrue (is_touched gs a))
     c.as_slice.ensures.value on)).1

@@ -17,12 +17,12 @@ invariant_of-self c =
     let based = all_named (λ m. m.name)
     (λ m. IsBased m.sources c.self.inside.store c.self.inside.places m.root m.touched)
     c.args.name.now c.self.inside.marks.items c.in-Some.mark.now c.self.invariant.1.marks found in
-    let touched = c.in_ok-touched.ensures ∙ c.as_slice-2.ensures in (
+    let touched = c.in_ok-touched.ensures ∙ c.list.ensures in (
       (c.self.invariant.0.0, c.in_ok-noted.ensures ∙ sym touched),
       record {
         now =
             subst (λ (s : InForce). IsBased s c.self.inside.store c.self.inside.places
-            c.in-Some.mark.now.root c.in_ok-touched.touched.items) (sym c.in_ok-sources.ensures)
+            c.in-Some.mark.now.root c.in_ok-touched.touched) (sym c.in_ok-sources.ensures)
             (subst (λ (rs : List Ends). IsBased c.in-Some.mark.now.sources c.self.inside.store
             c.self.inside.places c.in-Some.mark.now.root rs) (sym touched) based);
         marks = c.self.invariant.1.marks;
@@ -34,7 +34,7 @@ pub returns-clause-ok : goal.returns-clause-ok
 returns-clause-ok c =
     let marks : c.as_slice.result.now ≡ c.args.self.now.marks =
     c.as_slice.ensures.value ∙ ap (λ (h : Held). h.marks) c.self.view_is in
-    let touched = c.in_ok-touched.ensures ∙ c.as_slice-2.ensures in
+    let touched = c.in_ok-touched.ensures ∙ c.list.ensures in
     let sources = c.in_ok-sources.ensures in (
       c.in-Some.mark.now,
       ap (λ (ms : List Mark). named (λ m. m.name) c.args.name.now ms) (sym marks)

@@ -53,7 +53,7 @@ invariant_of-self c =
     c.split_at.ensures.front c.split_at.ensures.back in (
       c.self.invariant.0,
       IsSession-compacted c.self.inside.sources c.self.inside.store
-          c.in_ok-store.store c.self.inside.places c.self.inside.root _ c.self.inside.touched.items
+          c.in_ok-store.store c.self.inside.places c.self.inside.root _ c.self.inside.touched
           c.self.inside.marks.items _ _ c.self.invariant.1 split c.give_roots.ensures,
     )
 

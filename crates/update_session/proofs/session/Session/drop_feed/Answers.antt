@@ -7,7 +7,6 @@ use Rattle.source_changes.specs.Changes.{DropFeed, changes, named, entry_changes
 use Rattle.update_session.specs.Calls.{HasChanged}
 use Rattle.update_session.specs.Kept.{Held}
 use Rattle.update_session.specs.contracts.session.Session.{the_view}
-use Rattle.update_session.proofs.ChangeLemmas.{IsNoted-none}
 use Rattle.update_session.proofs.KeptLemmas.{HasChanged-made, IsSession-changed}
 use Rattle.update_session.proofs.session.Session.drop_feed.Goals as goal
 
@@ -17,36 +16,31 @@ invariant_of-self-2 c =
     ≡ entries_in (named (λ x. x.url) c.args.url.now c.self.inside.sources.feeds) =
     c.entries_of-old.ensures ∙ ap entries_in c.in-Some.ensures in
     let same : IsPermutation
-    (changes (DropFeed c.args.url.now) c.self.inside.sources) c.in_ok-grounds.grounds.items =
-    subst (λ (xs : List Entry). IsPermutation (entry_changes xs []) c.in_ok-grounds.grounds.items)
-    old c.in_ok-grounds.ensures.grounds in (
-      (
-        c.self.invariant.0.0,
-        IsNoted-none c.touch.new.noted c.touch.new.touched.items c.touch.ensures.noted,
-      ),
+    (changes (DropFeed c.args.url.now) c.self.inside.sources) c.in_ok-before.ensures.added.0 =
+    subst (λ (xs : List Entry). IsPermutation (entry_changes xs []) c.in_ok-before.ensures.added.0)
+    old c.in_ok-before.ensures.added.2 in (
+      (c.self.invariant.0.0, tt),
       IsSession-changed c.sources_stay.ensures c.kept_by_one_more.ensures c.self.inside.sources
-          c.drop_feed.new.self (DropFeed c.args.url.now) _ _ _ c.self.inside.touched.items
-          c.touch.new.touched.items c.in_ok-grounds.grounds.items _
-          c.self.invariant.1 tt c.in_ok-drop_feed.ensures.sources
-          (c.touch.ensures.touched ∙ ap (λ (rs : List Ends). rs ++ c.in_ok-grounds.grounds.items)
-          c.in_ok-grounds.ensures.items) same,
+          c.drop_feed.new.self (DropFeed c.args.url.now) _ _ _ c.self.inside.touched
+          c.add_changed.new.touched c.in_ok-before.ensures.added.0 _
+          c.self.invariant.1 tt c.in-Ok.ensures.sources
+          c.in_ok-before.ensures.added.1 same,
     )
 
-pub returns-clause-ok : goal.returns-clause-ok
-returns-clause-ok c =
+pub returns-in-Ok-clause-ok : goal.returns-in-Ok-clause-ok
+returns-in-Ok-clause-ok c =
     let old : c.entries_of-old.result.now
     ≡ entries_in (named (λ x. x.url) c.args.url.now c.self.inside.sources.feeds) =
     c.entries_of-old.ensures ∙ ap entries_in c.in-Some.ensures in
     let same : IsPermutation
-    (changes (DropFeed c.args.url.now) c.self.inside.sources) c.in_ok-grounds.grounds.items =
-    subst (λ (xs : List Entry). IsPermutation (entry_changes xs []) c.in_ok-grounds.grounds.items)
-    old c.in_ok-grounds.ensures.grounds in
+    (changes (DropFeed c.args.url.now) c.self.inside.sources) c.in_ok-before.ensures.added.0 =
+    subst (λ (xs : List Entry). IsPermutation (entry_changes xs []) c.in_ok-before.ensures.added.0)
+    old c.in_ok-before.ensures.added.2 in
     subst (λ (held : Held). HasChanged (DropFeed c.args.url.now) held
     (the_view (record c.self.inside {
       sources = c.drop_feed.new.self;
-      touched = c.touch.new.touched;
+      touched = c.add_changed.new.touched;
     }))) c.self.view_is
     (HasChanged-made (DropFeed c.args.url.now) (the_view c.self.inside) c.drop_feed.new.self
-    c.touch.new.touched.items c.in_ok-grounds.grounds.items c.in_ok-drop_feed.ensures.sources
-    (c.touch.ensures.touched ∙ ap (λ (rs : List Ends). rs ++ c.in_ok-grounds.grounds.items)
-    c.in_ok-grounds.ensures.items) same)
+    c.add_changed.new.touched c.in_ok-before.ensures.added.0 c.in-Ok.ensures.sources
+    c.in_ok-before.ensures.added.1 same)

@@ -7,7 +7,6 @@ use Rattle.source_changes.specs.Changes.{delegation_changes}
 use Rattle.update_session.specs.Calls.{HasChanged}
 use Rattle.update_session.specs.Kept.{Held}
 use Rattle.update_session.specs.contracts.session.Session.{the_view}
-use Rattle.update_session.proofs.ChangeLemmas.{IsNoted-none}
 use Rattle.update_session.proofs.KeptLemmas.{HasChanged-made, IsSession-changed}
 use Rattle.update_session.proofs.session.Session.drop_stats.Goals as goal
 
@@ -17,36 +16,31 @@ invariant_of-self-2 c =
     ≡ delegations_in (named (λ x. x.slot) c.args.slot.now c.self.inside.sources.stats) =
     c.delegations_of-old.ensures ∙ ap delegations_in c.in-Some.ensures in
     let same : IsPermutation
-    (changes (DropStats c.args.slot.now) c.self.inside.sources) c.in_ok-grounds.grounds.items =
+    (changes (DropStats c.args.slot.now) c.self.inside.sources) c.in_ok-before.ensures.added.0 =
     subst (λ (xs : List DelegationParts). IsPermutation (delegation_changes xs [])
-    c.in_ok-grounds.grounds.items) old c.in_ok-grounds.ensures.grounds in (
-      (
-        c.self.invariant.0.0,
-        IsNoted-none c.touch.new.noted c.touch.new.touched.items c.touch.ensures.noted,
-      ),
+    c.in_ok-before.ensures.added.0) old c.in_ok-before.ensures.added.2 in (
+      (c.self.invariant.0.0, tt),
       IsSession-changed c.sources_stay.ensures c.kept_by_one_more.ensures c.self.inside.sources
-          c.drop_stats.new.self (DropStats c.args.slot.now) _ _ _ c.self.inside.touched.items
-          c.touch.new.touched.items c.in_ok-grounds.grounds.items _
-          c.self.invariant.1 tt c.in_ok-drop_stats.ensures.sources
-          (c.touch.ensures.touched ∙ ap (λ (rs : List Ends). rs ++ c.in_ok-grounds.grounds.items)
-          c.in_ok-grounds.ensures.items) same,
+          c.drop_stats.new.self (DropStats c.args.slot.now) _ _ _ c.self.inside.touched
+          c.add_changed.new.touched c.in_ok-before.ensures.added.0 _
+          c.self.invariant.1 tt c.in-Ok.ensures.sources
+          c.in_ok-before.ensures.added.1 same,
     )
 
-pub returns-clause-ok : goal.returns-clause-ok
-returns-clause-ok c =
+pub returns-in-Ok-clause-ok : goal.returns-in-Ok-clause-ok
+returns-in-Ok-clause-ok c =
     let old : c.delegations_of-old.result.now
     ≡ delegations_in (named (λ x. x.slot) c.args.slot.now c.self.inside.sources.stats) =
     c.delegations_of-old.ensures ∙ ap delegations_in c.in-Some.ensures in
     let same : IsPermutation
-    (changes (DropStats c.args.slot.now) c.self.inside.sources) c.in_ok-grounds.grounds.items =
+    (changes (DropStats c.args.slot.now) c.self.inside.sources) c.in_ok-before.ensures.added.0 =
     subst (λ (xs : List DelegationParts). IsPermutation (delegation_changes xs [])
-    c.in_ok-grounds.grounds.items) old c.in_ok-grounds.ensures.grounds in
+    c.in_ok-before.ensures.added.0) old c.in_ok-before.ensures.added.2 in
     subst (λ (held : Held). HasChanged (DropStats c.args.slot.now) held
     (the_view (record c.self.inside {
       sources = c.drop_stats.new.self;
-      touched = c.touch.new.touched;
+      touched = c.add_changed.new.touched;
     }))) c.self.view_is
     (HasChanged-made (DropStats c.args.slot.now) (the_view c.self.inside) c.drop_stats.new.self
-    c.touch.new.touched.items c.in_ok-grounds.grounds.items c.in_ok-drop_stats.ensures.sources
-    (c.touch.ensures.touched ∙ ap (λ (rs : List Ends). rs ++ c.in_ok-grounds.grounds.items)
-    c.in_ok-grounds.ensures.items) same)
+    c.add_changed.new.touched c.in_ok-before.ensures.added.0 c.in-Ok.ensures.sources
+    c.in_ok-before.ensures.added.1 same)

@@ -7,7 +7,7 @@ use Rattle.update_session.proofs.session.Session.mark.Goals as goal
 
 pub invariant_of-self-2 : goal.invariant_of-self-2
 invariant_of-self-2 c =
-    let grounds = c.in_ok-grounds.ensures ∙ c.as_slice.ensures.value in
+    let grounds = c.in_ok-grounds.ensures in
     let is = c.in_ok-mark.ensures ∙ ap (λ (rs : List Ends). record {
       name = c.args.name.now;
       sources = c.self.inside.sources;

@@ -7,7 +7,7 @@ use Rattle.update_session.proofs.session.Session.new.Goals as goal
 pub invariant_of-result : goal.invariant_of-result
 invariant_of-result c = (
   (c.requires, tt),
-  IsSession-begun _ _ _ _ _ _ c.new.ensures c.new-3.ensures.items c.new-4.ensures.items
+  IsSession-begun _ _ _ _ _ _ c.new.ensures c.new-3.ensures c.new-4.ensures.items
       c.empty-root.ensures.of c.empty-root.ensures.tree,
 )
 
@@ -20,7 +20,7 @@ returns c = record {
   state = ap (standing c.args.meta.epoch c.args.meta.name) c.new.ensures;
   store = c.new-store.ensures;
   places = c.new-2.ensures;
-  touched = c.new-3.ensures.items;
+  touched = c.new-3.ensures;
   marks = c.new-4.ensures.items;
   root = record {
     of = c.empty-root.ensures.of;
