@@ -1,7 +1,9 @@
 -- Ranges that at most one line has, and those of a sorted list that stand more than once.
 use Rattle.std.proofs.Common.{inl, inr, ◌≡◌, ℕ, ◌+◌, ◌<◌, ◌-◌, ◌⊎◌, ltb, Bool, true, false, not}
-use Rattle.std.proofs.Common.{◌&&◌, List, length, map, get_or, Option, refl, sym, ap, ◌∙◌}
+use Rattle.std.proofs.Common.{◌&&◌, List, [], ◌∷◌, length, map, get_or, Option, refl, sym, ap, ◌∙◌}
 use Rattle.std.proofs.Common.{subst, arith, ◌||◌}
+use Rattle.std.specs.BTreeMap.{is_at}
+use Rattle.std.specs.BTreeSet.{BTreeSet, btree_set_len, contains}
 use Rattle.std.specs.Cmp.{IsTotalOrder, nat_cmp_total, on_total, then_total}
 use Rattle.std.specs.List.{list_any}
 use Rattle.std.specs.List.Sorted.{IsPermutation, IsSorted}
@@ -21,7 +23,7 @@ use Rattle.csv_lines.specs.Repeats.{Rises, fate, same_range, same_said}
 use Rattle.csv_lines.specs.Doubled.{IsAlone, IsHeld, Shown, ends_cmp, fate_by, held, shown}
 use Rattle.csv_lines.specs.Doubled.{with_row}
 use Rattle.csv_lines.specs.declared.fate.Fate.TheVariants.{Kept}
-use Rattle.csv_lines.proofs.FateLemmas.{both, ends_itself, ends_same, fate_told, get_or_same}
+use Rattle.csv_lines.proofs.FateLemmas.{Apart, both, ends_itself, ends_same, fate_told, get_or_same}
 use Rattle.csv_lines.proofs.FateLemmas.{member_at, said_itself}
 
 pub ends_total : IsTotalOrder ends_cmp
@@ -101,6 +103,14 @@ and_flip true false = refl
 and_flip false true = refl
 and_flip false false = refl
 
+-- a set of no keys has none
+pub none_held : (s : BTreeSet Ends) (k : Ends) → btree_set_len s ≡ 0 → contains ends_cmp s k ≡ false
+none_held s k e = none_passes (is_at (ends_cmp k)) s.keys e
+  where
+    none_passes : (p : Ends → Bool) (xs : List Ends) → length xs ≡ 0 → list_any p xs ≡ false
+    none_passes p [] e = refl
+    none_passes p (x ∷ xs) e = absurd (omega arith)
+
 pub alone_moved : (k : Ends) (xs ys : List Ends) → IsPermutation xs ys → IsAlone k ys
     → IsAlone k xs
 alone_moved k xs ys moved alone =
@@ -132,6 +142,17 @@ module _ {X : Type 0} (line : X → ℕ) (range : X → Ends) (said : X → Said
             alone more (omega arith)
       ] in
       let clash : true ≡ false = sym (both _ _ own its) ∙ split in cc)
+
+  -- where each range is alone, no two lines have the same
+  pub all_apart : (all : List X) → ((k : Ends) → IsAlone k (map range all))
+      → Apart line range said all
+  all_apart all alone i j d less m = (
+    other_range all (get_or all j d) j m (get_or_same all j d (get_or all j d) m)
+        (alone (range (get_or all j d))) i d (omega arith) (inr less),
+    other_range all (get_or all i d) i (omega arith)
+        (get_or_same all i d (get_or all i d) (omega arith)) (alone (range (get_or all i d))) j d m
+        (inl less),
+  )
 
   no_other : (all : List X) (x : X) (i : ℕ) → i < length all → x ≡ get_or all i x
       → IsAlone (range x) (map range all) → (q : X → Bool) → q x ≡ false

@@ -129,8 +129,12 @@ pub fn judge<T: Accepted + Drop>(
     if rises(rows.as_slice()) {
         return Ok(Judged { rows, faults });
     }
+    let doubled = doubled_in(alloc, rows.as_slice())?;
+    if doubled.is_empty() {
+        return Ok(Judged { rows, faults });
+    }
     let mut rows = rows;
-    let fates = fates(alloc, rows.as_slice())?;
+    let fates = fates(alloc, rows.as_slice(), &doubled)?;
     let repeated = repeat_faults(alloc, rows.as_slice(), fates.as_slice(), rules)?;
     let faults = merged(alloc, repeated.as_slice(), faults.as_slice())?;
     keep(&mut rows, fates.as_slice());
@@ -172,13 +176,19 @@ fn is_below(one: Range, other: Range) -> bool
     }
 }
 
-// What becomes of each line.
-fn fates<T: Accepted>(alloc: Global, rows: &[T]) -> Result<Vec<Fate>, Memory>
-    requires { Rises 0 (map T.line rows.now) }
+// What becomes of each line, where the ranges that more than one line has are these.
+fn fates<T: Accepted>(
+    alloc: Global,
+    rows: &[T],
+    doubled: &BTreeSet<Range>,
+) -> Result<Vec<Fate>, Memory>
+    requires rising { Rises 0 (map T.line rows.now) }
+    requires others { (k : Ends) → contains ends_cmp doubled.now k ≡ false
+        → IsAlone k (map T.range rows.now) }
     ensures { IfOk result
         (λ fates. fates.items ≡ map (fate T.line T.range T.said rows.now) rows.now) }
 {
-    let seen = seen_in(alloc, rows)?;
+    let seen = seen_in(alloc, rows, doubled)?;
     let mut fates = Vec::with_capacity(alloc, rows.len())?;
     for row in rows {
         fates.push(fate_in(&seen, row))?;
@@ -204,16 +214,19 @@ impl<'a> Model for Doubled<'a> {
 }
 
 // What the lines show, by their ranges, of the ranges that more than one line has.
-//
-// Few files have any, and a sort finds them in less time than a map of all ranges takes.
-fn seen_in<T: Accepted>(alloc: Global, rows: &[T]) -> Result<BTreeMap<Range, Doubled<'_>>, Memory>
+fn seen_in<'a, T: Accepted>(
+    alloc: Global,
+    rows: &'a [T],
+    doubled: &BTreeSet<Range>,
+) -> Result<BTreeMap<Range, Doubled<'a>>, Memory>
+    requires { (k : Ends) → contains ends_cmp doubled.now k ≡ false
+        → IsAlone k (map T.range rows.now) }
     ensures { IfOk result (λ seen. (k : Ends)
         → IsHeld T.line T.range T.said rows.now k (get ends_cmp seen k)) }
 {
-    let doubled = doubled_in(alloc, rows)?;
-    let mut seen: BTreeMap<Range, Doubled<'_>> = BTreeMap::new(alloc);
+    let mut seen: BTreeMap<Range, Doubled<'a>> = BTreeMap::new(alloc);
     for row in rows {
-        see_doubled(&doubled, &mut seen, row)?;
+        see_doubled(doubled, &mut seen, row)?;
     }
     Ok(seen)
 }
@@ -237,6 +250,8 @@ fn see_doubled<'a, T: Accepted>(
 }
 
 // The ranges that more than one line has.
+//
+// Few files have any, and a sort finds them in less time than a map of all ranges takes.
 fn doubled_in<T: Accepted>(alloc: Global, rows: &[T]) -> Result<BTreeSet<Range>, Memory>
     ensures { IfOk result (λ doubled. (k : Ends) → contains ends_cmp doubled k ≡ false
         → IsAlone k (map T.range rows.now)) }

@@ -13,7 +13,7 @@ loop-row-preserved g c =
     let range = g.T.Accepted.range c.row-item.result in
     let told = c.fate_in.ensures
     ∙ fate_seen g.T.Accepted.line g.T.Accepted.range g.T.Accepted.said c.args.rows.now
-    c.row-item.result c.loop-row.row-index (get ends_cmp c.in_ok-seen.seen range) c.requires
+    c.row-item.result c.loop-row.row-index (get ends_cmp c.in_ok-seen.seen range) c.requires.rising
     (search rules) c.row-item.is (c.in_ok-seen.ensures range) in
     c.in_ok-push.ensures.items ∙ ap (λ t. t ++ (c.fate_in.result ∷ [])) c.loop-row.invariant
     ∙ fates_more g.T.Accepted.line g.T.Accepted.range g.T.Accepted.said

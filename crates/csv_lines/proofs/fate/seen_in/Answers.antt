@@ -11,7 +11,7 @@ use Rattle.csv_lines.proofs.fate.seen_in.Goals as goal
 pub loop-row-preserved : goal.loop-row-preserved
 loop-row-preserved g c k =
     let row = c.row-item.result in
-    let b = contains ends_cmp c.in_ok-doubled.doubled k in
+    let b = contains ends_cmp c.args.doubled.now k in
     let within : c.loop-row.row-index < length c.args.rows.now = search rules in
     let before =
     shown g.T.Accepted.line g.T.Accepted.range g.T.Accepted.said
@@ -25,9 +25,9 @@ loop-row-preserved g c k =
 pub returns : goal.returns
 returns g c k =
     let all = take_all c.loop-row.row-index c.args.rows.now (search rules) in
-    let b = contains ends_cmp c.in_ok-doubled.doubled k in
+    let b = contains ends_cmp c.args.doubled.now k in
     seen_all g.T.Accepted.line g.T.Accepted.range g.T.Accepted.said b
     (get ends_cmp c.loop-row.seen k) c.args.rows.now k
     (c.loop-row.invariant k ∙ ap (λ (t : List g.row.T.Denot).
     held b (shown g.T.Accepted.line g.T.Accepted.range g.T.Accepted.said t k)) all)
-    (c.in_ok-doubled.ensures k)
+    (c.requires k)
