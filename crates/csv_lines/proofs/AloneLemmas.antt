@@ -1,6 +1,6 @@
 -- Ranges that at most one line has, and those of a sorted list that stand more than once.
 use Rattle.std.proofs.Common.{inl, inr, ◌≡◌, ℕ, ◌+◌, ◌<◌, ◌-◌, ◌⊎◌, ltb, Bool, true, false, not}
-use Rattle.std.proofs.Common.{◌&&◌, List, [], ◌∷◌, length, map, get_or, Option, refl, sym, ap, ◌∙◌}
+use Rattle.std.proofs.Common.{◌&&◌, List, [], ◌∷◌, length, map, get_or, refl, sym, ap, ◌∙◌}
 use Rattle.std.proofs.Common.{subst, arith, ◌||◌}
 use Rattle.std.specs.BTreeMap.{is_at}
 use Rattle.std.specs.BTreeSet.{BTreeSet, btree_set_len, contains}
@@ -19,12 +19,11 @@ use Rattle.std.proofs.lemmas.Map.Keys.{apart_from_distinct}
 use Rattle.geo_addr.specs.Ranges.{Ends}
 use Rattle.geo_terms.specs.Report.{same_ends}
 use Rattle.geo_terms.specs.declared.place.Said.{Said}
-use Rattle.csv_lines.specs.Repeats.{Rises, fate, same_range, same_said}
-use Rattle.csv_lines.specs.Doubled.{IsAlone, IsHeld, Shown, ends_cmp, fate_by, held, shown}
-use Rattle.csv_lines.specs.Doubled.{with_row}
+use Rattle.csv_lines.specs.Repeats.{fate, same_range, same_said}
+use Rattle.csv_lines.specs.Doubled.{IsAlone, ends_cmp}
 use Rattle.csv_lines.specs.declared.fate.Fate.TheVariants.{Kept}
-use Rattle.csv_lines.proofs.FateLemmas.{Apart, both, ends_itself, ends_same, fate_told, get_or_same}
-use Rattle.csv_lines.proofs.FateLemmas.{member_at, said_itself}
+use Rattle.csv_lines.proofs.FateLemmas.{Apart, both, ends_itself, ends_same, get_or_same}
+use Rattle.csv_lines.proofs.FateLemmas.{said_itself}
 
 pub ends_total : IsTotalOrder ends_cmp
 ends_total =
@@ -165,7 +164,7 @@ module _ {X : Type 0} (line : X → ℕ) (range : X → Ends) (said : X → Said
   ])
 
   -- a line that has its range alone is kept
-  alone_kept : (all : List X) (x : X) (i : ℕ) → i < length all → x ≡ get_or all i x
+  pub alone_kept : (all : List X) (x : X) (i : ℕ) → i < length all → x ≡ get_or all i x
       → IsAlone (range x) (map range all) → fate line range said all x ≡ Kept
   unfolding fate
   alone_kept all x i l is alone =
@@ -175,41 +174,3 @@ module _ {X : Type 0} (line : X → ℕ) (range : X → Ends) (said : X → Said
       no_other all x i l is alone (λ y. ltb (line y) (line x))
       (le-ltb (line x) (line x) (omega arith)) in
       rw (one, two) refl
-
-  -- what is held of a line's range tells its fate
-  pub fate_seen : (all : List X) (x : X) (i : ℕ) (s : Option Shown) → Rises 0 (map line all)
-      → i < length all → x ≡ get_or all i x → IsHeld line range said all (range x) s
-      → fate_by s (line x) ≡ fate line range said all x
-  fate_seen all x i s up l is (inl held) =
-      ap (λ t. fate_by t (line x)) held
-      ∙ fate_told line range said 0 all up x (member_at all i x l is)
-  fate_seen all x i s up l is (inr (none, alone)) =
-      ap (λ t. fate_by t (line x)) none ∙ sym (alone_kept all x i l is alone)
-
-  -- one more line of a doubled range
-  pub taken_row : (b : Bool) (old new s : Option Shown) (x : X) (k : Ends)
-      → new ≡ with_row line range said old x k → old ≡ held b s
-      → (same_ends (range x) k ≡ true → b ≡ true) → new ≡ held b (with_row line range said s x k)
-  taken_row true old new s x k is was own =
-      is ∙ ap (λ t. with_row line range said t x k) was
-  taken_row false old new s x k is was own =
-      let other : same_ends (range x) k ≡ false =
-      false_from_ne_true _ (λ h. let f : false ≡ true = own h in cc) in
-      is ∙ rw (was, other) refl
-
-  -- one more line of another one
-  pub passed_row : (b : Bool) (old s : Option Shown) (x : X) (k : Ends)
-      → old ≡ held b s → (same_ends (range x) k ≡ true → b ≡ false)
-      → old ≡ held b (with_row line range said s x k)
-  passed_row true old s x k was own =
-      let other : same_ends (range x) k ≡ false =
-      false_from_ne_true _ (λ h. let f : true ≡ false = own h in cc) in
-      was ∙ rw other refl
-  passed_row false old s x k was own = was
-
-  -- what is held in the end
-  pub seen_all : (b : Bool) (old : Option Shown) (all : List X) (k : Ends)
-      → old ≡ held b (shown line range said all k) → (b ≡ false → IsAlone k (map range all))
-      → IsHeld line range said all k old
-  seen_all true old all k is alone = inl is
-  seen_all false old all k is alone = inr (is, alone refl)
