@@ -4,7 +4,8 @@ use Rattle.std.proofs.Common.{ap, arith, drop, eqb, get_or, length, refl, revers
 use Rattle.std.proofs.Common.{zero, ◌∙◌}
 use Rattle.std.proofs.lemmas.List.{length-reverse, reverse-append, take_all}
 use Rattle.std.proofs.lemmas.List.Folds.{prefix_len-append}
-use Rattle.std.proofs.lemmas.List.Sums.{prefix_len-drop_no, prefix_len-le-length, suffix_len-take_no}
+use Rattle.std.proofs.lemmas.List.Sums.{prefix_len-drop_no, prefix_len-le-length}
+use Rattle.std.proofs.lemmas.List.Sums.{suffix_len-take_no}
 use Rattle.std.specs.List.{prefix_len, suffix_len}
 use Rattle.geo_addr.specs.Lines.{is_blank, trimmed, trimmed_end, trimmed_start}
 use Rattle.geo_terms.specs.PlaceForm.{is_empty}
