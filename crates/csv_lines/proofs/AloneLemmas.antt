@@ -1,7 +1,9 @@
 -- Ranges that at most one line has, and those of a sorted list that stand more than once.
 use Rattle.std.proofs.Common.{inl, inr, ◌≡◌, ℕ, ◌+◌, ◌<◌, ◌-◌, ◌⊎◌, ltb, Bool, true, false, not}
-use Rattle.std.proofs.Common.{◌&&◌, List, length, map, get_or, Option, refl, sym, ap, ◌∙◌}
+use Rattle.std.proofs.Common.{◌&&◌, List, [], ◌∷◌, length, map, get_or, refl, sym, ap, ◌∙◌}
 use Rattle.std.proofs.Common.{subst, arith, ◌||◌}
+use Rattle.std.specs.BTreeMap.{is_at}
+use Rattle.std.specs.BTreeSet.{BTreeSet, btree_set_len, contains}
 use Rattle.std.specs.Cmp.{IsTotalOrder, nat_cmp_total, on_total, then_total}
 use Rattle.std.specs.List.{list_any}
 use Rattle.std.specs.List.Sorted.{IsPermutation, IsSorted}
@@ -17,12 +19,11 @@ use Rattle.std.proofs.lemmas.Map.Keys.{apart_from_distinct}
 use Rattle.geo_addr.specs.Ranges.{Ends}
 use Rattle.geo_terms.specs.Report.{same_ends}
 use Rattle.geo_terms.specs.declared.place.Said.{Said}
-use Rattle.csv_lines.specs.Repeats.{Rises, fate, same_range, same_said}
-use Rattle.csv_lines.specs.Doubled.{IsAlone, IsHeld, Shown, ends_cmp, fate_by, held, shown}
-use Rattle.csv_lines.specs.Doubled.{with_row}
+use Rattle.csv_lines.specs.Repeats.{fate, same_range, same_said}
+use Rattle.csv_lines.specs.Doubled.{IsAlone, ends_cmp}
 use Rattle.csv_lines.specs.declared.fate.Fate.TheVariants.{Kept}
-use Rattle.csv_lines.proofs.FateLemmas.{both, ends_itself, ends_same, fate_told, get_or_same}
-use Rattle.csv_lines.proofs.FateLemmas.{member_at, said_itself}
+use Rattle.csv_lines.proofs.FateLemmas.{Apart, both, ends_itself, ends_same, get_or_same}
+use Rattle.csv_lines.proofs.FateLemmas.{said_itself}
 
 pub ends_total : IsTotalOrder ends_cmp
 ends_total =
@@ -101,6 +102,14 @@ and_flip true false = refl
 and_flip false true = refl
 and_flip false false = refl
 
+-- a set of no keys has none
+pub none_held : (s : BTreeSet Ends) (k : Ends) → btree_set_len s ≡ 0 → contains ends_cmp s k ≡ false
+none_held s k e = none_passes (is_at (ends_cmp k)) s.keys e
+  where
+    none_passes : (p : Ends → Bool) (xs : List Ends) → length xs ≡ 0 → list_any p xs ≡ false
+    none_passes p [] e = refl
+    none_passes p (x ∷ xs) e = absurd (omega arith)
+
 pub alone_moved : (k : Ends) (xs ys : List Ends) → IsPermutation xs ys → IsAlone k ys
     → IsAlone k xs
 alone_moved k xs ys moved alone =
@@ -133,6 +142,17 @@ module _ {X : Type 0} (line : X → ℕ) (range : X → Ends) (said : X → Said
       ] in
       let clash : true ≡ false = sym (both _ _ own its) ∙ split in cc)
 
+  -- where each range is alone, no two lines have the same
+  pub all_apart : (all : List X) → ((k : Ends) → IsAlone k (map range all))
+      → Apart line range said all
+  all_apart all alone i j d less m = (
+    other_range all (get_or all j d) j m (get_or_same all j d (get_or all j d) m)
+        (alone (range (get_or all j d))) i d (omega arith) (inr less),
+    other_range all (get_or all i d) i (omega arith)
+        (get_or_same all i d (get_or all i d) (omega arith)) (alone (range (get_or all i d))) j d m
+        (inl less),
+  )
+
   no_other : (all : List X) (x : X) (i : ℕ) → i < length all → x ≡ get_or all i x
       → IsAlone (range x) (map range all) → (q : X → Bool) → q x ≡ false
       → list_any (λ y. same_range line range said y x && q y) all ≡ false
@@ -144,7 +164,7 @@ module _ {X : Type 0} (line : X → ℕ) (range : X → Ends) (said : X → Said
   ])
 
   -- a line that has its range alone is kept
-  alone_kept : (all : List X) (x : X) (i : ℕ) → i < length all → x ≡ get_or all i x
+  pub alone_kept : (all : List X) (x : X) (i : ℕ) → i < length all → x ≡ get_or all i x
       → IsAlone (range x) (map range all) → fate line range said all x ≡ Kept
   unfolding fate
   alone_kept all x i l is alone =
@@ -154,41 +174,3 @@ module _ {X : Type 0} (line : X → ℕ) (range : X → Ends) (said : X → Said
       no_other all x i l is alone (λ y. ltb (line y) (line x))
       (le-ltb (line x) (line x) (omega arith)) in
       rw (one, two) refl
-
-  -- what is held of a line's range tells its fate
-  pub fate_seen : (all : List X) (x : X) (i : ℕ) (s : Option Shown) → Rises 0 (map line all)
-      → i < length all → x ≡ get_or all i x → IsHeld line range said all (range x) s
-      → fate_by s (line x) ≡ fate line range said all x
-  fate_seen all x i s up l is (inl held) =
-      ap (λ t. fate_by t (line x)) held
-      ∙ fate_told line range said 0 all up x (member_at all i x l is)
-  fate_seen all x i s up l is (inr (none, alone)) =
-      ap (λ t. fate_by t (line x)) none ∙ sym (alone_kept all x i l is alone)
-
-  -- one more line of a doubled range
-  pub taken_row : (b : Bool) (old new s : Option Shown) (x : X) (k : Ends)
-      → new ≡ with_row line range said old x k → old ≡ held b s
-      → (same_ends (range x) k ≡ true → b ≡ true) → new ≡ held b (with_row line range said s x k)
-  taken_row true old new s x k is was own =
-      is ∙ ap (λ t. with_row line range said t x k) was
-  taken_row false old new s x k is was own =
-      let other : same_ends (range x) k ≡ false =
-      false_from_ne_true _ (λ h. let f : false ≡ true = own h in cc) in
-      is ∙ rw (was, other) refl
-
-  -- one more line of another one
-  pub passed_row : (b : Bool) (old s : Option Shown) (x : X) (k : Ends)
-      → old ≡ held b s → (same_ends (range x) k ≡ true → b ≡ false)
-      → old ≡ held b (with_row line range said s x k)
-  passed_row true old s x k was own =
-      let other : same_ends (range x) k ≡ false =
-      false_from_ne_true _ (λ h. let f : true ≡ false = own h in cc) in
-      was ∙ rw other refl
-  passed_row false old s x k was own = was
-
-  -- what is held in the end
-  pub seen_all : (b : Bool) (old : Option Shown) (all : List X) (k : Ends)
-      → old ≡ held b (shown line range said all k) → (b ≡ false → IsAlone k (map range all))
-      → IsHeld line range said all k old
-  seen_all true old all k is alone = inl is
-  seen_all false old all k is alone = inr (is, alone refl)

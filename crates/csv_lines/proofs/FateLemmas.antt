@@ -9,11 +9,8 @@ use Rattle.std.proofs.lemmas.Bool.{lt-ltb, eq-eqb, le-ltb, or_right, and_left, a
 use Rattle.std.proofs.lemmas.Bool.{false_from_ne_true}
 use Rattle.std.specs.Prelude.{MatchOption, option_to_list}
 use Rattle.std.specs.List.{cons_option}
-use Rattle.std.proofs.lemmas.List.{take_more, map-append, length-take-le, get_or-take, get_or-map}
+use Rattle.std.proofs.lemmas.List.{take_more, map-append, length-take-le, get_or-take}
 use Rattle.std.proofs.lemmas.List.Quantifiers.{all_pairs_push}
-use Rattle.std.proofs.lemmas.List.Filters.{FiltersInPlace, FiltersInPlace-more_no}
-use Rattle.std.proofs.lemmas.List.Filters.{FiltersInPlace-more_swap}
-use Rattle.std.specs.List.{SwappedAt}
 use Rattle.geo_terms.specs.declared.note.LineNote.{LineNote}
 use Rattle.std.proofs.lemmas.List.Elements.{All-head, All-tail, All-weaker, filter_map-append}
 use Rattle.std.proofs.lemmas.List.Folds.{list_any_none}
@@ -512,33 +509,12 @@ get_or-front [] (suc i) d = refl
 get_or-front (x ∷ xs) zero d = refl
 get_or-front (x ∷ xs) (suc i) d = get_or-front xs i d
 
-first_of_rest : {X : Type 0} (ys xs : List X) (i : ℕ) (d : X) → drop i ys ≡ drop i xs
+pub first_of_rest : {X : Type 0} (ys xs : List X) (i : ℕ) (d : X) → drop i ys ≡ drop i xs
     → get_or ys i d ≡ get_or xs i d
 first_of_rest ys xs i d e =
     sym (get_or-front ys i d) ∙ ap (λ t. get_or t 0 d) e ∙ get_or-front xs i d
 
-element_at : {X : Type 0} (xs : List X) (i : ℕ) → i < length xs → (x : X) × (x ≡ get_or xs i x)
+pub element_at : {X : Type 0} (xs : List X) (i : ℕ) → i < length xs → (x : X) × (x ≡ get_or xs i x)
 element_at [] i l = absurd (omega arith)
 element_at (x ∷ xs) zero l = (x, refl)
 element_at (x ∷ xs) (suc i) l = element_at xs i (omega arith)
-
-module _ {X : Type 0} (f : X → Fate) (xs ys : List X) (fs : List Fate)
-    (k i : ℕ) (is : fs ≡ map f xs) (so_far : FiltersInPlace (λ x. is_kept_by (f x)) xs ys k i)
-    (l : i < length ys) where
-  told_here : (x : X) → x ≡ get_or ys i x → get_or fs i Kept ≡ f x
-  told_here x e =
-      let same : get_or ys i x ≡ get_or xs i x = first_of_rest ys xs i x so_far.rest in
-      ap (λ t. get_or t i Kept) is ∙ get_or-map f xs i x Kept (rw (← so_far.long) l)
-      ∙ ap f (sym (e ∙ same))
-
-  pub keep_yes : (zs : List X) → is_kept_by (get_or fs i Kept) ≡ true → SwappedAt ys zs k i
-      → FiltersInPlace (λ x. is_kept_by (f x)) xs zs (k + 1) (i + 1)
-  keep_yes zs kept_is swapped =
-      let (x, e) = element_at ys i l in
-      FiltersInPlace-more_swap so_far l (rw (← told_here x e) kept_is) e swapped
-
-  pub keep_no : is_kept_by (get_or fs i Kept) ≡ false
-      → FiltersInPlace (λ x. is_kept_by (f x)) xs ys k (i + 1)
-  keep_no left_out =
-      let (x, e) = element_at ys i l in
-      FiltersInPlace-more_no so_far l (rw (← told_here x e) left_out) e

@@ -5,6 +5,7 @@ pub mod CsvLemmas
 pub mod FateLemmas
 pub mod FieldLaw
 pub mod OrderLemmas
+pub mod PlaceLemmas
 pub mod RestLemmas
 pub mod ScanLemmas
 pub mod TailLemmas

@@ -1,6 +1,7 @@
 -- How lines of the same range are found: by what is held of the ranges that more than one line has.
-use Rattle.std.specs.Prelude.{◌≡◌, ℕ, ◌<◌, ◌⊎◌, Bool, false, not, ◌||◌, nat_lt, List, fold, Option}
-use Rattle.std.specs.Prelude.{Some, None, map, ◌&&◌, if◌then◌else◌}
+use Rattle.std.specs.Prelude.{◌≡◌, ℕ, ◌+◌, ◌<◌, ◌⊎◌, Bool, false, not, ◌||◌, nat_eq, nat_lt, List}
+use Rattle.std.specs.Prelude.{[], ◌∷◌, length, fold, Option, Some, None, ◌&&◌}
+use Rattle.std.specs.Prelude.{slice_index, if◌then◌else◌}
 use Rattle.std.specs.List.{IsDistinct}
 use Rattle.std.specs.Ordering.{nat_cmp, ordering_then}
 use Rattle.std.specs.declared.cmp.Ordering.{Ordering}
@@ -29,10 +30,6 @@ pub record Shown : Type 0 where
   pub said : Said
   pub differs : Bool
 
--- what is held of a range: what it shows, or nothing
-abbrev pub held : Bool → Option Shown → Option Shown
-held b s = if b then s else None
-
 -- what becomes of a line whose range shows this
 abbrev pub fate_by : Option Shown → ℕ → Fate
 fate_by None line = Kept
@@ -57,6 +54,11 @@ module _ {X : Type 0} (line : X → ℕ) (range : X → Ends) (said : X → Said
   abbrev pub shown : List X → Ends → Option Shown
   shown rows k = fold (λ s x. with_row s x k) None rows
 
-  -- what is held of a range: what the lines show of it, or nothing where at most one line has it
-  abbrev pub IsHeld : List X → Ends → Option Shown → Type 0
-  IsHeld rows k s = (s ≡ shown rows k) ⊎ ((s ≡ None) × IsAlone k (map range rows))
+-- the places of the elements that pass a test, counted from a number on
+abbrev pub places_from : {X : Type 0} → (X → Bool) → ℕ → List X → List ℕ
+places_from p i [] = []
+places_from p i (x ∷ xs) = if p x then i ∷ places_from p (i + 1) xs else places_from p (i + 1) xs
+
+-- whether the next of these places is this one
+abbrev pub is_next : List ℕ → ℕ → ℕ → Bool
+is_next places n at = nat_lt n (length places) && nat_eq (slice_index places n) at

@@ -1,7 +1,7 @@
 //! Lines about the same range.
-ghost use Rattle.std.specs.Prelude.{◌≡◌, ℕ, IfOk, IsTrue, AllPairs, filter, filter_map, length};
-ghost use Rattle.std.specs.Prelude.{map, OnOk, MatchOption, Option, ◌++◌, ◌||◌, false};
-ghost use Rattle.std.specs.Prelude.{option_to_list};
+ghost use Rattle.std.specs.Prelude.{◌≡◌, ◌+◌, ◌<◌, ℕ, IfOk, IsTrue, All, AllPairs, filter, length};
+ghost use Rattle.std.specs.Prelude.{filter_map, map, OnOk, MatchOption, Option, ◌++◌, ◌||◌, Bool};
+ghost use Rattle.std.specs.Prelude.{false, option_to_list, slice_index_or, if◌then◌else◌};
 ghost use Rattle.std.specs.List.Sorted.{IsSorted};
 ghost use Rattle.std.specs.Option.{option_copied};
 ghost use Rattle.geo_addr.specs.Ranges.{Ends};
@@ -11,9 +11,10 @@ ghost use Rattle.std.specs.BTreeMap.{get};
 ghost use Rattle.std.specs.BTreeSet.{contains};
 ghost use Rattle.csv_lines.specs.Repeats.{Rises, fate, fault_by, is_kept_by, kept, merged};
 ghost use Rattle.csv_lines.specs.Repeats.{repeat_faults, same_said};
-ghost use Rattle.csv_lines.specs.Doubled.{IsAlone, IsBelow, IsHeld, Shown, ends_cmp, fate_by, held};
-ghost use Rattle.csv_lines.specs.Doubled.{with_row};
+ghost use Rattle.csv_lines.specs.Doubled.{IsAlone, IsBelow, Shown, ends_cmp, fate_by, is_next};
+ghost use Rattle.csv_lines.specs.Doubled.{places_from, shown, with_row};
 ghost use Rattle.csv_lines.specs.declared.fate.Fate.{Fate};
+ghost use Rattle.csv_lines.specs.declared.fate.Fate.TheVariants.{Kept};
 
 use crate::fault::merged;
 use geo_addr::{Memory, Range, range_of};
@@ -129,11 +130,22 @@ pub fn judge<T: Accepted + Drop>(
     if rises(rows.as_slice()) {
         return Ok(Judged { rows, faults });
     }
+    let doubled = doubled_in(alloc, rows.as_slice())?;
+    if doubled.is_empty() {
+        return Ok(Judged { rows, faults });
+    }
+    let places = places_in(alloc, rows.as_slice(), &doubled)?;
     let mut rows = rows;
-    let fates = fates(alloc, rows.as_slice())?;
-    let repeated = repeat_faults(alloc, rows.as_slice(), fates.as_slice(), rules)?;
+    let fates = fates(alloc, rows.as_slice(), places.as_slice())?;
+    let repeated = repeat_faults(
+        alloc,
+        rows.as_slice(),
+        places.as_slice(),
+        fates.as_slice(),
+        rules,
+    )?;
     let faults = merged(alloc, repeated.as_slice(), faults.as_slice())?;
-    keep(&mut rows, fates.as_slice());
+    keep(&mut rows, places.as_slice(), fates.as_slice());
     Ok(Judged { rows, faults })
 }
 
@@ -172,16 +184,18 @@ fn is_below(one: Range, other: Range) -> bool
     }
 }
 
-// What becomes of each line.
-fn fates<T: Accepted>(alloc: Global, rows: &[T]) -> Result<Vec<Fate>, Memory>
-    requires { Rises 0 (map T.line rows.now) }
-    ensures { IfOk result
-        (λ fates. fates.items ≡ map (fate T.line T.range T.said rows.now) rows.now) }
+// What becomes of the lines at these places, which hold each line of a range that one of them has.
+fn fates<T: Accepted>(alloc: Global, rows: &[T], places: &[usize]) -> Result<Vec<Fate>, Memory>
+    requires rising { Rises 0 (map T.line rows.now) }
+    requires within { All (λ i. i < length rows.now) places.now }
+    ensures { (q : Ends → Bool) → places.now ≡ places_from (λ x. q (T.range x)) 0 rows.now
+        → IfOk result (λ fates. fates.items ≡ map (fate T.line T.range T.said rows.now)
+        (filter (λ x. q (T.range x)) rows.now)) }
 {
-    let seen = seen_in(alloc, rows)?;
-    let mut fates = Vec::with_capacity(alloc, rows.len())?;
-    for row in rows {
-        fates.push(fate_in(&seen, row))?;
+    let seen = seen_in(alloc, rows, places)?;
+    let mut fates = Vec::with_capacity(alloc, places.len())?;
+    for at in 0..places.len() {
+        fates.push(fate_in(&seen, &rows[places[at]]))?;
     }
     Ok(fates)
 }
@@ -203,40 +217,45 @@ impl<'a> Model for Doubled<'a> {
     ghost view = { λ s. record { line = s.line; said = s.said.now; differs = s.differs } };
 }
 
-// What the lines show, by their ranges, of the ranges that more than one line has.
-//
-// Few files have any, and a sort finds them in less time than a map of all ranges takes.
-fn seen_in<T: Accepted>(alloc: Global, rows: &[T]) -> Result<BTreeMap<Range, Doubled<'_>>, Memory>
-    ensures { IfOk result (λ seen. (k : Ends)
-        → IsHeld T.line T.range T.said rows.now k (get ends_cmp seen k)) }
+// What the lines at these places show, by their ranges.
+fn seen_in<'a, T: Accepted>(
+    alloc: Global,
+    rows: &'a [T],
+    places: &[usize],
+) -> Result<BTreeMap<Range, Doubled<'a>>, Memory>
+    requires { All (λ i. i < length rows.now) places.now }
+    ensures { (p : T → Bool) → places.now ≡ places_from p 0 rows.now
+        → IfOk result (λ seen. (k : Ends)
+        → get ends_cmp seen k ≡ shown T.line T.range T.said (filter p rows.now) k) }
 {
-    let doubled = doubled_in(alloc, rows)?;
-    let mut seen: BTreeMap<Range, Doubled<'_>> = BTreeMap::new(alloc);
-    for row in rows {
-        see_doubled(&doubled, &mut seen, row)?;
+    let mut seen: BTreeMap<Range, Doubled<'a>> = BTreeMap::new(alloc);
+    for at in 0..places.len() {
+        see(&mut seen, &rows[places[at]])?;
     }
     Ok(seen)
 }
 
-// Takes one more line, if its range is one of these.
-fn see_doubled<'a, T: Accepted>(
+// The places of the lines whose ranges are among these.
+fn places_in<T: Accepted>(
+    alloc: Global,
+    rows: &[T],
     doubled: &BTreeSet<Range>,
-    seen: &mut BTreeMap<Range, Doubled<'a>>,
-    row: &'a T,
-) -> Result<(), Memory>
-    ensures { (k : Ends) (s : Option Shown)
-        → get ends_cmp seen.old k ≡ held (contains ends_cmp doubled.now k) s → OnOk result
-        (get ends_cmp seen.new k ≡ held (contains ends_cmp doubled.now k)
-        (with_row T.line T.range T.said s row.now k)) }
+) -> Result<Vec<usize>, Memory>
+    ensures { IfOk result (λ places. places.items
+        ≡ places_from (λ x. contains ends_cmp doubled.now (T.range x)) 0 rows.now) }
 {
-    if !doubled.contains(&row.range()) {
-        return Ok(());
+    let mut places = Vec::new(alloc);
+    for at in 0..rows.len() {
+        if doubled.contains(&rows[at].range()) {
+            places.push(at)?;
+        }
     }
-    see(seen, row)?;
-    Ok(())
+    Ok(places)
 }
 
 // The ranges that more than one line has.
+//
+// Few files have any, and a sort finds them in less time than a map of all ranges takes.
 fn doubled_in<T: Accepted>(alloc: Global, rows: &[T]) -> Result<BTreeSet<Range>, Memory>
     ensures { IfOk result (λ doubled. (k : Ends) → contains ends_cmp doubled k ≡ false
         → IsAlone k (map T.range rows.now)) }
@@ -347,20 +366,26 @@ fn fate_of(seen: Option<&Doubled<'_>>, line: u64) -> Fate
     }
 }
 
-// The faults of the lines that do not speak.
+// The faults of the lines at these places that do not speak.
 fn repeat_faults<T: Accepted>(
     alloc: Global,
     rows: &[T],
+    places: &[usize],
     fates: &[Fate],
     rules: RepeatRules,
 ) -> Result<Vec<LineNote>, Memory>
-    requires { length fates.now ≡ length rows.now }
-    ensures { (f : T → Fate) → fates.now ≡ map f rows.now → IfOk result
-        (λ faults. faults.items ≡ filter_map (λ x. fault_by rules (T.line x) (f x)) rows.now) }
+    requires within { All (λ i. i < length rows.now) places.now }
+    requires long { length fates.now ≡ length places.now }
+    ensures { (f : T → Fate) (p : T → Bool) → places.now ≡ places_from p 0 rows.now
+        → fates.now ≡ map f (filter p rows.now) → IfOk result (λ faults. faults.items
+        ≡ filter_map (λ x. fault_by rules (T.line x) (f x)) (filter p rows.now)) }
 {
     let mut faults = Vec::new(alloc);
-    for (at, row) in rows.iter().enumerate() {
-        push_some(&mut faults, fault_of(rules, row.line(), fates[at]))?;
+    for at in 0..places.len() {
+        push_some(
+            &mut faults,
+            fault_of(rules, rows[places[at]].line(), fates[at]),
+        )?;
     }
     Ok(faults)
 }
@@ -390,20 +415,40 @@ fn fault_of(rules: RepeatRules, line: u64, fate: Fate) -> Option<LineNote>
     }
 }
 
-// Leaves the lines that are kept.
-fn keep<T: Drop>(rows: &mut Vec<T>, fates: &[Fate])
-    requires { length fates.now ≡ length rows.old.items }
-    ensures { (f : T → Fate) → fates.now ≡ map f rows.old.items
+// Leaves the lines that are kept, where those at other places than these are.
+fn keep<T: Drop>(rows: &mut Vec<T>, places: &[usize], fates: &[Fate])
+    requires { length fates.now ≡ length places.now }
+    ensures { (f : T → Fate) (p : T → Bool) → places.now ≡ places_from p 0 rows.old.items
+        → fates.now ≡ map f (filter p rows.old.items)
+        → All (λ x. p x ≡ false → f x ≡ Kept) rows.old.items
         → rows.new.items ≡ filter (λ x. is_kept_by (f x)) rows.old.items }
 {
     let mut count = 0;
-    for at in 0..fates.len() {
-        if is_kept(fates[at]) {
+    let mut next = 0;
+    for at in 0..rows.len() {
+        if is_kept(next_fate(places, fates, &mut next, at)) {
             rows.swap(count, at);
             count += 1;
         }
     }
     rows.truncate(count);
+}
+
+// What becomes of a line, by the next of these places, which is passed where it is the line's own.
+fn next_fate(places: &[usize], fates: &[Fate], next: &mut usize, at: usize) -> Fate
+    requires { length fates.now ≡ length places.now }
+    ensures told { result ≡ (if is_next places.now next.old at
+        then slice_index_or fates.now next.old Kept else Kept) }
+    ensures passed { next.new ≡ (if is_next places.now next.old at
+        then next.old + 1 else next.old) }
+{
+    let now = *next;
+    if now < places.len() && places[now] == at {
+        *next = now + 1;
+        fates[now]
+    } else {
+        Fate::Kept
+    }
 }
 
 fn is_kept(fate: Fate) -> bool

@@ -2,11 +2,12 @@
 ghost use Rattle.std.specs.Prelude.{◌≡◌, IfOk};
 ghost use Rattle.geo_addr.specs.AddressTexts.{is_six};
 ghost use Rattle.nro_stats.specs.Fields.{fields};
-ghost use Rattle.nro_stats.specs.Outcomes.{PlacesCountryAlone, is_kind, is_silent, is_status};
-ghost use Rattle.nro_stats.specs.Outcomes.{judged, outcome, placed, range_in, v4_range, v4_start};
-ghost use Rattle.nro_stats.specs.Outcomes.{v6_range, v6_start};
+ghost use Rattle.nro_stats.specs.Outcomes.{PlacesCountryAlone, judged, outcome, placed, placed_in};
+ghost use Rattle.nro_stats.specs.Outcomes.{v4_range, v4_start, v6_range, v6_start};
+ghost use Rattle.nro_stats.specs.Words.{held};
 
 use crate::record::{Record, is_heading, is_heading_line, is_skipped};
+use crate::resource::{Holding, Kind, holding_of, kind_of};
 use geo_addr::{Block, Memory, Range, decimal, is_aligned, is_six, parse_addr, range_of};
 use geo_terms::{Place, Rule, Texts, country_place};
 
@@ -36,58 +37,47 @@ pub(crate) fn read_line(texts: &mut Texts, line: &[u8]) -> Result<LineOutcome, M
 }
 
 // What a record says: the first rule that holds of it, else nothing, else a delegation.
-#[tactic(auto, unfolding(crate::specs::Outcomes::judged))]
+#[tactic(auto, using(crate::proofs::WordLemmas::judged_by_words))]
 fn judged(texts: &mut Texts, found: &Record) -> Result<LineOutcome, Memory>
     ensures outcome { IfOk result (λ said. said ≡ judged found.now.country.now found.now.kind.now
         found.now.start.now found.now.value.now found.now.status.now) }
     ensures alone { IfOk result PlacesCountryAlone }
 {
-    if !is_kind(found.kind) {
+    let Some(kind) = kind_of(found.kind) else {
         return Ok(LineOutcome::Broken(Rule::S02));
+    };
+    match holding_of(found.status) {
+        Some(Holding::Held) => held(texts, kind, found),
+        Some(Holding::Free) => Ok(LineOutcome::Silent),
+        None => Ok(LineOutcome::Broken(Rule::S03)),
     }
-    if !is_status(found.status) {
-        return Ok(LineOutcome::Broken(Rule::S03));
+}
+
+// What a record of a resource that is held says.
+fn held(texts: &mut Texts, kind: Kind, found: &Record) -> Result<LineOutcome, Memory>
+    ensures outcome { IfOk result (λ said. said ≡ held kind found.now.country.now
+        found.now.start.now found.now.value.now) }
+    ensures alone { IfOk result PlacesCountryAlone }
+{
+    match kind {
+        Kind::Systems => Ok(LineOutcome::Silent),
+        Kind::V4 => placed_in(texts, v4_range(found.start, found.value), found.country),
+        Kind::V6 => placed_in(texts, v6_range(found.start, found.value), found.country),
     }
-    if is_silent(found.kind, found.status) {
-        return Ok(LineOutcome::Silent);
-    }
-    match range_in(found.kind, found.start, found.value) {
-        Ok(range) => placed(texts, range, found.country),
+}
+
+// A delegation of the addresses that were read, where they are in form.
+fn placed_in(
+    texts: &mut Texts,
+    range: Result<Range, Rule>,
+    country: &[u8],
+) -> Result<LineOutcome, Memory>
+    ensures outcome { IfOk result (λ said. said ≡ placed_in range country.now) }
+    ensures alone { IfOk result PlacesCountryAlone }
+{
+    match range {
+        Ok(range) => placed(texts, range, country),
         Err(rule) => Ok(LineOutcome::Broken(rule)),
-    }
-}
-
-fn is_kind(kind: &[u8]) -> bool
-    ensures { result ≡ is_kind kind.now }
-{
-    kind == b"asn".as_slice() || kind == b"ipv4".as_slice() || kind == b"ipv6".as_slice()
-}
-
-fn is_status(status: &[u8]) -> bool
-    ensures { result ≡ is_status status.now }
-{
-    status == b"allocated".as_slice()
-        || status == b"assigned".as_slice()
-        || status == b"available".as_slice()
-        || status == b"reserved".as_slice()
-}
-
-fn is_silent(kind: &[u8], status: &[u8]) -> bool
-    ensures { result ≡ is_silent kind.now status.now }
-{
-    kind == b"asn".as_slice()
-        || status == b"available".as_slice()
-        || status == b"reserved".as_slice()
-}
-
-// The addresses of a record that is not of type `asn`.
-fn range_in(kind: &[u8], start: &[u8], value: &[u8]) -> Result<Range, Rule>
-    ensures { result ≡ range_in kind.now start.now value.now }
-{
-    if kind == b"ipv4".as_slice() {
-        v4_range(start, value)
-    } else {
-        v6_range(start, value)
     }
 }
 

@@ -1,12 +1,13 @@
 //! The fields of a line.
 ghost use Rattle.std.specs.Prelude.{◌≡◌, ◌∷◌, ◌&&◌, ◌||◌, [], codes, MatchOption};
 ghost use Rattle.std.specs.Option.{option_copied};
+ghost use Rattle.geo_addr.specs.Lines.{trimmed};
 ghost use Rattle.geo_terms.specs.PlaceForm.{same_text};
 ghost use Rattle.nro_stats.specs.Fields.{IsRecord, IsShort, fields, fields_after, first_field};
-ghost use Rattle.nro_stats.specs.Fields.{is_comment, later_fields};
 ghost use Rattle.nro_stats.specs.Fields.{is_skipped, is_summary_line, is_version, is_version_line};
+ghost use Rattle.nro_stats.specs.Fields.{later_fields};
 
-use geo_addr::{are_digits, cut_at, trim_blanks};
+use geo_addr::{are_digits, cut_near, is_blank, trim_blanks};
 
 /// The first seven fields of a line; what follows the status does not count.
 #[derive(Clone, Copy, Debug)]
@@ -64,9 +65,9 @@ fn take_field<'a>(rest: &mut Option<&'a [u8]>) -> &'a [u8]
     let Some(text) = *rest else {
         return b"".as_slice();
     };
-    let (piece, after) = cut_at(text, b'|');
+    let (piece, after) = cut_near(text, b'|');
     *rest = after;
-    trim_blanks(piece)
+    trimmed(piece)
 }
 
 // The field before the first bar, if any text is left.
@@ -75,23 +76,29 @@ fn last_field(rest: Option<&[u8]>) -> Option<&[u8]>
         fields_after (option_copied rest.entry)
         ≡ field.now ∷ later_fields (fields_after (option_copied rest.entry))) }
 {
-    let (piece, _) = cut_at(rest?, b'|');
-    Some(trim_blanks(piece))
+    let (piece, _) = cut_near(rest?, b'|');
+    Some(trimmed(piece))
+}
+
+// A field without the blanks at both ends; few have any.
+#[tactic(auto, using(crate::proofs::TrimLemmas::stays))]
+fn trimmed(field: &[u8]) -> &[u8]
+    ensures { result.now ≡ trimmed field.now }
+{
+    match field {
+        [first, .., last] if !is_blank(*first) && !is_blank(*last) => field,
+        _ => trim_blanks(field),
+    }
 }
 
 /// Whether a line is passed over: it has blanks alone, or begins with `#`.
+#[tactic(auto, using(crate::proofs::TrimLemmas::begun))]
 pub(crate) fn is_skipped(line: &[u8]) -> bool
     ensures { result ≡ is_skipped line.now }
 {
-    trim_blanks(line).is_empty() || is_comment(line)
-}
-
-fn is_comment(line: &[u8]) -> bool
-    ensures { result ≡ is_comment line.now }
-{
     match line {
-        [first, ..] => *first == b'#',
-        [] => false,
+        [first, ..] => *first == b'#' || (is_blank(*first) && trim_blanks(line).is_empty()),
+        [] => true,
     }
 }
 
@@ -107,8 +114,8 @@ pub(crate) fn is_heading_line(line: &[u8]) -> bool
 fn is_version_line(line: &[u8]) -> bool
     ensures { result ≡ is_version_line (fields line.now) }
 {
-    let (first, _) = cut_at(line, b'|');
-    is_version(trim_blanks(first))
+    let (first, _) = cut_near(line, b'|');
+    is_version(trimmed(first))
 }
 
 fn is_version(field: &[u8]) -> bool

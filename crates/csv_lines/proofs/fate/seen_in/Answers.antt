@@ -1,33 +1,34 @@
 -- One more line, and all of them.
-use Rattle.std.proofs.Common.{◌∙◌, ◌<◌, List, ap, length, rules, sym, take}
+use Rattle.std.proofs.Common.{◌≡◌, ◌≤◌, ◌∙◌, ap, arith, filter, length, sym, take}
 use Rattle.std.proofs.lemmas.List.{take_all}
-use Rattle.std.specs.BTreeMap.{get}
-use Rattle.std.specs.BTreeSet.{contains}
-use Rattle.csv_lines.specs.Doubled.{ends_cmp, held, shown, with_row}
-use Rattle.csv_lines.proofs.AloneLemmas.{seen_all}
+use Rattle.csv_lines.specs.Doubled.{places_from, shown, with_row}
 use Rattle.csv_lines.proofs.FateLemmas.{shown_more}
+use Rattle.csv_lines.proofs.PlaceLemmas.{length-places, picked}
 use Rattle.csv_lines.proofs.fate.seen_in.Goals as goal
 
-pub loop-row-preserved : goal.loop-row-preserved
-loop-row-preserved g c k =
-    let row = c.row-item.result in
-    let b = contains ends_cmp c.in_ok-doubled.doubled k in
-    let within : c.loop-row.row-index < length c.args.rows.now = search rules in
-    let before =
-    shown g.T.Accepted.line g.T.Accepted.range g.T.Accepted.said
-    (take c.loop-row.row-index c.args.rows.now) k in
-    c.in_ok-see_doubled.ensures k before (c.loop-row.invariant k)
-    ∙ ap (λ x. held b (with_row g.T.Accepted.line g.T.Accepted.range g.T.Accepted.said before x k))
-    c.row-item.is
-    ∙ ap (held b) (sym (shown_more g.T.Accepted.line g.T.Accepted.range g.T.Accepted.said
-    c.args.rows.now c.loop-row.row-index row k within))
+pub loop-at-preserved : goal.loop-at-preserved
+loop-at-preserved g c p is k =
+    let x = c.index-rows-places.result in
+    let own = filter p c.args.rows.now in
+    let (within, here) =
+    picked p c.args.rows.now c.args.places.now c.loop-at.at x is c.loop-at-test.true
+    c.index-rows-places.is in
+    c.in_ok-see.ensures k
+    ∙ ap (λ s. with_row g.T.Accepted.line g.T.Accepted.range g.T.Accepted.said s x k)
+    (c.loop-at.invariant p is k)
+    ∙ ap (λ y. with_row g.T.Accepted.line g.T.Accepted.range g.T.Accepted.said
+    (shown g.T.Accepted.line g.T.Accepted.range g.T.Accepted.said (take c.loop-at.at own) k)
+    y k) here
+    ∙ sym (shown_more g.T.Accepted.line g.T.Accepted.range g.T.Accepted.said own c.loop-at.at x k
+    within)
 
 pub returns : goal.returns
-returns g c k =
-    let all = take_all c.loop-row.row-index c.args.rows.now (search rules) in
-    let b = contains ends_cmp c.in_ok-doubled.doubled k in
-    seen_all g.T.Accepted.line g.T.Accepted.range g.T.Accepted.said b
-    (get ends_cmp c.loop-row.seen k) c.args.rows.now k
-    (c.loop-row.invariant k ∙ ap (λ (t : List g.row.T.Denot).
-    held b (shown g.T.Accepted.line g.T.Accepted.range g.T.Accepted.said t k)) all)
-    (c.in_ok-doubled.ensures k)
+returns g c p is k =
+    let long = length-places p 0 c.args.rows.now in
+    let same : length c.args.places.now ≡ length (places_from p 0 c.args.rows.now) =
+    ap length is in
+    let end = c.loop-at-test.false in
+    let done : length (filter p c.args.rows.now) ≤ c.loop-at.at = omega arith in
+    c.loop-at.invariant p is k
+    ∙ ap (λ t. shown g.T.Accepted.line g.T.Accepted.range g.T.Accepted.said t k)
+    (take_all c.loop-at.at (filter p c.args.rows.now) done)
