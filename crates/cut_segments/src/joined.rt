@@ -15,11 +15,7 @@ use std::alloc::Global;
 /// There are no more of them than grounds, and each begins where a ground does, or the chunk.
 ///
 /// In one pass neighbours become one range, and grounds that lie in an earlier one are left out.
-pub fn grounds_in(
-    alloc: Global,
-    touched: &GroundList,
-    chunk: Range,
-) -> Result<Vec<Range>, Memory>
+pub fn grounds_in(alloc: Global, touched: &GroundList, chunk: Range) -> Result<Vec<Range>, Memory>
     ensures same { IfOk result (λ fewer. (a : ℕ) → is_touched fewer.items a
         ≡ (is_touched touched.now a && (nat_le chunk.first a && nat_le a chunk.last))) }
     // What is touched are addresses, so a chunk that is the whole space leaves none out.

@@ -4,5 +4,9 @@ use Rattle.source_changes.proofs.ground_list.GroundList.len.Goals as goal
 
 pub returns : goal.returns
 returns c =
-    omega (arith, c.len.ensures, ap length c.self.view_is,
-    length_unpacked c.self.inside.packed.items c.self.inside.others.items c.self.invariant)
+    omega (
+      arith,
+      c.len.ensures,
+      ap length c.self.view_is,
+      length_unpacked c.self.inside.packed.items c.self.inside.others.items c.self.invariant,
+    )
