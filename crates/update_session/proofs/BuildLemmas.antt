@@ -3,7 +3,7 @@ use Rattle.std.proofs.Common.{◌≡◌, ℕ, zero, suc, ◌+◌, ◌*◌, ◌^�
 use Rattle.std.proofs.Common.{◌&&◌, leb, eqb, List, [], ◌∷◌, ◌++◌, length, map, get_or}
 use Rattle.std.proofs.Common.{Option, Some, None, inl, inr, refl, sym, ap, ◌∙◌, subst, arith}
 use Rattle.std.proofs.Common.{length-append, append_assoc, append-nil, MatchOption}
-use Rattle.std.specs.Prelude.{slice_get, flat_map}
+use Rattle.std.specs.Prelude.{IsTrue, slice_get, flat_map}
 use Rattle.std.specs.List.{All, AllAdjacentBelow, Any, AllByRecursion}
 use Rattle.std.proofs.lemmas.Bool.Decides.{nat_tests}
 use Rattle.std.proofs.lemmas.List.{length-map}
@@ -61,6 +61,12 @@ few_places_of s [] before after n some le grown =
     absurd (let this : true ≡ false = some in cc)
 few_places_of s (r ∷ rs) before after n some le (more, after-is, few) =
     (more, after-is, omega (arith, few, le))
+
+-- some ground is touched where a test tells that the list is not empty
+pub some_touched : (touched : List Ends) (b : Bool) → (touched ≡ [] → IsTrue b) → b ≡ false
+    → eqb (length touched) 0 ≡ false
+some_touched [] b from is = absurd (let f : false ≡ true = sym is ∙ from refl in cc)
+some_touched (r ∷ rs) b from is = grind (arith, nat_tests)
 
 pub within_bound : (s : InForce) (touched : List Ends) (n : ℕ)
     → eqb (length touched) 0 ≡ false → n ≤ touch touched (statement_ranges s)

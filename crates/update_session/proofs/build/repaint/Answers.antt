@@ -10,7 +10,7 @@ use Rattle.update_session.proofs.AliasLemmas.{AnswersAll-made}
 use Rattle.update_session.proofs.BuildLemmas.{AnswersSpoken-painted, GrowsBy-trans}
 use Rattle.update_session.proofs.BuildLemmas.{IsAscending-from_segments}
 use Rattle.update_session.proofs.BuildLemmas.{few_places_of, painted_more}
-use Rattle.update_session.proofs.BuildLemmas.{within_bound}
+use Rattle.update_session.proofs.BuildLemmas.{some_touched, within_bound}
 use Rattle.update_session.proofs.ChunkLemmas.{all_in, next_in}
 use Rattle.update_session.proofs.KeptLemmas.{spoken_elsewhere}
 use Rattle.update_session.proofs.NumberingLemmas.{IsKnown-from_chosen}
@@ -87,7 +87,8 @@ returns-in_err-parts-clause-few_ticks g c =
     omega (
       arith,
       within_bound c.args.sources.now c.args.touched.now _
-          (sym c.is_empty.ensures ∙ c.if-is_empty.false) next.segments,
+          (some_touched c.args.touched.now c.is_empty.result c.is_empty.ensures.1
+          c.if-is_empty.false) next.segments,
       c.loop-one.invariant.few_ticks,
     )
 
@@ -100,7 +101,8 @@ returns-in_err-parts-clause-places g c =
     c.next.result c.in-Some.one c.make_ready.ensures c.in_ok-chosen.ensures yields
     c.loop-one.yielded_by c.in-Some.is c.next.ensures.steps in
     few_places_of c.args.sources.now c.args.touched.now _ _ _
-    (sym c.is_empty.ensures ∙ c.if-is_empty.false) next.places
+    (some_touched c.args.touched.now c.is_empty.result c.is_empty.ensures.1
+    c.if-is_empty.false) next.places
     (GrowsBy-trans _ _ _ _ _ _ c.loop-one.invariant.places c.parts_of.ensures.places
     (omega arith))
 
@@ -119,7 +121,8 @@ returns-in_err-painted-clause-few_ticks g c =
     omega (
       arith,
       within_bound c.args.sources.now c.args.touched.now _
-          (sym c.is_empty.ensures ∙ c.if-is_empty.false) next.segments,
+          (some_touched c.args.touched.now c.is_empty.result c.is_empty.ensures.1
+          c.if-is_empty.false) next.segments,
       c.loop-one.invariant.few_ticks,
       c.paint.ensures.few_ticks,
       as_many,
@@ -139,7 +142,8 @@ returns-in_err-painted-clause-places g c =
     c.next.result c.in-Some.one c.make_ready.ensures c.in_ok-chosen.ensures yields
     c.loop-one.yielded_by c.in-Some.is c.next.ensures.steps in
     few_places_of c.args.sources.now c.args.touched.now _ _ _
-    (sym c.is_empty.ensures ∙ c.if-is_empty.false) next.places
+    (some_touched c.args.touched.now c.is_empty.result c.is_empty.ensures.1
+    c.if-is_empty.false) next.places
     (GrowsBy-trans _ _ _ _ _ _ c.loop-one.invariant.places c.in_ok-parts.ensures.places
     (omega arith))
 
@@ -154,7 +158,8 @@ returns-clause-few_ticks g c =
     omega (
       arith,
       within_bound c.args.sources.now c.args.touched.now _
-          (sym c.is_empty.ensures ∙ c.if-is_empty.false) are.segments,
+          (some_touched c.args.touched.now c.is_empty.result c.is_empty.ensures.1
+          c.if-is_empty.false) are.segments,
       c.loop-one.invariant.few_ticks,
       c.with_aliases.ensures.few_ticks,
     )
@@ -168,7 +173,8 @@ returns-clause-places g c =
     c.next.result c.make_ready.ensures c.in_ok-chosen.ensures yields c.loop-one.yielded_by
     c.in-None.is c.next.ensures.steps in
     few_places_of c.args.sources.now c.args.touched.now _ _ _
-    (sym c.is_empty.ensures ∙ c.if-is_empty.false) are.places
+    (some_touched c.args.touched.now c.is_empty.result c.is_empty.ensures.1
+    c.if-is_empty.false) are.places
     c.loop-one.invariant.places
 
 pub returns-clause-answers : goal.returns-clause-answers

@@ -1,6 +1,5 @@
-use Rattle.std.proofs.Common.{◌≡◌, ◌∙◌, ◌++◌, List, [], ap, subst}
+use Rattle.std.proofs.Common.{◌≡◌, ◌∙◌, List, [], ap, subst}
 use Rattle.std.specs.List.Sorted.{IsPermutation}
-use Rattle.geo_addr.specs.Ranges.{Ends}
 use Rattle.geo_terms.specs.declared.statement.Entry.{Entry}
 use Rattle.geo_terms.specs.Sources.{entries_in}
 use Rattle.source_changes.specs.Changes.{DropFeed, changes, named, entry_changes}
@@ -9,9 +8,10 @@ use Rattle.update_session.specs.Kept.{Held}
 use Rattle.update_session.specs.contracts.session.Session.{the_view}
 use Rattle.update_session.proofs.KeptLemmas.{HasChanged-made, IsSession-changed}
 use Rattle.update_session.proofs.session.Session.drop_feed.Goals as goal
+use Rattle.update_session.proofs.session.Session.drop_feed.Goals.{in-Ok, in-Err}
 
-pub invariant_of-self-2 : goal.invariant_of-self-2
-invariant_of-self-2 c =
+pub invariant_of-self-in-Ok : goal.invariant_of-self-in-Ok
+invariant_of-self-in-Ok c =
     let old : c.entries_of-old.result.now
     ≡ entries_in (named (λ x. x.url) c.args.url.now c.self.inside.sources.feeds) =
     c.entries_of-old.ensures ∙ ap entries_in c.in-Some.ensures in
@@ -27,8 +27,8 @@ invariant_of-self-2 c =
           c.in_ok-before.ensures.added.1 same,
     )
 
-pub returns-in-Ok-clause-ok : goal.returns-in-Ok-clause-ok
-returns-in-Ok-clause-ok c =
+pub returns-clause-ok : goal.returns-clause-ok
+returns-clause-ok c =
     let old : c.entries_of-old.result.now
     ≡ entries_in (named (λ x. x.url) c.args.url.now c.self.inside.sources.feeds) =
     c.entries_of-old.ensures ∙ ap entries_in c.in-Some.ensures in
@@ -36,11 +36,15 @@ returns-in-Ok-clause-ok c =
     (changes (DropFeed c.args.url.now) c.self.inside.sources) c.in_ok-before.ensures.added.0 =
     subst (λ (xs : List Entry). IsPermutation (entry_changes xs []) c.in_ok-before.ensures.added.0)
     old c.in_ok-before.ensures.added.2 in
-    subst (λ (held : Held). HasChanged (DropFeed c.args.url.now) held
-    (the_view (record c.self.inside {
-      sources = c.drop_feed.new.self;
-      touched = c.add_changed.new.touched;
-    }))) c.self.view_is
-    (HasChanged-made (DropFeed c.args.url.now) (the_view c.self.inside) c.drop_feed.new.self
-    c.add_changed.new.touched c.in_ok-before.ensures.added.0 c.in-Ok.ensures.sources
-    c.in_ok-before.ensures.added.1 same)
+    elim c.match-drop_feed.branch [
+      | in-Ok w ↦ rw (w.result-is, w.self-is) (
+          subst (λ (held : Held). HasChanged (DropFeed c.args.url.now) held
+          (the_view (record c.self.inside {
+            sources = c.drop_feed.new.self;
+            touched = c.add_changed.new.touched;
+          }))) c.self.view_is
+          (HasChanged-made (DropFeed c.args.url.now) (the_view c.self.inside) c.drop_feed.new.self
+          c.add_changed.new.touched c.in_ok-before.ensures.added.0 w.in-Ok.ensures.sources
+          c.in_ok-before.ensures.added.1 same))
+      | in-Err w ↦ rw w.result-is tt
+    ]

@@ -1,6 +1,5 @@
-use Rattle.std.proofs.Common.{◌≡◌, ◌∙◌, ◌++◌, List, [], ap, subst}
+use Rattle.std.proofs.Common.{◌≡◌, ◌∙◌, List, [], ap, subst}
 use Rattle.std.specs.List.Sorted.{IsPermutation}
-use Rattle.geo_addr.specs.Ranges.{Ends}
 use Rattle.geo_terms.specs.declared.statement.Override.{Override}
 use Rattle.geo_terms.specs.Sources.{override_rows, rows_in}
 use Rattle.source_changes.specs.Changes.{DropOverrides, changes, override_changes}
@@ -9,9 +8,10 @@ use Rattle.update_session.specs.Kept.{Held}
 use Rattle.update_session.specs.contracts.session.Session.{the_view}
 use Rattle.update_session.proofs.KeptLemmas.{HasChanged-made, IsSession-changed}
 use Rattle.update_session.proofs.session.Session.drop_overrides.Goals as goal
+use Rattle.update_session.proofs.session.Session.drop_overrides.Goals.{in-Ok, in-Err}
 
-pub invariant_of-self-2 : goal.invariant_of-self-2
-invariant_of-self-2 c =
+pub invariant_of-self-in-Ok : goal.invariant_of-self-in-Ok
+invariant_of-self-in-Ok c =
     let old : c.rows_of-old.result.now ≡ override_rows c.self.inside.sources =
     c.rows_of-old.ensures ∙ ap rows_in c.in-Some.ensures in
     let same : IsPermutation
@@ -26,19 +26,23 @@ invariant_of-self-2 c =
           c.in_ok-before.ensures.added.1 same,
     )
 
-pub returns-in-Ok-clause-ok : goal.returns-in-Ok-clause-ok
-returns-in-Ok-clause-ok c =
+pub returns-clause-ok : goal.returns-clause-ok
+returns-clause-ok c =
     let old : c.rows_of-old.result.now ≡ override_rows c.self.inside.sources =
     c.rows_of-old.ensures ∙ ap rows_in c.in-Some.ensures in
     let same : IsPermutation
     (changes DropOverrides c.self.inside.sources) c.in_ok-before.ensures.added.0 =
     subst (λ (xs : List Override). IsPermutation (override_changes xs [])
     c.in_ok-before.ensures.added.0) old c.in_ok-before.ensures.added.2 in
-    subst (λ (held : Held). HasChanged DropOverrides held
-    (the_view (record c.self.inside {
-      sources = c.drop_overrides.new.self;
-      touched = c.add_changed.new.touched;
-    }))) c.self.view_is
-    (HasChanged-made DropOverrides (the_view c.self.inside) c.drop_overrides.new.self
-    c.add_changed.new.touched c.in_ok-before.ensures.added.0 c.in-Ok.ensures.sources
-    c.in_ok-before.ensures.added.1 same)
+    elim c.match-drop_overrides.branch [
+      | in-Ok w ↦ rw (w.result-is, w.self-is) (
+          subst (λ (held : Held). HasChanged DropOverrides held
+          (the_view (record c.self.inside {
+            sources = c.drop_overrides.new.self;
+            touched = c.add_changed.new.touched;
+          }))) c.self.view_is
+          (HasChanged-made DropOverrides (the_view c.self.inside) c.drop_overrides.new.self
+          c.add_changed.new.touched c.in_ok-before.ensures.added.0 w.in-Ok.ensures.sources
+          c.in_ok-before.ensures.added.1 same))
+      | in-Err w ↦ rw w.result-is tt
+    ]

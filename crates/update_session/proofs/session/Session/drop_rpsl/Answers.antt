@@ -1,6 +1,5 @@
-use Rattle.std.proofs.Common.{◌≡◌, ◌∙◌, ◌++◌, List, [], ap, subst}
+use Rattle.std.proofs.Common.{◌≡◌, ◌∙◌, List, [], ap, subst}
 use Rattle.std.specs.List.Sorted.{IsPermutation}
-use Rattle.geo_addr.specs.Ranges.{Ends}
 use Rattle.geo_terms.specs.declared.statement.Reference.{Reference}
 use Rattle.source_changes.specs.Changes.{DropDump, changes, references_in, named, reference_changes}
 use Rattle.update_session.specs.Calls.{HasChanged}
@@ -8,9 +7,10 @@ use Rattle.update_session.specs.Kept.{Held}
 use Rattle.update_session.specs.contracts.session.Session.{the_view}
 use Rattle.update_session.proofs.KeptLemmas.{HasChanged-made, IsSession-changed}
 use Rattle.update_session.proofs.session.Session.drop_rpsl.Goals as goal
+use Rattle.update_session.proofs.session.Session.drop_rpsl.Goals.{in-Ok, in-Err}
 
-pub invariant_of-self-2 : goal.invariant_of-self-2
-invariant_of-self-2 c =
+pub invariant_of-self-in-Ok : goal.invariant_of-self-in-Ok
+invariant_of-self-in-Ok c =
     let old : c.references_of-old.result.now
     ≡ references_in (named (λ x. x.slot) c.args.slot.now c.self.inside.sources.dumps) =
     c.references_of-old.ensures ∙ ap references_in c.in-Some.ensures in
@@ -26,8 +26,8 @@ invariant_of-self-2 c =
           c.in_ok-before.ensures.added.1 same,
     )
 
-pub returns-in-Ok-clause-ok : goal.returns-in-Ok-clause-ok
-returns-in-Ok-clause-ok c =
+pub returns-clause-ok : goal.returns-clause-ok
+returns-clause-ok c =
     let old : c.references_of-old.result.now
     ≡ references_in (named (λ x. x.slot) c.args.slot.now c.self.inside.sources.dumps) =
     c.references_of-old.ensures ∙ ap references_in c.in-Some.ensures in
@@ -35,11 +35,15 @@ returns-in-Ok-clause-ok c =
     (changes (DropDump c.args.slot.now) c.self.inside.sources) c.in_ok-before.ensures.added.0 =
     subst (λ (xs : List Reference). IsPermutation (reference_changes xs [])
     c.in_ok-before.ensures.added.0) old c.in_ok-before.ensures.added.2 in
-    subst (λ (held : Held). HasChanged (DropDump c.args.slot.now) held
-    (the_view (record c.self.inside {
-      sources = c.drop_rpsl.new.self;
-      touched = c.add_changed.new.touched;
-    }))) c.self.view_is
-    (HasChanged-made (DropDump c.args.slot.now) (the_view c.self.inside) c.drop_rpsl.new.self
-    c.add_changed.new.touched c.in_ok-before.ensures.added.0 c.in-Ok.ensures.sources
-    c.in_ok-before.ensures.added.1 same)
+    elim c.match-drop_rpsl.branch [
+      | in-Ok w ↦ rw (w.result-is, w.self-is) (
+          subst (λ (held : Held). HasChanged (DropDump c.args.slot.now) held
+          (the_view (record c.self.inside {
+            sources = c.drop_rpsl.new.self;
+            touched = c.add_changed.new.touched;
+          }))) c.self.view_is
+          (HasChanged-made (DropDump c.args.slot.now) (the_view c.self.inside) c.drop_rpsl.new.self
+          c.add_changed.new.touched c.in_ok-before.ensures.added.0 w.in-Ok.ensures.sources
+          c.in_ok-before.ensures.added.1 same))
+      | in-Err w ↦ rw w.result-is tt
+    ]

@@ -1,5 +1,4 @@
-use Rattle.std.proofs.Common.{◌≡◌, ◌∙◌, ◌++◌, List, ap, subst}
-use Rattle.geo_addr.specs.Ranges.{Ends}
+use Rattle.std.proofs.Common.{◌≡◌, ◌∙◌, ap, subst}
 use Rattle.geo_terms.specs.SourceForm.{StatsParts}
 use Rattle.source_changes.specs.Changes.{SetStats, delegations_in, named}
 use Rattle.source_changes.specs.Keeping.{AreDelegations}
@@ -9,9 +8,10 @@ use Rattle.update_session.specs.contracts.session.Session.{the_view}
 use Rattle.update_session.proofs.ChangeLemmas.{changes_by_stats}
 use Rattle.update_session.proofs.KeptLemmas.{HasChanged-made, IsSession-changed}
 use Rattle.update_session.proofs.session.Session.set_stats.Goals as goal
+use Rattle.update_session.proofs.session.Session.set_stats.Goals.{in-Ok, in-Err}
 
-pub invariant_of-self-2 : goal.invariant_of-self-2
-invariant_of-self-2 c =
+pub invariant_of-self-in-Ok : goal.invariant_of-self-in-Ok
+invariant_of-self-in-Ok c =
     let new : c.as_slice-new.result.now ≡ c.args.stats.rows =
     c.as_slice-new.ensures ∙ ap (λ (x : StatsParts). x.rows) c.stats.view_is in
     let name : c.as_str.result.now ≡ c.args.stats.slot =
@@ -32,8 +32,8 @@ invariant_of-self-2 c =
           c.in_ok-before.ensures.added.1 same,
     )
 
-pub returns-in-Ok-clause-ok : goal.returns-in-Ok-clause-ok
-returns-in-Ok-clause-ok c =
+pub returns-clause-ok : goal.returns-clause-ok
+returns-clause-ok c =
     let new : c.as_slice-new.result.now ≡ c.args.stats.rows =
     c.as_slice-new.ensures ∙ ap (λ (x : StatsParts). x.rows) c.stats.view_is in
     let name : c.as_str.result.now ≡ c.args.stats.slot =
@@ -44,11 +44,15 @@ returns-in-Ok-clause-ok c =
     ∙ (λ i. delegations_in (named (λ x. x.slot) (name i) c.self.inside.sources.stats)) in
     let same = changes_by_stats c.self.inside.sources c.args.stats _ _
     c.in_ok-before.ensures.added.0 old new c.in_ok-before.ensures.added.2 in
-    subst (λ (held : Held). HasChanged (SetStats c.args.stats) held
-    (the_view (record c.self.inside {
-      sources = c.set_stats.new.self;
-      touched = c.add_changed.new.touched;
-    }))) c.self.view_is
-    (HasChanged-made (SetStats c.args.stats) (the_view c.self.inside) c.set_stats.new.self
-    c.add_changed.new.touched c.in_ok-before.ensures.added.0 c.in-Ok.ensures.sources
-    c.in_ok-before.ensures.added.1 same)
+    elim c.match-set_stats.branch [
+      | in-Ok w ↦ rw (w.result-is, w.self-is) (
+          subst (λ (held : Held). HasChanged (SetStats c.args.stats) held
+          (the_view (record c.self.inside {
+            sources = c.set_stats.new.self;
+            touched = c.add_changed.new.touched;
+          }))) c.self.view_is
+          (HasChanged-made (SetStats c.args.stats) (the_view c.self.inside) c.set_stats.new.self
+          c.add_changed.new.touched c.in_ok-before.ensures.added.0 w.in-Ok.ensures.sources
+          c.in_ok-before.ensures.added.1 same))
+      | in-Err w ↦ rw w.result-is tt
+    ]
