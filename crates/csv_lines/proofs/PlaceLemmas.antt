@@ -1,7 +1,8 @@
 -- The places of the elements that pass a test, and what stands there.
 use Rattle.std.proofs.Common.{◌≡◌, ℕ, zero, suc, ◌+◌, ◌-◌, ◌<◌, ◌≤◌, Bool, true, false, cond, All}
 use Rattle.std.proofs.Common.{List, [], ◌∷◌, ◌++◌, length, map, filter, filter_map, fold, take}
-use Rattle.std.proofs.Common.{drop, get_or, Option, None, refl, sym, ap, ◌∙◌, subst, arith, ltb, ◌==◌}
+use Rattle.std.proofs.Common.{drop, get_or, Option, None, refl, sym, ap, ◌∙◌, subst, arith}
+use Rattle.std.proofs.Common.{ltb, ◌==◌}
 use Rattle.std.specs.List.{SwappedAt, cons_option}
 use Rattle.std.proofs.lemmas.Bool.{and_parts, eq-eqb, eqb-true, lt-ltb, ltb-true}
 use Rattle.std.proofs.lemmas.Bool.{false_from_ne_true}

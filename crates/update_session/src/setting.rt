@@ -1,7 +1,8 @@
 //! The calls that set and drop sources.
 //!
 //! A drop looks whether the source is there. Each finds the statements that come and go, puts their
-//! grounds to those touched, and then changes the sources; where that is refused the grounds go again.
+//! grounds to those touched, and then changes the sources; where that is refused the grounds go
+//! again.
 
 use crate::replaced::{add_changed, delegations_of, entries_of, references_of, rows_of};
 use crate::session::Session;

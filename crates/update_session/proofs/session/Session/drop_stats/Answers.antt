@@ -43,7 +43,8 @@ returns-clause-ok c =
             sources = c.drop_stats.new.self;
             touched = c.add_changed.new.touched;
           }))) c.self.view_is
-          (HasChanged-made (DropStats c.args.slot.now) (the_view c.self.inside) c.drop_stats.new.self
+          (HasChanged-made (DropStats c.args.slot.now) (the_view c.self.inside)
+          c.drop_stats.new.self
           c.add_changed.new.touched c.in_ok-before.ensures.added.0 w.in-Ok.ensures.sources
           c.in_ok-before.ensures.added.1 same))
       | in-Err w ↦ rw w.result-is tt

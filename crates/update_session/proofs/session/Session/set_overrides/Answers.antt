@@ -52,7 +52,8 @@ returns-clause-ok c =
             sources = c.set_overrides.new.self;
             touched = c.add_changed.new.touched;
           }))) c.self.view_is
-          (HasChanged-made (SetOverrides c.args.rows) (the_view c.self.inside) c.set_overrides.new.self
+          (HasChanged-made (SetOverrides c.args.rows) (the_view c.self.inside)
+          c.set_overrides.new.self
           c.add_changed.new.touched c.in_ok-before.ensures.added.0 w.in-Ok.ensures.sources
           c.in_ok-before.ensures.added.1 same))
       | in-Err w ↦ rw w.result-is tt
