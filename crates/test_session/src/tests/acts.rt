@@ -61,7 +61,10 @@ fn change(alloc: Global, session: &mut Session, act: Act) -> Option<()> {
 // Whether an address lies on one of the grounds.
 fn lies_on(grounds: &GroundList, at: u128) -> bool {
     let mut left = grounds.all();
-    while let Some(ground) = left.take() {
+    for _ in 0..grounds.len() {
+        let Some(ground) = left.take() else {
+            return false;
+        };
         if ground.first <= at && at <= ground.last {
             return true;
         }
