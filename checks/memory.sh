@@ -59,7 +59,7 @@ tried() {
             || fail "'$*' with $limit KiB says '$(cat told)'"
         head -c "$(wc -c < printed)" whole | cmp -s - printed \
             || fail "'$*' with $limit KiB prints '$(head -c 300 printed)'"
-        limit=$((limit + limit / 6))
+        limit=$((limit + limit / 10))
         [ "$limit" -lt 4000000 ] || { fail "'$*' does not end well with $limit KiB"; break; }
     done
     cmp -s whole printed && [ ! -s told ] || fail "'$*' with $limit KiB says '$(cat told)'"
