@@ -255,7 +255,7 @@ fn places_in<T: Accepted>(
 
 // The ranges that more than one line has.
 //
-// Few files have any, and a sort finds them in less time than a map of all ranges takes.
+// They are few among a file's ranges, and a sort finds them sooner than a map of all does.
 fn doubled_in<T: Accepted>(alloc: Global, rows: &[T]) -> Result<BTreeSet<Range>, Memory>
     ensures { IfOk result (λ doubled. (k : Ends) → contains ends_cmp doubled k ≡ false
         → IsAlone k (map T.range rows.now)) }

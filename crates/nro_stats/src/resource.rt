@@ -2,18 +2,23 @@
 ghost use Rattle.std.specs.Prelude.{◌≡◌};
 ghost use Rattle.nro_stats.specs.Words.{holding_in, kind_in};
 
-/// The types of resources.
+/// The types of resources that a record's third field names.
 #[derive(Clone, Copy, Debug)]
 pub(crate) enum Kind {
+    /// Numbers of autonomous systems, `asn`.
     Systems,
+    /// IPv4 addresses, `ipv4`.
     V4,
+    /// IPv6 addresses, `ipv6`.
     V6,
 }
 
-/// Whether anybody holds a resource.
+/// Whether anybody holds a resource, by a record's seventh field.
 #[derive(Clone, Copy, Debug)]
 pub(crate) enum Holding {
+    /// `allocated` or `assigned`.
     Held,
+    /// `available` or `reserved`.
     Free,
 }
 

@@ -18,6 +18,7 @@ pub(crate) fn begins_of(alloc: Global, touched: &GroundList) -> Result<Vec<u128>
     let step = touched.len() / MOST_SAMPLES + 1;
     let mut begins = Vec::new(alloc);
     let mut left = touched.all();
+    // How many grounds are passed over before the next one is taken.
     let mut skipped = 0;
     while let Some(ground) = left.take() {
         if skipped == 0 {

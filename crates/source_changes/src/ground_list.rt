@@ -12,7 +12,8 @@ pub(crate) struct Packed {
     last: u32,
 }
 
-/// Grounds in the order in which they came; those of IPv4 addresses take eight bytes each.
+/// Grounds in the order in which they came; those of IPv4 addresses take eight bytes each, and the
+/// others forty.
 ///
 /// Contracts see the list of the grounds.
 #[derive(Debug, Drop)]
