@@ -3,6 +3,7 @@ ghost use Rattle.std.specs.Prelude.{◌≡◌, ℕ, List, IfSome, IsSome};
 ghost use Rattle.std.specs.List.{prefix_len};
 ghost use Rattle.csv_lines.specs.Tails.{IsCut, IsTail, SaysBare, is_word};
 
+use crate::known::{KnownTails, OwnTail};
 use geo_addr::{Memory, trim_blanks};
 use geo_terms::{Place, mixed};
 use std::alloc::Global;
@@ -16,8 +17,8 @@ use std::mem;
 #[derive(Drop)]
 pub struct LineCut<'a> {
     first: &'a [u8],
-    tail: &'a [u8],
-    mark: u64,
+    pub(crate) tail: &'a [u8],
+    pub(crate) mark: u64,
 }
 
 impl<'a> Model for LineCut<'a> {
@@ -114,7 +115,7 @@ pub(crate) const MOST_TAILS: usize = 16_384;
 /// For each so many bytes of a file one slot is made; most files have longer lines on the average.
 const TAIL_BYTES: usize = 32;
 
-/// Tails of one file, and the places that they say.
+/// Tails of one file, and the places that they say, beside those that earlier files had.
 ///
 /// Which tails it holds changes no answer: a line whose tail is not held is read by its fields.
 /// A tail has two slots, that of its mark and the one beside it, and the older ones of those whose
@@ -122,16 +123,24 @@ const TAIL_BYTES: usize = 32;
 /// so what a file costs follows from how many different tails it has, and not from their marks.
 #[derive(Drop)]
 pub struct Tails<'a> {
+    earlier: &'a KnownTails,
     slots: Vec<Option<Tail<'a>>>,
     others: BTreeMap<&'a [u8], Tail<'a>>,
     last: u64,
     // How many came since the last time that all were let go.
     held: usize,
+    // Whether all were let go once.
+    overflowed: bool,
 }
 
 impl<'a> Tails<'a> {
-    /// No tail yet, with slots for those of a text of so many bytes, at most `MOST_TAILS`.
-    pub fn with_room(alloc: Global, size: usize) -> Result<Tails<'a>, Memory> {
+    /// No tail yet but those of earlier files, with slots for those of a text of so many bytes, at
+    /// most `MOST_TAILS`.
+    pub fn with_room(
+        alloc: Global,
+        size: usize,
+        earlier: &'a KnownTails,
+    ) -> Result<Tails<'a>, Memory> {
         let last = ones((size / TAIL_BYTES).min(MOST_TAILS - 1) as u16);
         let count = usize::from(last) + 1;
         let mut slots = Vec::with_capacity(alloc, count)?;
@@ -139,15 +148,27 @@ impl<'a> Tails<'a> {
             slots.push(None)?;
         }
         Ok(Tails {
+            earlier,
             slots,
             others: BTreeMap::new(alloc),
             last: u64::from(last),
             held: 0,
+            overflowed: false,
         })
     }
 
-    /// The place that a line says by its tail, where that is held.
+    /// The place that a line says by its tail, where an earlier file had that, or it is held.
     pub fn known(&self, cut: &LineCut<'a>) -> Option<&Place>
+        ensures { IfSome result (λ place. IsTail cut.now.tail place.now) }
+    {
+        match self.earlier.place_of(cut) {
+            Some(place) => Some(place),
+            None => self.held_place(cut),
+        }
+    }
+
+    // The place by a tail of this file.
+    fn held_place(&self, cut: &LineCut<'a>) -> Option<&Place>
         ensures { IfSome result (λ place. IsTail cut.now.tail place.now) }
     {
         // A tail's own slot is taken before the one beside it, and both before the map has one.
@@ -203,6 +224,21 @@ impl<'a> Tails<'a> {
         }
         self.others = BTreeMap::new(*self.slots.allocator());
         self.held = 0;
+        self.overflowed = true;
+    }
+
+    /// Puts the tails of this file to those that came new, for files that are read later. Where
+    /// there were more of them than slots, none is: such a file hardly has what others have.
+    pub fn hand_on(self, alloc: Global, new: &mut Vec<OwnTail>) -> Result<(), Memory> {
+        if self.overflowed {
+            return Ok(());
+        }
+        for slot in self.slots {
+            if let Some(tail) = slot {
+                push_own(alloc, &tail, new)?;
+            }
+        }
+        Ok(())
     }
 
     // Puts a tail into a slot, and what was there into the one beside it; gives what was there.
@@ -224,6 +260,14 @@ impl<'a> Tails<'a> {
     }
 }
 
+// Adds a tail with bytes of its own, where it is short enough to be known to later files.
+fn push_own(alloc: Global, tail: &Tail<'_>, new: &mut Vec<OwnTail>) -> Result<(), Memory> {
+    if let Some(own) = OwnTail::of(alloc, tail.text, &tail.place)? {
+        new.push(own)?;
+    }
+    Ok(())
+}
+
 // The number whose bits are all ones up to the highest one of this number.
 fn ones(number: u16) -> u16 {
     let two = number | number >> 1;
@@ -233,7 +277,7 @@ fn ones(number: u16) -> u16 {
 }
 
 // A number by which a text is found again; other texts may have it too.
-fn mark_of(text: &[u8]) -> u64 {
+pub(crate) fn mark_of(text: &[u8]) -> u64 {
     let mut mark = text.len() as u64;
     let mut left = text;
     while let [a, b, c, d, e, f, g, h, rest @ ..] = left {

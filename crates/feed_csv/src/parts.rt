@@ -6,6 +6,7 @@ ghost use Rattle.feed_csv.specs.Parts.{accepted_of, found_entries, found_faults,
 ghost use Rattle.feed_csv.specs.declared.parts.TheConstants.{FEED_PART};
 
 use crate::read::{Gathered, LONGEST_FEED, MOST, feed_of, gathered_with_room, read_lines};
+use csv_lines::{KnownTails, OwnTail};
 use fan_work::{Forks, Work, map_pieces};
 use geo_addr::Memory;
 use geo_outside::Gate;
@@ -27,11 +28,12 @@ const LEAST_LINE: usize = 8;
 
 /// Work that reads the lines of a part of a feed.
 #[derive(Drop)]
-struct PartReading {
+struct PartReading<'b> {
     alloc: Global,
+    known: &'b KnownTails,
 }
 
-impl<'a> Work<LinePart<'a>, Gathered> for PartReading {
+impl<'a, 'b> Work<LinePart<'a>, Gathered> for PartReading<'b> {
     ghost use Rattle.feed_csv.specs.Parts.{IsPartRead};
 
     ghost related = { λ work part found. IsPartRead part found };
@@ -40,7 +42,14 @@ impl<'a> Work<LinePart<'a>, Gathered> for PartReading {
         // Room that is not used costs nothing, and a list that grows leaves what it had.
         let entries = most_entries(item.text.len());
         let faults = most_faults(item.text.len());
-        match read_lines(self.alloc, *item, entries, faults, usize::MAX) {
+        match read_lines(
+            self.alloc,
+            *item,
+            self.known,
+            entries,
+            faults,
+            usize::MAX,
+        ) {
             Ok(found) => Ok(found),
             Err(_) => Err(Memory),
         }
@@ -55,6 +64,8 @@ pub fn read_feed_by_parts<R: Threads + Sync, G: Gate>(
     forks: &Forks<R, G>,
     url: &str,
     bytes: &[u8],
+    known: &KnownTails,
+    learned: &mut Vec<OwnTail>,
 ) -> Result<Feed, SourceFault>
     ensures read { IfOk result (λ found. found ≡ feed url.now bytes.now) }
     ensures clean { IfOk result (λ found. AreClean found.entries) }
@@ -67,7 +78,8 @@ pub fn read_feed_by_parts<R: Threads + Sync, G: Gate>(
     }
     let size = part_size(bytes.len(), forks.pieces as usize);
     let parts = parts_of(forks.alloc, bytes, size)?;
-    let all = read_parts(forks, parts.as_slice(), bytes.len())?;
+    let mut all = read_parts(forks, parts.as_slice(), known, bytes.len())?;
+    learned.append(&mut all.tails).map_err(Memory::from)?;
     if all.entries.len() > MOST {
         return Err(SourceFault::TooMany);
     }
@@ -90,13 +102,14 @@ fn part_size(size: usize, pieces: usize) -> usize
 fn read_parts<R: Threads + Sync, G: Gate>(
     forks: &Forks<R, G>,
     parts: &[LinePart],
+    known: &KnownTails,
     size: usize,
 ) -> Result<Gathered, Memory>
     ensures entries { IfOk result (λ all. all.entries.items ≡ accepted_of parts.now) }
     ensures faults { IfOk result (λ all. all.faults.items ≡ refused_of parts.now) }
 {
     let mut all = gathered_with_room(forks.alloc, most_entries(size), most_faults(size))?;
-    read_left(forks, parts, &mut all)?;
+    read_left(forks, parts, known, &mut all)?;
     all.entries.shrink_to_fit();
     all.faults.shrink_to_fit();
     Ok(all)
@@ -106,6 +119,7 @@ fn read_parts<R: Threads + Sync, G: Gate>(
 fn read_left<R: Threads + Sync, G: Gate>(
     forks: &Forks<R, G>,
     left: &[LinePart],
+    known: &KnownTails,
     all: &mut Gathered,
 ) -> Result<(), Memory>
     ensures entries { OnOk result
@@ -117,8 +131,8 @@ fn read_left<R: Threads + Sync, G: Gate>(
         return Ok(());
     }
     let (some, rest) = first_parts(left, forks.pieces as usize);
-    read_some(forks, some, all)?;
-    read_left(forks, rest, all)?;
+    read_some(forks, some, known, all)?;
+    read_left(forks, rest, known, all)?;
     Ok(())
 }
 
@@ -149,6 +163,7 @@ fn first_parts<'a, 'b>(
 fn read_some<R: Threads + Sync, G: Gate>(
     forks: &Forks<R, G>,
     parts: &[LinePart],
+    known: &KnownTails,
     all: &mut Gathered,
 ) -> Result<(), Memory>
     ensures entries { OnOk result
@@ -156,7 +171,10 @@ fn read_some<R: Threads + Sync, G: Gate>(
     ensures faults { OnOk result
         (all.new.faults.items ≡ all.old.faults.items ++ refused_of parts.now) }
 {
-    let work = PartReading { alloc: forks.alloc };
+    let work = PartReading {
+        alloc: forks.alloc,
+        known,
+    };
     let found = map_pieces(
         forks.rt,
         forks.alloc,
@@ -191,5 +209,6 @@ fn put(part: Gathered, all: &mut Gathered) -> Result<(), Memory>
     let mut part = part;
     all.entries.append(&mut part.entries)?;
     all.faults.append(&mut part.faults)?;
+    all.tails.append(&mut part.tails)?;
     Ok(())
 }

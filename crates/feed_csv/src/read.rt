@@ -8,7 +8,7 @@ ghost use Rattle.feed_csv.specs.Parts.{IsFileRead, accepted_in, refused_in};
 
 use crate::outcome::{LineOutcome, read_line};
 use csv::{ByteRecord, Reader};
-use csv_lines::{RepeatRules, Tails, all_handed, judge, reader_of};
+use csv_lines::{KnownTails, OwnTail, RepeatRules, Tails, all_handed, judge, reader_of};
 use geo_addr::{Line, List, Memory, Text};
 use geo_terms::{Entry, Feed, LineNote, Rule, SourceFault, Texts};
 use line_parts::LinePart;
@@ -28,7 +28,16 @@ const SHORT_LINE: usize = 32;
 ///
 /// A file is too long over `LONGEST_FEED` bytes, and has too many statements where over `MOST`
 /// lines pass the rules of a line by itself.
-pub fn read_feed(alloc: Global, url: &str, bytes: &[u8]) -> Result<Feed, SourceFault>
+///
+/// Lines with tails that earlier feeds had share the places of those, and the tails that come new
+/// are put to `learned`. That changes what memory is taken, and never what a feed says.
+pub fn read_feed(
+    alloc: Global,
+    url: &str,
+    bytes: &[u8],
+    known: &KnownTails,
+    learned: &mut Vec<OwnTail>,
+) -> Result<Feed, SourceFault>
     ensures read { IfOk result (λ found. found ≡ feed url.now bytes.now) }
     ensures clean { IfOk result (λ found. AreClean found.entries) }
     ensures within { OnOk result (length (accepted bytes.now) ≤ most) }
@@ -39,7 +48,8 @@ pub fn read_feed(alloc: Global, url: &str, bytes: &[u8]) -> Result<Feed, SourceF
         return Err(SourceFault::TooLong);
     }
     let room = (bytes.len() / SHORT_LINE).min(MOST);
-    let found = read_lines(alloc, LinePart::whole(bytes), room, 0, MOST)?;
+    let mut found = read_lines(alloc, LinePart::whole(bytes), known, room, 0, MOST)?;
+    learned.append(&mut found.tails).map_err(Memory::from)?;
     let feed = feed_of(alloc, url, found)?;
     Ok(feed)
 }
@@ -64,11 +74,12 @@ pub(crate) fn feed_of(alloc: Global, url: &str, found: Gathered) -> Result<Feed,
     })
 }
 
-/// What the lines of a part say by themselves.
+/// What the lines of a part say by themselves, and the tails of theirs that no earlier feed had.
 #[derive(Drop)]
 pub(crate) struct Gathered {
     pub entries: Vec<Entry>,
     pub faults: Vec<LineNote>,
+    pub tails: Vec<OwnTail>,
 }
 
 // What is found in the lines so far.
@@ -83,9 +94,10 @@ struct Reading<'a> {
 
 /// The entries and the faults of the lines of a part by themselves, where at most `limit` lines
 /// pass the line rules, with room for so many of both.
-pub(crate) fn read_lines(
+pub(crate) fn read_lines<'a>(
     alloc: Global,
-    part: LinePart,
+    part: LinePart<'a>,
+    known: &'a KnownTails,
     entries: usize,
     faults: usize,
     limit: usize,
@@ -99,7 +111,7 @@ pub(crate) fn read_lines(
     let handed = all_handed(alloc, part.text)?;
     let mut reader = reader_of(alloc, handed.as_slice());
     let gathered = gathered_with_room(alloc, entries, faults)?;
-    let tails = Tails::with_room(alloc, part.text.len())?;
+    let tails = Tails::with_room(alloc, part.text.len(), known)?;
     let mut found = Reading {
         entries: gathered.entries,
         faults: gathered.faults,
@@ -110,9 +122,12 @@ pub(crate) fn read_lines(
     for line in part.lines() {
         take_line(line, limit, &mut reader, &mut found)?;
     }
+    let mut tails = Vec::new(alloc);
+    found.tails.hand_on(alloc, &mut tails)?;
     Ok(Gathered {
         entries: found.entries,
         faults: found.faults,
+        tails,
     })
 }
 
@@ -127,7 +142,12 @@ pub(crate) fn gathered_with_room(
 {
     let entries = Vec::with_capacity(alloc, entries)?;
     let faults = Vec::with_capacity(alloc, faults)?;
-    Ok(Gathered { entries, faults })
+    let tails = Vec::new(alloc);
+    Ok(Gathered {
+        entries,
+        faults,
+        tails,
+    })
 }
 
 // Adds what one more line says.

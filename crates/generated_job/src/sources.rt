@@ -8,7 +8,7 @@ ghost use Rattle.generated_job.specs.Job.{first_set, gen_epoch, gen_name, the_du
 ghost use Rattle.generated_job.specs.Job.{the_stats};
 
 use fan_work::Forks;
-use feed_csv::read_feed_by_parts;
+use feed_csv::{KnownTails, read_feed_by_parts};
 use feed_refs::DumpReader;
 use generated::gen_feed;
 use geo_addr::{Memory, Text};
@@ -128,7 +128,8 @@ fn read_generated<R: Threads + Sync, G: Gate>(
     ensures { IfOk result (λ feed. feed ≡ the_feed second lines) }
 {
     let bytes = gen_feed(forks.alloc, lines, second)?;
-    match read_feed_by_parts(forks, URL, bytes.as_slice()) {
+    let (known, mut learned) = (KnownTails::new(forks.alloc), Vec::new(forks.alloc));
+    match read_feed_by_parts(forks, URL, bytes.as_slice(), &known, &mut learned) {
         Ok(feed) => Ok(feed),
         Err(fault) => Err(memory_of(fault)),
     }

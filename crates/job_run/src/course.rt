@@ -17,6 +17,7 @@ use crate::journal::Journal;
 use crate::scope::Scope;
 use crate::stop::{Cause, Stop};
 use fan_work::Forks;
+use feed_csv::KnownTails;
 use geo_outside::{Folder, Gate, Sink, Steps};
 use job_lines::{Act, Step};
 use std::marker::Sync;
@@ -86,9 +87,19 @@ pub fn do_steps<R: Threads + Sync, F: Folder, O: Sink, G: Gate, L: Ledger>(
     ensures reads_only { scope ≡ Scope.Sources → IfErr result
         (λ stop. (stop.why ≢ Stop.PutFailed) × (stop.why ≢ Stop.SinkFailed)) }
 {
+    let mut known = KnownTails::new(forks.alloc);
     let mut at = 0;
     while at < job.len() {
-        match do_first(forks, scope, &job[at..], session, folder, out, steps) {
+        match do_first(
+            forks,
+            scope,
+            &job[at..],
+            session,
+            folder,
+            out,
+            steps,
+            &mut known,
+        ) {
             Ok(count) => {
                 journal.notices.of_done(scope, job, at, count, session);
                 at += count;
@@ -114,6 +125,7 @@ fn do_first<R: Threads + Sync, F: Folder, O: Sink, G: Gate, L: Ledger>(
     folder: &mut F,
     out: &mut O,
     steps: &mut Steps<L>,
+    known: &mut KnownTails,
 ) -> Result<usize, StepStop>
     requires { 0 < length rest.now }
     ensures done { (world : World) → IsIn (F.told folder.old) session.old world
@@ -151,7 +163,7 @@ fn do_first<R: Threads + Sync, F: Folder, O: Sink, G: Gate, L: Ledger>(
 {
     let count = feeds_first(rest);
     if count > 0 {
-        return match set_together(forks, &rest[..count], session, folder) {
+        return match set_together(forks, &rest[..count], session, folder, known) {
             Ok(()) => Ok(count),
             Err(stop) => Err(stop),
         };

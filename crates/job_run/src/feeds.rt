@@ -20,13 +20,13 @@ use crate::course::StepStop;
 use crate::reading::read_file;
 use crate::stop::{Cause, Stop};
 use fan_work::{Forks, Work, map_pieces};
-use feed_csv::{FEED_PART, LONGEST_FEED, read_feed, read_feed_by_parts};
+use feed_csv::{FEED_PART, KnownTails, LONGEST_FEED, OwnTail, read_feed, read_feed_by_parts};
 use geo_addr::Memory;
 use geo_outside::{Folder, Gate};
 use geo_terms::{Feed, SourceFault};
 use job_lines::{Act, Step};
 use std::alloc::Global;
-use std::marker::Sync;
+use std::marker::{Model, Sync};
 use std::thread::Threads;
 use update_session::laws::standing_stays;
 use update_session::{ReadyFeed, Session};
@@ -38,19 +38,45 @@ pub(crate) struct Held<'a> {
     pub(crate) bytes: Vec<u8>,
 }
 
-/// Work that reads the lines of a feed and makes it ready to be set.
+/// What one that was read is, and the tails of its lines that no earlier feed had.
 #[derive(Drop)]
-struct Parsing {
-    alloc: Global,
+struct Parsed {
+    feed: Result<ReadyFeed, Stop>,
+    learned: Vec<OwnTail>,
 }
 
-impl<'a> Work<Held<'a>, Result<ReadyFeed, Stop>> for Parsing {
+impl Model for Parsed {
+    ghost use Rattle.std.specs.Prelude.{Result};
+    ghost use Rattle.geo_terms.specs.SourceForm.{FeedParts};
+    ghost use Rattle.job_run.specs.declared.stop.Stop.{Stop};
+
+    ghost Value = { Result FeedParts Stop };
+
+    ghost view = { λ p. p.feed };
+}
+
+/// Work that reads the lines of a feed and makes it ready to be set.
+#[derive(Drop)]
+struct Parsing<'b> {
+    alloc: Global,
+    known: &'b KnownTails,
+}
+
+impl<'a, 'b> Work<Held<'a>, Parsed> for Parsing<'b> {
     ghost use Rattle.job_run.specs.Feeds.{Parses};
 
     ghost related = { λ work held parsed. Parses held parsed };
 
-    fn done(&self, item: &Held<'a>) -> Result<Result<ReadyFeed, Stop>, Memory> {
-        Ok(ready_feed(self.alloc, item.url, item.bytes.as_slice()))
+    fn done(&self, item: &Held<'a>) -> Result<Parsed, Memory> {
+        let mut learned = Vec::new(self.alloc);
+        let feed = ready_feed(
+            self.alloc,
+            item.url,
+            item.bytes.as_slice(),
+            self.known,
+            &mut learned,
+        );
+        Ok(Parsed { feed, learned })
     }
 }
 
@@ -60,6 +86,7 @@ pub(crate) fn set_together<R: Threads + Sync, F: Folder, G: Gate>(
     group: &[Step],
     session: &mut Session,
     folder: &mut F,
+    known: &mut KnownTails,
 ) -> Result<(), StepStop>
     requires some { 0 < length group.now }
     requires feeds { list_all (λ s. sets_feed s.act) group.now ≡ true }
@@ -88,7 +115,7 @@ pub(crate) fn set_together<R: Threads + Sync, F: Folder, G: Gate>(
         Ok(held) => held,
         Err(stop) => return Err(stop),
     };
-    let feeds = match parse_all(forks, held.as_slice()) {
+    let feeds = match parse_all(forks, held.as_slice(), known) {
         Ok(feeds) => feeds,
         Err(stop) => return Err(stop),
     };
@@ -183,29 +210,33 @@ fn read_line<'a, F: Folder>(alloc: Global, step: &'a Step, folder: &mut F) -> Re
 fn parse_all<R: Threads + Sync, G: Gate>(
     forks: &Forks<R, G>,
     held: &[Held<'_>],
+    known: &mut KnownTails,
 ) -> Result<Vec<ReadyFeed>, StepStop>
     ensures feeds { IfOk result (λ feeds. AllZip Parses held.now (map Ok feeds.items)) }
     ensures refused { IfErr result (λ stop. RefusesParsing held.now stop.why stop.at) }
 {
-    match parsed_all(forks, held) {
+    match parsed_all(forks, held, known) {
         Ok(parsed) => all_feeds(forks.alloc, parsed),
         Err(Memory) => Err(OUT_OF_MEMORY),
     }
 }
 
-/// What each of those that were read is, one run of them after another.
+/// What each of those that were read is, one run of them after another, so that a run has the tails
+/// of those before it.
 fn parsed_all<R: Threads + Sync, G: Gate>(
     forks: &Forks<R, G>,
     held: &[Held<'_>],
+    known: &mut KnownTails,
 ) -> Result<Vec<Result<ReadyFeed, Stop>>, Memory>
     ensures related { IfOk result (λ parsed. AllZip Parses held.now parsed.items) }
 {
     let (run, rest) = first_run(held);
-    let parsed = parsed_run(forks, run)?;
+    let parsed = parsed_run(forks, run, known)?;
+    let parsed = learned_from(forks.alloc, parsed, known)?;
     if rest.is_empty() {
         return Ok(parsed);
     }
-    match parsed_all(forks, rest) {
+    match parsed_all(forks, rest, known) {
         Ok(others) => joined(parsed, others),
         Err(Memory) => {
             drop(parsed);
@@ -227,6 +258,22 @@ fn first_run<'a, 'b>(held: &'b [Held<'a>]) -> (&'b [Held<'a>], &'b [Held<'a>])
     held.split_at(short.max(1).min(held.len()))
 }
 
+/// What those that were parsed are, of whose tails all are known from then on.
+fn learned_from(
+    alloc: Global,
+    parsed: Vec<Parsed>,
+    known: &mut KnownTails,
+) -> Result<Vec<Result<ReadyFeed, Stop>>, Memory>
+    ensures { IfOk result (λ found. found.items ≡ parsed.items) }
+{
+    let mut all = Vec::with_capacity(alloc, parsed.len())?;
+    for one in parsed {
+        known.learn(one.learned)?;
+        all.push(one.feed)?;
+    }
+    Ok(all)
+}
+
 /// Some items, and others behind them.
 fn joined<T: Drop>(first: Vec<T>, others: Vec<T>) -> Result<Vec<T>, Memory>
     ensures { IfOk result (λ all. all.items ≡ first.items ++ others.items) }
@@ -242,15 +289,19 @@ fn joined<T: Drop>(first: Vec<T>, others: Vec<T>) -> Result<Vec<T>, Memory>
 fn parsed_run<R: Threads + Sync, G: Gate>(
     forks: &Forks<R, G>,
     held: &[Held<'_>],
-) -> Result<Vec<Result<ReadyFeed, Stop>>, Memory>
+    known: &KnownTails,
+) -> Result<Vec<Parsed>, Memory>
     ensures related { IfOk result (λ parsed. AllZip Parses held.now parsed.items) }
 {
     if let [one] = held {
         if one.bytes.len() > FEED_PART {
-            return parsed_long(forks, one);
+            return parsed_long(forks, one, known);
         }
     }
-    let work = Parsing { alloc: forks.alloc };
+    let work = Parsing {
+        alloc: forks.alloc,
+        known,
+    };
     map_pieces(forks.rt, forks.alloc, forks.gate, forks.pieces, held, &work)
 }
 
@@ -258,11 +309,20 @@ fn parsed_run<R: Threads + Sync, G: Gate>(
 fn parsed_long<R: Threads + Sync, G: Gate>(
     forks: &Forks<R, G>,
     held: &Held<'_>,
-) -> Result<Vec<Result<ReadyFeed, Stop>>, Memory>
+    known: &KnownTails,
+) -> Result<Vec<Parsed>, Memory>
     ensures related { IfOk result (λ parsed. AllZip Parses (held.now ∷ []) parsed.items) }
 {
+    let mut learned = Vec::new(forks.alloc);
+    let feed = ready_long(
+        forks,
+        held.url,
+        held.bytes.as_slice(),
+        known,
+        &mut learned,
+    );
     let mut parsed = Vec::new(forks.alloc);
-    parsed.push(ready_long(forks, held.url, held.bytes.as_slice()))?;
+    parsed.push(Parsed { feed, learned })?;
     Ok(parsed)
 }
 
@@ -292,7 +352,13 @@ fn all_feeds(
 }
 
 /// The feed that these bytes are, ready to be set.
-fn ready_feed(alloc: Global, url: &str, bytes: &[u8]) -> Result<ReadyFeed, Stop>
+fn ready_feed(
+    alloc: Global,
+    url: &str,
+    bytes: &[u8],
+    known: &KnownTails,
+    learned: &mut Vec<OwnTail>,
+) -> Result<ReadyFeed, Stop>
     ensures feed { IfOk result (λ found. found ≡ feed url.now bytes.now) }
     ensures few { OnOk result (no_feed (Some bytes.now) ≡ None) }
     ensures unset { IfErr result (λ why. IsHindered why
@@ -301,7 +367,7 @@ fn ready_feed(alloc: Global, url: &str, bytes: &[u8]) -> Result<ReadyFeed, Stop>
     ensures reads { (result ≢ Err Stop.PutFailed) × (result ≢ Err Stop.SinkFailed)
         × (result ≢ Err (Stop.Blocked Cause.Words)) }
 {
-    let feed = match feed_of(alloc, url, bytes) {
+    let feed = match feed_of(alloc, url, bytes, known, learned) {
         Ok(feed) => feed,
         Err(why) => return Err(why),
     };
@@ -312,7 +378,13 @@ fn ready_feed(alloc: Global, url: &str, bytes: &[u8]) -> Result<ReadyFeed, Stop>
 }
 
 /// The feed that these bytes are.
-fn feed_of(alloc: Global, url: &str, bytes: &[u8]) -> Result<Feed, Stop>
+fn feed_of(
+    alloc: Global,
+    url: &str,
+    bytes: &[u8],
+    known: &KnownTails,
+    learned: &mut Vec<OwnTail>,
+) -> Result<Feed, Stop>
     ensures feed { IfOk result (λ found. found ≡ feed url.now bytes.now) }
     ensures few { OnOk result (no_feed (Some bytes.now) ≡ None) }
     ensures unset { IfErr result (λ why. IsHindered why
@@ -321,7 +393,7 @@ fn feed_of(alloc: Global, url: &str, bytes: &[u8]) -> Result<Feed, Stop>
     ensures reads { (result ≢ Err Stop.PutFailed) × (result ≢ Err Stop.SinkFailed)
         × (result ≢ Err (Stop.Blocked Cause.Words)) }
 {
-    match read_feed(alloc, url, bytes) {
+    match read_feed(alloc, url, bytes, known, learned) {
         Ok(found) => Ok(found),
         Err(SourceFault::TooLong) => Err(Stop::Blocked(Cause::TooLong)),
         Err(SourceFault::TooMany) => Err(Stop::Blocked(Cause::TooMany)),
@@ -334,6 +406,8 @@ fn ready_long<R: Threads + Sync, G: Gate>(
     forks: &Forks<R, G>,
     url: &str,
     bytes: &[u8],
+    known: &KnownTails,
+    learned: &mut Vec<OwnTail>,
 ) -> Result<ReadyFeed, Stop>
     ensures feed { IfOk result (λ found. found ≡ feed url.now bytes.now) }
     ensures few { OnOk result (no_feed (Some bytes.now) ≡ None) }
@@ -343,7 +417,7 @@ fn ready_long<R: Threads + Sync, G: Gate>(
     ensures reads { (result ≢ Err Stop.PutFailed) × (result ≢ Err Stop.SinkFailed)
         × (result ≢ Err (Stop.Blocked Cause.Words)) }
 {
-    let feed = match long_feed_of(forks, url, bytes) {
+    let feed = match long_feed_of(forks, url, bytes, known, learned) {
         Ok(feed) => feed,
         Err(why) => return Err(why),
     };
@@ -358,6 +432,8 @@ fn long_feed_of<R: Threads + Sync, G: Gate>(
     forks: &Forks<R, G>,
     url: &str,
     bytes: &[u8],
+    known: &KnownTails,
+    learned: &mut Vec<OwnTail>,
 ) -> Result<Feed, Stop>
     ensures feed { IfOk result (λ found. found ≡ feed url.now bytes.now) }
     ensures few { OnOk result (no_feed (Some bytes.now) ≡ None) }
@@ -367,7 +443,7 @@ fn long_feed_of<R: Threads + Sync, G: Gate>(
     ensures reads { (result ≢ Err Stop.PutFailed) × (result ≢ Err Stop.SinkFailed)
         × (result ≢ Err (Stop.Blocked Cause.Words)) }
 {
-    match read_feed_by_parts(forks, url, bytes) {
+    match read_feed_by_parts(forks, url, bytes, known, learned) {
         Ok(found) => Ok(found),
         Err(SourceFault::TooLong) => Err(Stop::Blocked(Cause::TooLong)),
         Err(SourceFault::TooMany) => Err(Stop::Blocked(Cause::TooMany)),

@@ -1,7 +1,7 @@
 //! Feeds: entries and notes, told from the lines by hand, and how many of them large feeds have.
 use crate::tests::shown::{digit, push_line, push_notes};
 use fan_work::Forks;
-use feed_csv::{read_feed, read_feed_by_parts};
+use feed_csv::{KnownTails, read_feed, read_feed_by_parts};
 use geo_addr::block_text;
 use geo_outside::OpenGate;
 use geo_terms::{Entry, Feed};
@@ -28,7 +28,13 @@ fn push_feed(alloc: Global, text: &mut Vec<u8>, feed: &Feed) -> Result<(), Fail>
 
 /// The feed of the URL `u`, by a function that promises nothing.
 pub fn read(alloc: Global, file: &[u8]) -> Result<Feed, Fail> {
-    Ok(read_feed(alloc, "u", file)?)
+    Ok(read_feed(
+        alloc,
+        "u",
+        file,
+        &KnownTails::new(alloc),
+        &mut Vec::new(alloc),
+    )?)
 }
 
 // A file, and what it says.
@@ -220,7 +226,8 @@ fn a_feed_by_parts(rt: HostRuntime) -> Result<(), Fail> {
         gate: &OpenGate,
         pieces: 4,
     };
-    let feed = read_feed_by_parts(&forks, "u", file.as_slice())?;
+    let (known, mut learned) = (KnownTails::new(rt.alloc()), Vec::new(rt.alloc()));
+    let feed = read_feed_by_parts(&forks, "u", file.as_slice(), &known, &mut learned)?;
     assert_eq!(rt; counts(&feed), (40_000, 0, 40_000));
     Ok(())
 }

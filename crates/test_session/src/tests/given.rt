@@ -1,5 +1,5 @@
 //! Sources of a session, read from texts.
-use feed_csv::read_feed;
+use feed_csv::{KnownTails, read_feed};
 use feed_refs::DumpReader;
 use geo_terms::Dump;
 use nro_stats::read_stats;
@@ -41,7 +41,9 @@ fn set_stats(alloc: Global, session: &mut Session, slot: &str, text: &[u8]) -> O
 }
 
 fn set_feed(alloc: Global, session: &mut Session, url: &str, text: &[u8]) -> Option<()> {
-    session.set_feed(read_feed(alloc, url, text).ok()?).ok()
+    let known = KnownTails::new(alloc);
+    let feed = read_feed(alloc, url, text, &known, &mut Vec::new(alloc)).ok()?;
+    session.set_feed(feed).ok()
 }
 
 fn set_overrides(alloc: Global, session: &mut Session, text: &[u8]) -> Option<()> {

@@ -1,5 +1,5 @@
 //! Sources that are read from texts, set and dropped.
-use feed_csv::read_feed;
+use feed_csv::{KnownTails, read_feed};
 use feed_refs::DumpReader;
 use geo_terms::Dump;
 use nro_stats::read_stats;
@@ -42,7 +42,14 @@ fn set_stats(sources: &mut Sources, alloc: Global, slot: &str, text: &str) -> Op
 }
 
 fn set_feed(sources: &mut Sources, alloc: Global, url: &str, text: &str) -> Option<bool> {
-    let feed = read_feed(alloc, url, text.as_bytes()).ok()?;
+    let feed = read_feed(
+        alloc,
+        url,
+        text.as_bytes(),
+        &KnownTails::new(alloc),
+        &mut Vec::new(alloc),
+    )
+    .ok()?;
     let old = sources.set_feed(feed).ok()?;
     Some(old.is_some())
 }
