@@ -7,15 +7,16 @@ use Rattle.std.proofs.Common.{None, Some}
 use Rattle.std.specs.Option.{option_to_list}
 use Rattle.std.specs.Prelude.{IfSome, IsTrue}
 use Rattle.std.proofs.Math.ListN.{get_or-map}
-use Rattle.std.proofs.lemmas.List.{append_assoc, length-map}
+use Rattle.std.proofs.lemmas.List.{append_assoc, length-append, length-map}
 use Rattle.std.proofs.lemmas.List.Elements.{All-append, All-from_recursion}
 use Rattle.std.proofs.lemmas.List.Elements.{Contains-append_left, Contains-push}
 use Rattle.std.specs.Bool.{beq}
 use Rattle.std.proofs.lemmas.Bool.Decides.{nat_tests}
 use Rattle.std.proofs.lemmas.List.Folds.{list_any-append, list_any_at}
 use Rattle.std.proofs.lemmas.List.Sums.{sum_by-cons}
-use Rattle.geo_addr.specs.Ranges.{Ends, ground_first, holds, is_v4}
+use Rattle.geo_addr.specs.Ranges.{Ends, IsWithin, ground_first, holds, is_v4}
 use Rattle.source_changes.specs.CutPoints.{whole}
+use Rattle.source_changes.specs.Passing.{LieIn}
 use Rattle.source_changes.specs.Touched.{is_touched}
 use Rattle.cut_segments.specs.Segments.{AreSegments, BeginIn, starts_in}
 
@@ -260,3 +261,53 @@ same_if true true e = refl
 same_if true false e = e
 same_if false true e = sym e
 same_if false false e = refl
+
+-- what is held in one of several ranges, where it stands
+pub held_at : (kept : List Ends) (at : ℕ) (d : Ends) (a : ℕ) → at < length kept
+    → (holds (get_or kept at d) a || false) ≡ true → is_touched kept a ≡ true
+held_at kept at d a below e =
+    list_any_at (λ r. holds r a) kept at d below (one (holds (get_or kept at d) a) e)
+  where
+    one : (b : Bool) → (b || false) ≡ true → b ≡ true
+    one true t = refl
+    one false t = t
+
+inside_chunk : (c : Ends) (a : ℕ) → (leb c.first a && leb a c.last) ≡ true → IsWithin c a
+inside_chunk c a e = (grind (arith, nat_tests), grind (arith, nat_tests))
+
+-- what is held already changes nothing
+absorbed : (k r t p c : Bool) → (k || r) ≡ (t && c) → (p ≡ true → c ≡ true → k ≡ true)
+    → (k || r) ≡ ((t || p) && c)
+absorbed k r true p c e h = e
+absorbed k r false false c e h = e
+absorbed k r false true false e h = e
+absorbed k r false true true e h = ap (λ (b : Bool). b || r) (h refl refl)
+
+-- the grounds that were taken, with some that lie in a range that is held
+pub passed_more : (grounds : List Ends) (chunk : Ends) (held others : List Ends)
+    (last : Option Ends) (left later passed : List Ends) (found : Option Ends)
+    → IsJoined grounds chunk held others last left → left ≡ passed ++ later
+    → LieIn chunk found passed
+    → ((a : ℕ) → IsTrue (is_touched (option_to_list found) a) → IsTrue (is_touched held a))
+    → IsJoined grounds chunk held others last later
+passed_more grounds chunk held others last left later passed found j is lie there = record {
+  taken = j.taken ++ passed;
+  all =
+      j.all ∙ ap (λ (gs : List Ends). j.taken ++ gs) is ∙ sym (append_assoc j.taken passed later);
+  same = λ a.
+      absorbed (is_touched held a) (is_touched (option_to_list last) a || is_touched others a)
+      (is_touched j.taken a) (is_touched passed a) (leb chunk.first a && leb a chunk.last)
+      (j.same a) (λ p c. there a (lie.inside a p (inside_chunk chunk a c)))
+      ∙ ap (λ (b : Bool). b && (leb chunk.first a && leb a chunk.last))
+      (sym (behind j.taken passed a));
+  below = λ a is. by a (is_touched j.taken a) refl (sym (behind j.taken passed a) ∙ is);
+  few = omega (arith, j.few, length-append j.taken passed);
+  kept = j.kept;
+  rest = j.rest;
+  growing = j.growing;
+}
+  where
+    by : (a : ℕ) (b : Bool) → is_touched j.taken a ≡ b → (b || is_touched passed a) ≡ true
+        → a < 2 ^ 128
+    by a true before e = j.below a before
+    by a false before e = lie.addresses a e

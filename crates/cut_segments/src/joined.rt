@@ -7,6 +7,7 @@ ghost use Rattle.geo_addr.specs.Ranges.{ground_first, holds};
 ghost use Rattle.cut_segments.specs.Segments.{BeginIn, starts_in};
 ghost use Rattle.source_changes.specs.Touched.{is_touched};
 
+use crate::hints::Hints;
 use geo_addr::{Memory, Range};
 use source_changes::GroundList;
 use std::alloc::Global;
@@ -43,11 +44,12 @@ fn joined(alloc: Global, grounds: &GroundList, chunk: Range) -> Result<Vec<Range
     let mut kept = Vec::new(alloc);
     let mut rest = Vec::new(alloc);
     let mut growing = None;
-    let mut near = 0;
+    let mut hints = Hints::new(alloc);
     let mut left = grounds.all();
     while let Some(next) = left.take() {
         let part = part_in(next, chunk);
-        growing = grown_by(&mut kept, &mut rest, growing, part, &mut near)?;
+        growing = grown_by(&mut kept, &mut rest, growing, part, &mut hints)?;
+        left.pass_over(chunk, hints.found(kept.as_slice()));
     }
     if let Some(last) = growing {
         kept.push(last)?;
@@ -77,7 +79,7 @@ fn grown_by(
     rest: &mut Vec<Range>,
     growing: Option<Range>,
     next: Option<Range>,
-    near: &mut usize,
+    hints: &mut Hints,
 ) -> Result<Option<Range>, Memory>
     ensures same { IfOk result (λ grown. (a : ℕ) → (is_touched kept.new.items a
         || (is_touched (option_to_list grown) a || is_touched rest.new.items a))
@@ -92,14 +94,14 @@ fn grown_by(
         → BeginIn starts (option_to_list next) → BeginIn starts kept.new.items
         × BeginIn starts rest.new.items × BeginIn starts (option_to_list grown)) }
 {
-    match (growing, next) {
-        (Some(range), Some(more)) => {
-            let grown = take_in(kept, rest, range, more, near)?;
-            Ok(Some(grown))
-        }
-        (None, next) => Ok(next),
-        (growing, None) => Ok(growing),
-    }
+    let Some(range) = growing else {
+        return Ok(next);
+    };
+    let Some(more) = next else {
+        return Ok(growing);
+    };
+    let grown = take_in(kept, rest, range, more, hints)?;
+    Ok(Some(grown))
 }
 
 // Takes one more ground in, and hands back the range that grows from then on. The kept ones stand
@@ -109,7 +111,7 @@ fn take_in(
     rest: &mut Vec<Range>,
     growing: Range,
     next: Range,
-    near: &mut usize,
+    hints: &mut Hints,
 ) -> Result<Range, Memory>
     ensures same { IfOk result (λ grown. (a : ℕ)
         → (is_touched kept.new.items a || (holds grown a || is_touched rest.new.items a))
@@ -129,7 +131,8 @@ fn take_in(
         kept.push(growing)?;
         return Ok(next);
     }
-    if !lies_in_one(kept.as_slice(), next, near) {
+    let lies = lies_in_one(kept.as_slice(), next, hints)?;
+    if !lies {
         rest.push(next)?;
     }
     Ok(growing)
@@ -154,22 +157,17 @@ fn both_of(growing: Range, next: Range) -> Option<Range>
     })
 }
 
-// Whether a ground lies in one of ascending ranges: in the one at `near`, or else in the last one
-// that begins where it does or before. `near` is then where that one stands.
-fn lies_in_one(kept: &[Range], ground: Range, near: &mut usize) -> bool
-    ensures { IsTrue result → (a : ℕ) → holds ground a ≡ true → is_touched kept.now a ≡ true }
+// Whether a ground lies in one of ascending ranges: in the one that was found last, or else in the
+// first one that does not end before it, which is then the one that was found last.
+fn lies_in_one(kept: &[Range], ground: Range, hints: &mut Hints) -> Result<bool, Memory>
+    ensures { IfOk result (λ lies. IsTrue lies → (a : ℕ) → holds ground a ≡ true
+        → is_touched kept.now a ≡ true) }
 {
-    if lies_at(kept, ground, *near) {
-        return true;
+    if lies_at(kept, ground, hints.near) {
+        return Ok(true);
     }
-    let begun = kept.partition_point(|range| range.first <= ground.first);
-    match begun.checked_sub(1) {
-        Some(last) => {
-            *near = last;
-            lies_at(kept, ground, last)
-        }
-        None => false,
-    }
+    hints.look_up(kept, ground.first)?;
+    Ok(lies_at(kept, ground, hints.near))
 }
 
 // Whether a ground lies in the range at an index.

@@ -1,6 +1,7 @@
 //! Cut points and the segments between them: what is touched, cut where a choice may change.
 #![tactic(auto)]
 
+mod hints;
 mod inside;
 mod joined;
 mod points;

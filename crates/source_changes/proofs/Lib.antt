@@ -6,6 +6,7 @@ pub mod Law
 pub mod Merges
 pub mod Orders
 pub mod PackingLemmas
+pub mod PassingLemmas
 pub mod Paired
 pub mod Partners
 pub mod Several

@@ -5,6 +5,7 @@ pub mod Keeping
 pub mod Laws
 pub mod Merging
 pub mod Packing
+pub mod Passing
 pub mod SameStatement
 pub mod Sorting
 pub mod Touched

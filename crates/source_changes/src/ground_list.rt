@@ -1,4 +1,10 @@
 //! Grounds in little memory.
+ghost use Rattle.std.specs.Prelude.{◌^◌, ◌<◌, ◌⊎◌, ℕ, IsTrue};
+ghost use Rattle.std.specs.Option.{option_to_list};
+ghost use Rattle.geo_addr.specs.Ranges.{IsWithin, holds};
+ghost use Rattle.source_changes.specs.Packing.{ends_of};
+ghost use Rattle.source_changes.specs.Passing.{IsPassed};
+ghost use Rattle.source_changes.specs.Touched.{is_touched};
 
 use geo_addr::{Memory, Range};
 use std::alloc::Global;
@@ -179,7 +185,11 @@ impl<'a> Model for GroundsLeft<'a> {
 }
 
 impl<'a> GroundsLeft<'a> {
-    ghost use Rattle.std.specs.Prelude.{◌≡◌, ◌∷◌, [], MatchOption};
+    ghost use Rattle.std.specs.Prelude.{◌≡◌, ◌++◌, ◌∷◌, ◌^◌, ◌<◌, [], IsTrue, List, MatchOption};
+    ghost use Rattle.std.specs.Prelude.{false, ℕ};
+    ghost use Rattle.geo_addr.specs.Ranges.{Ends, IsWithin};
+    ghost use Rattle.source_changes.specs.Packing.{ends_of};
+    ghost use Rattle.source_changes.specs.Passing.{LieIn, LiesIn};
 
     /// Takes the first ground that is left.
     pub fn take(&mut self) -> Option<Range>
@@ -200,4 +210,101 @@ impl<'a> GroundsLeft<'a> {
         self.others = others;
         Some(*ground)
     }
+
+    /// Passes over the first grounds of which all that a chunk has lies in a range, if there is
+    /// one. How many of them it passes over, no clause says.
+    pub fn pass_over(&mut self, chunk: Range, held: Option<Range>)
+        ensures { (passed : List Ends) × ((self.old ≡ passed ++ self.new)
+            × LieIn chunk held passed) }
+    {
+        let around = around_v4(chunk);
+        let within = within_v4(held);
+        while self.pass_one(chunk, around, within) {}
+    }
+
+    // Passes over the first ground, if all that a chunk has of it lies between these ends.
+    fn pass_one(&mut self, chunk: Range, around: Packed, within: Packed) -> bool
+        requires { (a : ℕ) → a < 2 ^ 32 → IsWithin chunk a → IsWithin (ends_of around) a }
+        ensures passed { IsTrue result
+            → (one : Ends) × ((self.old ≡ one ∷ self.new) × LiesIn chunk within one) }
+        ensures left { result ≡ false → self.new ≡ self.old }
+    {
+        let Some((one, packed)) = self.packed.split_first() else {
+            return false;
+        };
+        if is_passed(*one, around, within) {
+            self.packed = packed;
+            return true;
+        }
+        if one.first <= one.last {
+            return false;
+        }
+        let Some((ground, others)) = self.others.split_first() else {
+            return false;
+        };
+        if !is_apart(*ground, chunk) {
+            return false;
+        }
+        self.packed = packed;
+        self.others = others;
+        true
+    }
+}
+
+// Whether two ranges have no address in common.
+fn is_apart(x: Range, y: Range) -> bool
+    ensures apart { IsTrue result → (x.last < y.first) ⊎ (y.last < x.first) }
+    ensures address { x.last < 2 ^ 128 }
+{
+    x.last < y.first || y.last < x.first
+}
+
+// The IPv4 addresses of a range by their ends, if it has any.
+fn around_v4(chunk: Range) -> Packed
+    ensures { (a : ℕ) → a < 2 ^ 32 → IsWithin chunk a → IsWithin (ends_of result) a }
+{
+    let Ok(first) = u32::try_from(chunk.first) else {
+        return Packed { first: 1, last: 0 };
+    };
+    let last = match u32::try_from(chunk.last) {
+        Ok(last) => last,
+        Err(_) => u32::MAX,
+    };
+    Packed { first, last }
+}
+
+// The addresses of a ground by their ends, if there is one, and it is IPv4.
+fn within_v4(held: Option<Range>) -> Packed
+    ensures { (a : ℕ) → IsWithin (ends_of result) a → IsTrue (is_touched (option_to_list held) a) }
+{
+    match held {
+        Some(range) => own_v4(range),
+        None => Packed { first: 1, last: 0 },
+    }
+}
+
+// The addresses of a ground by their ends, if it is IPv4.
+fn own_v4(range: Range) -> Packed
+    ensures { (a : ℕ) → IsWithin (ends_of result) a → IsTrue (holds range a) }
+{
+    if !range.is_v4() {
+        return Packed { first: 1, last: 0 };
+    }
+    Packed {
+        first: range.first as u32,
+        last: range.last as u32,
+    }
+}
+
+// Whether a pair is a ground and all that a chunk has of it is held.
+fn is_passed(one: Packed, chunk: Packed, held: Packed) -> bool
+    ensures { IsTrue result → IsPassed chunk held one }
+{
+    if one.first > one.last {
+        return false;
+    }
+    if one.last < chunk.first || chunk.last < one.first {
+        return true;
+    }
+    held.first <= one.first && one.last <= held.last
 }

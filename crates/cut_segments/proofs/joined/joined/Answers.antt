@@ -1,5 +1,6 @@
 -- One ground more.
-use Rattle.std.proofs.Common.{◌&&◌, ◌||◌, ◌∙◌, ◌++◌, ◌∷◌, [], Bool, Contains}
+use Rattle.std.proofs.Common.{◌&&◌, ◌||◌, ◌∙◌, ◌++◌, ◌∷◌, [], ℕ, Bool, Contains, List}
+use Rattle.std.specs.Prelude.{IsTrue}
 use Rattle.std.proofs.Common.{ap, arith, leb, refl, rules, sym, subst}
 use Rattle.std.specs.Option.{option_to_list}
 use Rattle.std.proofs.lemmas.List.{length-append}
@@ -8,7 +9,7 @@ use Rattle.geo_addr.specs.Ranges.{Ends, ground_first, holds}
 use Rattle.source_changes.specs.Touched.{is_touched}
 use Rattle.cut_segments.specs.Segments.{BeginIn, starts_in}
 use Rattle.cut_segments.proofs.JoinedLemmas.{and_or, begin_more, begins_at, below_more, one_at_most}
-use Rattle.cut_segments.proofs.JoinedLemmas.{part_begins, taken_more, with_one}
+use Rattle.cut_segments.proofs.JoinedLemmas.{IsJoined, part_begins, passed_more, taken_more, with_one}
 use Rattle.cut_segments.proofs.joined.joined.Goals as goal
 use Rattle.cut_segments.proofs.joined.joined.Goals.{in-Some-growing+in_ok-push, in_default-growing}
 
@@ -37,7 +38,8 @@ loop-next-preserved c =
     let all = taken_more gs taken c.loop-next.left c.take.new.self g inv.all c.in-Some.ensures in
     let begun = grown.begun (starts_in gs chunk) inv.kept inv.rest inv.growing
     (part_begins gs taken c.take.new.self chunk g part all c.part_in-part.ensures.begun) in
-    record {
+    let more : IsJoined gs chunk c.grown_by.new.kept.items c.grown_by.new.rest.items
+    c.in_ok-growing.growing c.take.new.self = record {
       taken = taken ++ g ∷ [];
       all = all;
       same = λ a.
@@ -53,7 +55,12 @@ loop-next-preserved c =
       kept = begun.0;
       rest = begun.1;
       growing = begun.2;
-    }
+    } in
+    passed_more gs chunk c.grown_by.new.kept.items c.grown_by.new.rest.items
+    c.in_ok-growing.growing c.take.new.self c.pass_over.new.self c.pass_over.ensures.0
+    c.found.result more c.pass_over.ensures.1.0 c.pass_over.ensures.1.1
+    (subst (λ (rs : List Ends). (a : ℕ) → IsTrue (is_touched (option_to_list c.found.result) a)
+    → IsTrue (is_touched rs a)) c.as_slice.ensures.value c.found.ensures)
 
 pub returns-clause-begun : goal.returns-clause-begun
 returns-clause-begun c =

@@ -3,8 +3,8 @@ use Rattle.std.proofs.Common.{sym, subst}
 use Rattle.cut_segments.specs.Segments.{BeginIn}
 use Rattle.cut_segments.proofs.JoinedLemmas.{begin_more}
 use Rattle.cut_segments.proofs.joined.take_in.Goals as goal
-use Rattle.cut_segments.proofs.joined.take_in.Goals.{then-not-lies_in_one+in_ok-push-2}
-use Rattle.cut_segments.proofs.joined.take_in.Goals.{else-not-lies_in_one}
+use Rattle.cut_segments.proofs.joined.take_in.Goals.{then-not-lies+in_ok-push-2}
+use Rattle.cut_segments.proofs.joined.take_in.Goals.{else-not-lies}
 
 pub returns-then-growing-ground_first-clause-begun :
     goal.returns-then-growing-ground_first-clause-begun
@@ -17,11 +17,11 @@ returns-then-growing-ground_first-clause-begun c starts kept rest growing next =
 
 pub returns-clause-begun : goal.returns-clause-begun
 returns-clause-begun c starts kept rest growing next =
-    let left : BeginIn starts c.if-not-lies_in_one.rest.items =
-    elim c.if-not-lies_in_one.branch [
-      | then-not-lies_in_one+in_ok-push-2 w ↦ rw w.rest-is
+    let left : BeginIn starts c.if-not-lies.rest.items =
+    elim c.if-not-lies.branch [
+      | then-not-lies+in_ok-push-2 w ↦ rw w.rest-is
           (subst (BeginIn starts) (sym w.in_ok-push-2.ensures.items)
           (begin_more starts c.args.rest.now.items c.args.next rest next))
-      | else-not-lies_in_one w ↦ rw w.rest-is rest
+      | else-not-lies w ↦ rw w.rest-is rest
     ] in
     (kept, left, growing)
