@@ -10,6 +10,7 @@ ghost use Rattle.geo_terms.specs.Report.{covers};
 ghost use Rattle.source_changes.specs.CutPoints.{AreCutsOf, whole};
 ghost use Rattle.authority.specs.Held.{AreSpeakers, references_in};
 
+use crate::kind_index::KindIndex;
 use first_index::inetnums::Index;
 use first_index::plain;
 use geo_addr::{Addr, Block, Memory, Range, range_of};
@@ -23,6 +24,8 @@ use std::sync::Arc;
 pub struct Speakers {
     pub index: Index,
     pub cuts: Vec<u128>,
+    // Where the speaker at each address stands among the references, as the index keeps them.
+    pub(crate) kind: KindIndex,
 }
 
 /// The index of the references of these dumps, to be shared.
@@ -33,7 +36,8 @@ pub fn speakers_of(alloc: Global, dumps: &[Arc<Dump>]) -> Result<Arc<Speakers>, 
     let refs = references_of(alloc, dumps)?;
     let cuts = cuts_of(alloc, refs.as_slice())?;
     let index = Index::build(alloc, refs)?;
-    let made = Arc::new(alloc, Speakers { index, cuts })?;
+    let kind = KindIndex::of(alloc, index.references())?;
+    let made = Arc::new(alloc, Speakers { index, cuts, kind })?;
     Ok(made)
 }
 
