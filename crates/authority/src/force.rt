@@ -26,8 +26,9 @@ use std::sync::Arc;
 ///
 /// The entries of each feed have an index of their own, with which it comes. The references of all
 /// dumps have one, which `make_ready` makes where a dump was set or dropped since; until then each
-/// reference is looked at for an answer. From a reference to its feed the way is one halving over
-/// the URLs of the feeds. Sources and indexes are shared with every snapshot.
+/// reference is looked at for an answer. It also finds the feed of each reference, where a source
+/// was set or dropped since; until then that is one halving over the URLs of the feeds for an
+/// answer. Sources and indexes are shared with every snapshot.
 #[derive(Debug, Drop)]
 pub struct Authority {
     alloc: Global,
@@ -35,7 +36,8 @@ pub struct Authority {
     // None where a dump was set or dropped since it was made.
     speakers: Option<Arc<Speakers>>,
     feeds: Vec<ReadyFeed>,
-    // What those of `speakers` are looked up by. None where a source was set or dropped since.
+    // One for each reference, as `speakers` keeps them. None where there are no feeds, or a source
+    // was set or dropped since they were made.
     voices: Option<Arc<Voices>>,
 }
 
@@ -161,8 +163,8 @@ impl Authority {
     }
 
     /// Makes what answers are looked up in, where sources changed since: the index of all
-    /// references, and of each the feed. Without the first each answer looks at every reference,
-    /// without the second it looks for the feed.
+    /// references, and the feed of each. Without the index each answer looks at every reference,
+    /// and without the feeds it looks for the one of its speaker.
     pub fn make_ready(&mut self) -> Result<(), Memory>
         ensures { self.new ≡ self.old }
     {
@@ -176,7 +178,7 @@ impl Authority {
         Ok(())
     }
 
-    // The voices of these references, where there are feeds.
+    // The voices of these references; none where there are no feeds.
     fn voices_by(&self, speakers: &Speakers) -> Result<Option<Arc<Voices>>, Memory>
         ensures { IfOk result
             (λ made. IsHeard self.now.feeds speakers.now.index (option_map arc_value made)) }

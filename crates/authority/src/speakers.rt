@@ -15,7 +15,6 @@ use first_index::inetnums::Index;
 use first_index::plain;
 use geo_addr::{Addr, Block, Memory, Range, range_of};
 use geo_terms::{Dump, Reference, Statement};
-use split_core::cuts;
 use std::alloc::Global;
 use std::sync::Arc;
 
@@ -34,9 +33,9 @@ pub fn speakers_of(alloc: Global, dumps: &[Arc<Dump>]) -> Result<Arc<Speakers>, 
         (arc_value made)) }
 {
     let refs = references_of(alloc, dumps)?;
-    let cuts = cuts_of(alloc, refs.as_slice())?;
     let index = Index::build(alloc, refs)?;
     let kind = KindIndex::of(alloc, index.references())?;
+    let cuts = Vec::from_slice(alloc, kind.cuts())?;
     let made = Arc::new(alloc, Speakers { index, cuts, kind })?;
     Ok(made)
 }
@@ -72,33 +71,6 @@ fn copied(reference: &Reference) -> Result<Reference, Memory>
         modified: reference.modified,
         url: reference.url.copied()?,
     })
-}
-
-fn cuts_of(alloc: Global, refs: &[Reference]) -> Result<Vec<u128>, Memory>
-    ensures { IfOk result (λ points. AreCutsOf (map (λ r. r.range) refs.now) points.items) }
-{
-    let ranges = ranges_of(alloc, refs)?;
-    let points = cuts(alloc, ranges.as_slice(), whole())?;
-    Ok(points)
-}
-
-fn whole() -> Range
-    ensures { result ≡ whole }
-{
-    Range {
-        first: 0,
-        last: u128::MAX,
-    }
-}
-
-fn ranges_of(alloc: Global, refs: &[Reference]) -> Result<Vec<Range>, Memory>
-    ensures { IfOk result (λ ranges. ranges.items ≡ map (λ r. r.range) refs.now) }
-{
-    let mut ranges = Vec::with_capacity(alloc, refs.len())?;
-    for reference in refs {
-        ranges.push(reference.range)?;
-    }
-    Ok(ranges)
 }
 
 /// The first reference of these dumps that holds an address: each one is looked at.

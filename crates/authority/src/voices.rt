@@ -1,4 +1,4 @@
-//! What is looked up of the references behind the speaker: their ranges and their feeds.
+//! What the entry of a speaker is looked up by: the range of each reference, and its feed.
 ghost use Rattle.std.specs.Prelude.{◌≡◌, ◌<◌, ◌^◌, map, option_and_then, slice_get, IfOk};
 ghost use Rattle.std.specs.Arc.{arc_value};
 ghost use Rattle.std.specs.Option.{option_copied};
