@@ -1,5 +1,5 @@
 -- What an authority keeps: dumps and feeds, and the index of all references where it is made.
-use Rattle.std.specs.Prelude.{◌≡◌, ℕ, ⊤, List, [], map, flat_map, Option, Some, None, option_map}
+use Rattle.std.specs.Prelude.{◌≡◌, ℕ, ⊤, List, [], map, flat_map, Option, Some, None, option_map, IfSome}
 use Rattle.std.specs.Arc.{arc_value}
 use Rattle.std.specs.declared.sync.Arc.{Arc}
 use Rattle.geo_terms.specs.SlotOrder.{AreInOrder}
@@ -7,11 +7,11 @@ use Rattle.geo_terms.specs.SourceForm.{DumpParts, FeedParts}
 use Rattle.geo_terms.specs.Sources.{InForce}
 use Rattle.geo_terms.specs.declared.statement.Reference.{Reference}
 use Rattle.first_index.specs.Answers.{AnswerAlike}
-use Rattle.first_index.specs.FirstIndex.{TellsFirst}
 use Rattle.geo_terms.specs.Precedence.{reference_cmp}
 use Rattle.source_changes.specs.CutPoints.{AreCutsOf}
 use Rattle.authority.specs.declared.speakers.Speakers.{Speakers}
 use Rattle.authority.specs.declared.voices.Voices.{Voices}
+use Rattle.authority.specs.Kinds.{IsKindIndex}
 use Rattle.authority.specs.Voices.{voice_of}
 
 -- the sources in force where there are dumps and feeds alone
@@ -26,7 +26,7 @@ references_in = flat_map (λ d. d.refs)
 pub record AreSpeakers (rs : List Reference) (made : Speakers) : Type 0 where
   pub index : AnswerAlike rs made.index
   pub cuts : AreCutsOf (map (λ r. r.range) rs) made.cuts.items
-  pub kind : TellsFirst reference_cmp (λ r. r.range) made.index made.kind.firsts
+  pub kind : IfSome made.kind (IsKindIndex reference_cmp (λ r. r.range) made.index)
 
 abbrev pub url_of : FeedParts → List ℕ
 url_of f = f.url

@@ -36,7 +36,7 @@ pub struct Authority {
     // None where a dump was set or dropped since it was made.
     speakers: Option<Arc<Speakers>>,
     feeds: Vec<ReadyFeed>,
-    // One for each reference, as `speakers` keeps them. None where there are no feeds, or a source
+    // One for each reference, as `speakers` keeps them. None where there are few feeds, or a source
     // was set or dropped since they were made.
     voices: Option<Arc<Voices>>,
 }
@@ -178,12 +178,12 @@ impl Authority {
         Ok(())
     }
 
-    // The voices of these references; none where there are no feeds.
+    // The voices of these references; none where there are few feeds.
     fn voices_by(&self, speakers: &Speakers) -> Result<Option<Arc<Voices>>, Memory>
         ensures { IfOk result
             (λ made. IsHeard self.now.feeds speakers.now.index (option_map arc_value made)) }
     {
-        if self.feeds.is_empty() {
+        if !self.has_many_feeds() {
             return Ok(None);
         }
         let feeds = self.feeds.as_slice();
@@ -195,10 +195,16 @@ impl Authority {
     pub fn speakers(&self) -> Result<Arc<Speakers>, Memory>
         ensures { IfOk result (λ made. AreSpeakers (references self.now) (arc_value made)) }
     {
+        let with_kind = self.has_many_feeds();
         match shared(&self.speakers)? {
-            Some(made) => Ok(made),
-            None => speakers_of(self.alloc, self.dumps.as_slice()),
+            Some(made) if made.kind.is_some() || !with_kind => Ok(made),
+            _ => speakers_of(self.alloc, self.dumps.as_slice(), with_kind),
         }
+    }
+
+    // Whether there are feeds among which it is worth a look to find one beforehand.
+    fn has_many_feeds(&self) -> bool {
+        self.feeds.len() > 1
     }
 
     /// The same sources once more: each of them and each index is shared,
@@ -303,7 +309,10 @@ impl Authority {
         let Some(made) = &self.speakers else {
             return self.entry_by_url(at, near);
         };
-        let voice = voice_near(voices, &made.kind, at, &mut near.speaker)?;
+        let Some(kind) = &made.kind else {
+            return self.entry_by_url(at, near);
+        };
+        let voice = voice_near(voices, kind, at, &mut near.speaker)?;
         entry_of_voice(voice, at, &mut near.entry)
     }
 

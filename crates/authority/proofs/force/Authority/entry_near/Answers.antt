@@ -10,8 +10,9 @@ returns-in_err-voice c =
     ap option_copied c.from_residual.ensures
     ∙ held_spoken c.self.inside.dumps.items c.self.inside.speakers c.self.inside.feeds.items
     c.self.inside.voices c.in-Some-speakers.made c.in-Some.voices c.self.invariant
-    c.in-Some-speakers.is c.in-Some.is c.deref.result.now c.deref-2.result.now c.deref.ensures
-    c.deref-2.ensures c.args.at.0 c.in_err-voice.ensures.range None c.in_err-voice.ensures.told
+    c.in-Some-speakers.is c.in-Some.is c.deref-2.result.now c.deref.result.now c.deref-2.ensures
+    c.deref.ensures c.in-Some-kind.kind c.in-Some-kind.is c.args.at.0 c.in_err-voice.ensures.range
+    None c.in_err-voice.ensures.told
     ∙ ap (λ (s : InForce). speaking_entry s c.args.at.0) c.self.view_is
 
 pub returns : goal.returns
@@ -19,7 +20,7 @@ returns c =
     c.entry_of_voice.ensures
     ∙ held_spoken c.self.inside.dumps.items c.self.inside.speakers c.self.inside.feeds.items
     c.self.inside.voices c.in-Some-speakers.made c.in-Some.voices c.self.invariant
-    c.in-Some-speakers.is c.in-Some.is c.deref.result.now c.deref-2.result.now c.deref.ensures
-    c.deref-2.ensures c.args.at.0 c.in_ok-voice.ensures.range (Some c.in_ok-voice.voice.now)
-    c.in_ok-voice.ensures.told
+    c.in-Some-speakers.is c.in-Some.is c.deref-2.result.now c.deref.result.now c.deref-2.ensures
+    c.deref.ensures c.in-Some-kind.kind c.in-Some-kind.is c.args.at.0 c.in_ok-voice.ensures.range
+    (Some c.in_ok-voice.voice.now) c.in_ok-voice.ensures.told
     ∙ ap (λ (s : InForce). speaking_entry s c.args.at.0) c.self.view_is
