@@ -76,4 +76,5 @@ module _ {Z : Type 0} (ds : List (Arc DumpParts Z)) (ss : Option (Arc Speakers Z
       (subst (λ m. AreHeard fs (option_map arc_value m) (option_map arc_value ss)) is_vs
       held.heard)) kind (ap (λ (m : Speakers). m.kind) (sym is_k) ∙ is_kind) o
       (told_here
-      ∙ ap (λ (w : Voices). option_and_then (slice_get w.list.items) (told None kind.firsts a)) is_v)
+      ∙ ap (λ (w : Voices). option_and_then (slice_get w.list.items) (told None kind.firsts a))
+      is_v)

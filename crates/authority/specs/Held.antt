@@ -1,5 +1,6 @@
 -- What an authority keeps: dumps and feeds, and the index of all references where it is made.
-use Rattle.std.specs.Prelude.{◌≡◌, ℕ, ⊤, List, [], map, flat_map, Option, Some, None, option_map, IfSome}
+use Rattle.std.specs.Prelude.{◌≡◌, ℕ, ⊤, List, [], map, flat_map, Option, Some, None, option_map}
+use Rattle.std.specs.Prelude.{IfSome}
 use Rattle.std.specs.Arc.{arc_value}
 use Rattle.std.specs.declared.sync.Arc.{Arc}
 use Rattle.geo_terms.specs.SlotOrder.{AreInOrder}

@@ -171,7 +171,7 @@ impl Authority {
         if self.voices.is_some() {
             return Ok(());
         }
-        let speakers = self.speakers()?;
+        let speakers = self.speakers_for_feeds()?;
         let voices = self.voices_by(&speakers)?;
         self.speakers = Some(speakers);
         self.voices = voices;
@@ -195,11 +195,21 @@ impl Authority {
     pub fn speakers(&self) -> Result<Arc<Speakers>, Memory>
         ensures { IfOk result (λ made. AreSpeakers (references self.now) (arc_value made)) }
     {
-        let with_kind = self.has_many_feeds();
         match shared(&self.speakers)? {
-            Some(made) if made.kind.is_some() || !with_kind => Ok(made),
-            _ => speakers_of(self.alloc, self.dumps.as_slice(), with_kind),
+            Some(made) => Ok(made),
+            None => speakers_of(self.alloc, self.dumps.as_slice(), self.has_many_feeds()),
         }
+    }
+
+    // Those of `speakers`, or new ones where feeds came since that ask for more.
+    fn speakers_for_feeds(&self) -> Result<Arc<Speakers>, Memory>
+        ensures { IfOk result (λ made. AreSpeakers (references self.now) (arc_value made)) }
+    {
+        let made = self.speakers()?;
+        if made.kind.is_some() || !self.has_many_feeds() {
+            return Ok(made);
+        }
+        speakers_of(self.alloc, self.dumps.as_slice(), true)
     }
 
     // Whether there are feeds among which it is worth a look to find one beforehand.
