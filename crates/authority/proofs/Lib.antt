@@ -7,3 +7,4 @@ pub mod NoteOrder
 pub mod Ordered
 pub mod RankedLemmas
 pub mod LoopLemmas
+pub mod VoiceLemmas

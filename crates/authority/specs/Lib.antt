@@ -2,3 +2,4 @@ pub mod Held
 pub mod Kinds
 pub mod Members
 pub mod Ranked
+pub mod Voices

@@ -14,6 +14,7 @@ use crate::near::Near;
 use crate::notes::joint_notes;
 use crate::ready::ReadyFeed;
 use crate::speakers::{Speakers, covering_of_all, first_of_all, speakers_of};
+use crate::voices::{Voices, entry_of_voice, voice_near, voices_of};
 use geo_addr::{Addr, Block, Memory};
 use geo_terms::{Dump, Entry, Feed, Note, Reference};
 use source_changes::shelf;
@@ -25,8 +26,9 @@ use std::sync::Arc;
 ///
 /// The entries of each feed have an index of their own, with which it comes. The references of all
 /// dumps have one, which `make_ready` makes where a dump was set or dropped since; until then each
-/// reference is looked at for an answer. From a reference to its feed the way is one halving over
-/// the URLs of the feeds. Sources and indexes are shared with every snapshot.
+/// reference is looked at for an answer. It also finds the feed of each reference, where a source
+/// was set or dropped since; until then that is one halving over the URLs of the feeds for an
+/// answer. Sources and indexes are shared with every snapshot.
 #[derive(Debug, Drop)]
 pub struct Authority {
     alloc: Global,
@@ -34,6 +36,9 @@ pub struct Authority {
     // None where a dump was set or dropped since it was made.
     speakers: Option<Arc<Speakers>>,
     feeds: Vec<ReadyFeed>,
+    // One for each reference, as `speakers` keeps them. None where there are few feeds, or a source
+    // was set or dropped since they were made.
+    voices: Option<Arc<Voices>>,
 }
 
 impl Model for Authority {
@@ -46,7 +51,7 @@ impl Model for Authority {
 
     ghost view = { λ s. in_force (map arc_value s.dumps.items) s.feeds.items };
 
-    ghost invariant = { λ s. IsHeld s.dumps.items s.speakers s.feeds.items };
+    ghost invariant = { λ s. IsHeld s.dumps.items s.speakers s.feeds.items s.voices };
 }
 
 impl Authority {
@@ -62,7 +67,7 @@ impl Authority {
     ghost use Rattle.geo_terms.specs.SlotOrder.{AreInOrder};
     ghost use Rattle.source_changes.specs.Changes.{DropDump, DropFeed, SetDump, SetFeed, after};
     ghost use Rattle.source_changes.specs.Changes.{named};
-    ghost use Rattle.authority.specs.Held.{AreSpeakers, slot_of, url_of};
+    ghost use Rattle.authority.specs.Held.{AreSpeakers, IsHeard, slot_of, url_of};
     ghost use Rattle.authority.specs.declared.fault.DropFault.{DropFault};
 
     /// No sources.
@@ -74,6 +79,7 @@ impl Authority {
             dumps: Vec::new(alloc),
             speakers: None,
             feeds: Vec::new(alloc),
+            voices: None,
         }
     }
 
@@ -89,6 +95,7 @@ impl Authority {
         let dump = Arc::new(self.alloc, dump)?;
         let old = shelf::put(&mut self.dumps, dump)?;
         self.speakers = None;
+        self.voices = None;
         Ok(old)
     }
 
@@ -104,6 +111,7 @@ impl Authority {
         match shelf::take(&mut self.dumps, slot) {
             Some(old) => {
                 self.speakers = None;
+                self.voices = None;
                 Ok(old)
             }
             None => Err(DropFault::NotThere),
@@ -134,6 +142,7 @@ impl Authority {
         ensures err { OnErr result (self.new ≡ self.old) }
     {
         let old = shelf::put(&mut self.feeds, feed)?;
+        self.voices = None;
         Ok(feed_alone(old))
     }
 
@@ -149,17 +158,37 @@ impl Authority {
         let Some(old) = feed_alone(shelf::take(&mut self.feeds, url)) else {
             return Err(DropFault::NotThere);
         };
+        self.voices = None;
         Ok(old)
     }
 
     /// Makes what answers are looked up in, where sources changed since: the index of all
-    /// references. Without it each answer looks at every reference.
+    /// references, and the feed of each. Without the index each answer looks at every reference,
+    /// and without the feeds it looks for the one of its speaker.
     pub fn make_ready(&mut self) -> Result<(), Memory>
         ensures { self.new ≡ self.old }
     {
-        let speakers = self.speakers()?;
+        if self.voices.is_some() {
+            return Ok(());
+        }
+        let speakers = self.speakers_for_feeds()?;
+        let voices = self.voices_by(&speakers)?;
         self.speakers = Some(speakers);
+        self.voices = voices;
         Ok(())
+    }
+
+    // The voices of these references; none where there are few feeds.
+    fn voices_by(&self, speakers: &Speakers) -> Result<Option<Arc<Voices>>, Memory>
+        ensures { IfOk result
+            (λ made. IsHeard self.now.feeds speakers.now.index (option_map arc_value made)) }
+    {
+        if !self.has_many_feeds() {
+            return Ok(None);
+        }
+        let feeds = self.feeds.as_slice();
+        let made = voices_of(self.alloc, speakers.index.references(), feeds)?;
+        Ok(Some(made))
     }
 
     /// The index of all references and their cut points: those that are kept, or new ones.
@@ -168,8 +197,24 @@ impl Authority {
     {
         match shared(&self.speakers)? {
             Some(made) => Ok(made),
-            None => speakers_of(self.alloc, self.dumps.as_slice()),
+            None => speakers_of(self.alloc, self.dumps.as_slice(), self.has_many_feeds()),
         }
+    }
+
+    // Those of `speakers`, or new ones where feeds came since that ask for more.
+    fn speakers_for_feeds(&self) -> Result<Arc<Speakers>, Memory>
+        ensures { IfOk result (λ made. AreSpeakers (references self.now) (arc_value made)) }
+    {
+        let made = self.speakers()?;
+        if made.kind.is_some() || !self.has_many_feeds() {
+            return Ok(made);
+        }
+        speakers_of(self.alloc, self.dumps.as_slice(), true)
+    }
+
+    // Whether there are feeds among which it is worth a look to find one beforehand.
+    fn has_many_feeds(&self) -> bool {
+        self.feeds.len() > 1
     }
 
     /// The same sources once more: each of them and each index is shared,
@@ -182,6 +227,7 @@ impl Authority {
             dumps: self.dumps.clone()?,
             speakers: shared(&self.speakers)?,
             feeds: self.feeds.clone()?,
+            voices: shared(&self.voices)?,
         })
     }
 
@@ -267,6 +313,23 @@ impl Authority {
     pub fn entry_near(&self, at: Addr, near: &mut Near) -> Option<&Entry>
         ensures { option_copied result ≡ speaking_entry self.now at.0 }
     {
+        let Some(voices) = &self.voices else {
+            return self.entry_by_url(at, near);
+        };
+        let Some(made) = &self.speakers else {
+            return self.entry_by_url(at, near);
+        };
+        let Some(kind) = &made.kind else {
+            return self.entry_by_url(at, near);
+        };
+        let voice = voice_near(voices, kind, at, &mut near.speaker)?;
+        entry_of_voice(voice, at, &mut near.entry)
+    }
+
+    // The entry that speaks at an address. The feed of its speaker is looked for.
+    fn entry_by_url(&self, at: Addr, near: &mut Near) -> Option<&Entry>
+        ensures { option_copied result ≡ speaking_entry self.now at.0 }
+    {
         let speaker = self.speaker_near(at, &mut near.speaker)?;
         entry_of(self.feeds.as_slice(), speaker, at, near)
     }
@@ -304,12 +367,12 @@ impl Authority {
     }
 }
 
-// The index once more, shared.
-fn shared(speakers: &Option<Arc<Speakers>>) -> Result<Option<Arc<Speakers>>, Memory>
+// What is kept once more, shared.
+fn shared<T>(kept: &Option<Arc<T>>) -> Result<Option<Arc<T>>, Memory>
     ensures { IfOk result
-        (λ same. option_map arc_value same ≡ option_map arc_value speakers.now) }
+        (λ same. option_map arc_value same ≡ option_map arc_value kept.now) }
 {
-    match speakers {
+    match kept {
         Some(made) => {
             let made = Arc::try_clone(made)?;
             Ok(Some(made))

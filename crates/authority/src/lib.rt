@@ -8,6 +8,7 @@ mod near;
 mod notes;
 mod ready;
 mod speakers;
+mod voices;
 
 pub use fault::DropFault;
 pub use force::Authority;

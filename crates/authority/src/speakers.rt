@@ -1,15 +1,17 @@
 //! The references of all dumps: with an index of them where one is made, and one by one.
-ghost use Rattle.std.specs.Prelude.{◌≡◌, ◌++◌, ◌&&◌, map, filter, fold, IfOk, OnOk, Some};
+ghost use Rattle.std.specs.Prelude.{◌≡◌, ◌++◌, ◌&&◌, map, filter, fold, IfOk, IfSome, OnOk, Some};
 ghost use Rattle.std.specs.Arc.{arc_value};
 ghost use Rattle.std.specs.Option.{option_copied};
 ghost use Rattle.geo_terms.specs.Covering.{covering};
 ghost use Rattle.geo_terms.specs.First.{better, first_at};
 ghost use Rattle.geo_terms.specs.PlaceForm.{same_text};
-ghost use Rattle.geo_terms.specs.Precedence.{reference_before};
+ghost use Rattle.geo_terms.specs.Precedence.{reference_before, reference_cmp};
 ghost use Rattle.geo_terms.specs.Report.{covers};
 ghost use Rattle.source_changes.specs.CutPoints.{AreCutsOf, whole};
 ghost use Rattle.authority.specs.Held.{AreSpeakers, references_in};
+ghost use Rattle.authority.specs.Kinds.{IsKindIndex};
 
+use crate::kind_index::KindIndex;
 use first_index::inetnums::Index;
 use first_index::plain;
 use geo_addr::{Addr, Block, Memory, Range, range_of};
@@ -23,18 +25,85 @@ use std::sync::Arc;
 pub struct Speakers {
     pub index: Index,
     pub cuts: Vec<u128>,
+    // Where the speaker at each address stands among the references, as the index keeps them. It is
+    // made where that is asked for.
+    pub(crate) kind: Option<KindIndex>,
 }
 
-/// The index of the references of these dumps, to be shared.
-pub fn speakers_of(alloc: Global, dumps: &[Arc<Dump>]) -> Result<Arc<Speakers>, Memory>
+/// The index of the references of these dumps, to be shared; on request with where the speaker at
+/// each address stands.
+pub fn speakers_of(
+    alloc: Global,
+    dumps: &[Arc<Dump>],
+    with_kind: bool,
+) -> Result<Arc<Speakers>, Memory>
     ensures { IfOk result (λ made. AreSpeakers (references_in (map arc_value dumps.now))
         (arc_value made)) }
 {
     let refs = references_of(alloc, dumps)?;
-    let cuts = cuts_of(alloc, refs.as_slice())?;
     let index = Index::build(alloc, refs)?;
-    let made = Arc::new(alloc, Speakers { index, cuts })?;
+    let kind = kind_of(alloc, index.references(), with_kind)?;
+    let cuts = cuts_of(alloc, index.references(), &kind)?;
+    let made = Arc::new(alloc, Speakers { index, cuts, kind })?;
     Ok(made)
+}
+
+fn kind_of(alloc: Global, refs: &[Reference], is_asked: bool) -> Result<Option<KindIndex>, Memory>
+    ensures { IfOk result
+        (λ kind. IfSome kind (IsKindIndex reference_cmp (λ r. r.range) refs.now)) }
+{
+    if !is_asked {
+        return Ok(None);
+    }
+    let kind = KindIndex::of(alloc, refs)?;
+    Ok(Some(kind))
+}
+
+// The cut points of references: those that their index has, or new ones.
+fn cuts_of(alloc: Global, refs: &[Reference], kind: &Option<KindIndex>) -> Result<Vec<u128>, Memory>
+    requires { IfSome kind.now (IsKindIndex reference_cmp (λ r. r.range) refs.now) }
+    ensures { IfOk result (λ points. AreCutsOf (map (λ r. r.range) refs.now) points.items) }
+{
+    match kind {
+        Some(kind) => copied_cuts(alloc, refs, kind),
+        None => new_cuts(alloc, refs),
+    }
+}
+
+// The cut points that the index of these references has.
+fn copied_cuts(alloc: Global, refs: &[Reference], kind: &KindIndex) -> Result<Vec<u128>, Memory>
+    requires { IsKindIndex reference_cmp (λ r. r.range) refs.now kind.now }
+    ensures { IfOk result (λ points. AreCutsOf (map (λ r. r.range) refs.now) points.items) }
+{
+    let points = Vec::from_slice(alloc, kind.cuts())?;
+    Ok(points)
+}
+
+fn new_cuts(alloc: Global, refs: &[Reference]) -> Result<Vec<u128>, Memory>
+    ensures { IfOk result (λ points. AreCutsOf (map (λ r. r.range) refs.now) points.items) }
+{
+    let ranges = ranges_of(alloc, refs)?;
+    let points = cuts(alloc, ranges.as_slice(), whole())?;
+    Ok(points)
+}
+
+fn whole() -> Range
+    ensures { result ≡ whole }
+{
+    Range {
+        first: 0,
+        last: u128::MAX,
+    }
+}
+
+fn ranges_of(alloc: Global, refs: &[Reference]) -> Result<Vec<Range>, Memory>
+    ensures { IfOk result (λ ranges. ranges.items ≡ map (λ r. r.range) refs.now) }
+{
+    let mut ranges = Vec::with_capacity(alloc, refs.len())?;
+    for reference in refs {
+        ranges.push(reference.range)?;
+    }
+    Ok(ranges)
 }
 
 fn references_of(alloc: Global, dumps: &[Arc<Dump>]) -> Result<Vec<Reference>, Memory>
@@ -68,33 +137,6 @@ fn copied(reference: &Reference) -> Result<Reference, Memory>
         modified: reference.modified,
         url: reference.url.copied()?,
     })
-}
-
-fn cuts_of(alloc: Global, refs: &[Reference]) -> Result<Vec<u128>, Memory>
-    ensures { IfOk result (λ points. AreCutsOf (map (λ r. r.range) refs.now) points.items) }
-{
-    let ranges = ranges_of(alloc, refs)?;
-    let points = cuts(alloc, ranges.as_slice(), whole())?;
-    Ok(points)
-}
-
-fn whole() -> Range
-    ensures { result ≡ whole }
-{
-    Range {
-        first: 0,
-        last: u128::MAX,
-    }
-}
-
-fn ranges_of(alloc: Global, refs: &[Reference]) -> Result<Vec<Range>, Memory>
-    ensures { IfOk result (λ ranges. ranges.items ≡ map (λ r. r.range) refs.now) }
-{
-    let mut ranges = Vec::with_capacity(alloc, refs.len())?;
-    for reference in refs {
-        ranges.push(reference.range)?;
-    }
-    Ok(ranges)
 }
 
 /// The first reference of these dumps that holds an address: each one is looked at.

@@ -15,11 +15,12 @@ invariant_of-self c = record {
   slots = c.take.ensures.order;
   urls = c.self.invariant.urls;
   made = tt;
+  heard = tt;
 }
 
 pub invariant_of-self-in-None : goal.invariant_of-self-in-None
 invariant_of-self-in-None c =
-    subst (λ ds. IsHeld ds c.self.inside.speakers c.self.inside.feeds.items)
+    subst (λ ds. IsHeld ds c.self.inside.speakers c.self.inside.feeds.items c.self.inside.voices)
     (sym (c.in-None.ensures.absent refl)) c.self.invariant
 
 pub returns-in-Some-clause-sources : goal.returns-in-Some-clause-sources

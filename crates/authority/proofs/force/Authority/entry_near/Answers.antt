@@ -1,25 +1,26 @@
-use Rattle.std.proofs.Common.{◌∙◌, List, Some, ap}
-use Rattle.std.specs.List.{find}
+use Rattle.std.proofs.Common.{◌∙◌, Some, None, ap}
 use Rattle.std.specs.Option.{option_copied}
-use Rattle.geo_terms.specs.First.{first_of}
-use Rattle.geo_terms.specs.PlaceForm.{same_text}
-use Rattle.geo_terms.specs.Precedence.{entries_within, entry_before, entry_of, speaking_entry}
-use Rattle.geo_terms.specs.SourceForm.{FeedParts}
-use Rattle.geo_terms.specs.Sources.{InForce, entries_in}
+use Rattle.geo_terms.specs.Precedence.{speaking_entry}
+use Rattle.geo_terms.specs.Sources.{InForce}
+use Rattle.authority.proofs.VoiceLemmas.{held_spoken}
 use Rattle.authority.proofs.force.Authority.entry_near.Goals as goal
 
-pub returns-in_err-speaker : goal.returns-in_err-speaker
-unfolding speaking_entry
-returns-in_err-speaker c =
+pub returns-in_err-voice : goal.returns-in_err-voice
+returns-in_err-voice c =
     ap option_copied c.from_residual.ensures
-    ∙ ap (λ o. entry_of c.args.self.now o c.args.at.0) c.in_err-speaker.ensures
+    ∙ held_spoken c.self.inside.dumps.items c.self.inside.speakers c.self.inside.feeds.items
+    c.self.inside.voices c.in-Some-speakers.made c.in-Some.voices c.self.invariant
+    c.in-Some-speakers.is c.in-Some.is c.deref-2.result.now c.deref.result.now c.deref-2.ensures
+    c.deref.ensures c.in-Some-kind.kind c.in-Some-kind.is c.args.at.0 c.in_err-voice.ensures.range
+    None c.in_err-voice.ensures.told
+    ∙ ap (λ (s : InForce). speaking_entry s c.args.at.0) c.self.view_is
 
 pub returns : goal.returns
-unfolding speaking_entry
 returns c =
-    c.entry_of.ensures
-    ∙ ap (λ (fs : List FeedParts). first_of entry_before (entries_within (entries_in
-    (find (λ (f : FeedParts). same_text f.url c.in_ok-speaker.speaker.now.url) fs))
-    c.in_ok-speaker.speaker.now.range c.args.at.0)) c.as_slice.ensures.value
-    ∙ ap (λ (s : InForce). entry_of s (Some c.in_ok-speaker.speaker.now) c.args.at.0) c.self.view_is
-    ∙ ap (λ o. entry_of c.args.self.now o c.args.at.0) c.in_ok-speaker.ensures
+    c.entry_of_voice.ensures
+    ∙ held_spoken c.self.inside.dumps.items c.self.inside.speakers c.self.inside.feeds.items
+    c.self.inside.voices c.in-Some-speakers.made c.in-Some.voices c.self.invariant
+    c.in-Some-speakers.is c.in-Some.is c.deref-2.result.now c.deref.result.now c.deref-2.ensures
+    c.deref.ensures c.in-Some-kind.kind c.in-Some-kind.is c.args.at.0 c.in_ok-voice.ensures.range
+    (Some c.in_ok-voice.voice.now) c.in_ok-voice.ensures.told
+    ∙ ap (λ (s : InForce). speaking_entry s c.args.at.0) c.self.view_is

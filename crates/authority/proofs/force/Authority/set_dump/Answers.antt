@@ -12,7 +12,7 @@ use Rattle.authority.proofs.force.Authority.set_dump.Goals as goal
 
 pub invariant_of-self : goal.invariant_of-self
 invariant_of-self c =
-    subst (λ ds. IsHeld ds c.self.inside.speakers c.self.inside.feeds.items)
+    subst (λ ds. IsHeld ds c.self.inside.speakers c.self.inside.feeds.items c.self.inside.voices)
     (sym c.in_err-old.ensures.err) c.self.invariant
 
 pub invariant_of-self-2 : goal.invariant_of-self-2
@@ -20,6 +20,7 @@ invariant_of-self-2 c = record {
   slots = c.put.ensures.order;
   urls = c.self.invariant.urls;
   made = tt;
+  heard = tt;
 }
 
 pub returns-clause-sources : goal.returns-clause-sources

@@ -14,6 +14,7 @@ invariant_of-self-2 c = record {
   slots = c.self.invariant.slots;
   urls = c.put.ensures.order;
   made = c.self.invariant.made;
+  heard = tt;
 }
 
 pub returns-clause-sources : goal.returns-clause-sources

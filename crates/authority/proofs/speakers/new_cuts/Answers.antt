@@ -1,7 +1,7 @@
 use Rattle.std.proofs.Common.{◌∙◌, List, subst}
 use Rattle.geo_addr.specs.Ranges.{Ends, AreCuts}
 use Rattle.source_changes.specs.CutPoints.{whole}
-use Rattle.authority.proofs.speakers.cuts_of.Goals as goal
+use Rattle.authority.proofs.speakers.new_cuts.Goals as goal
 
 pub returns : goal.returns
 returns c = record {
