@@ -1,6 +1,7 @@
 pub mod AloneLemmas
 pub mod BareLemmas
 pub mod CleanLemmas
+pub mod CountLemmas
 pub mod CsvLemmas
 pub mod FateLemmas
 pub mod FieldLaw

@@ -1,7 +1,7 @@
 -- How lines of the same range are found: by what is held of the ranges that more than one line has.
 use Rattle.std.specs.Prelude.{◌≡◌, ℕ, ◌+◌, ◌<◌, ◌⊎◌, Bool, false, not, ◌||◌, nat_eq, nat_lt, List}
 use Rattle.std.specs.Prelude.{[], ◌∷◌, length, fold, Option, Some, None, ◌&&◌}
-use Rattle.std.specs.Prelude.{slice_index, if◌then◌else◌}
+use Rattle.std.specs.Prelude.{slice_index, slice_set, if◌then◌else◌, ◌*◌, ◌/◌, ◌%◌, ◌^◌, min}
 use Rattle.std.specs.List.{IsDistinct}
 use Rattle.std.specs.Ordering.{nat_cmp, ordering_then}
 use Rattle.std.specs.declared.cmp.Ordering.{Ordering}
@@ -23,6 +23,24 @@ ends_cmp a b = ordering_then (nat_cmp a.first b.first) (nat_cmp a.last b.last)
 -- a range stands in a list at most once
 abbrev pub IsAlone : Ends → List Ends → Type 0
 IsAlone k ranges = IsDistinct (λ x y. same_ends k x && same_ends k y) ranges
+
+-- the slot of a range among so many: the sum of its ends times the golden ratio, as a part of one
+unfoldable pub slot : ℕ → Ends → ℕ
+slot slots r =
+    (r.first + r.last) % 2 ^ 128 * 0x9e37_79b9_7f4a_7c15_f39c_c060_5ced_c835 % 2 ^ 128 / 2 ^ 64
+    * slots / 2 ^ 64
+
+-- how many lines are counted in the slot of a range
+abbrev pub count_at : List ℕ → Ends → ℕ
+count_at counts r = slice_index counts (slot (length counts) r)
+
+-- one more line of a range
+abbrev pub counted : List ℕ → Ends → List ℕ
+counted counts r = slice_set counts (slot (length counts) r) (min (count_at counts r + 1) 255)
+
+-- whether more than one line is counted in the slot of a range
+abbrev pub is_shared : List ℕ → Ends → Bool
+is_shared counts r = nat_lt 1 (count_at counts r)
 
 -- the first line of a range, what it says, and whether a later one says something else
 pub record Shown : Type 0 where

@@ -2,16 +2,15 @@
 ghost use Rattle.std.specs.Prelude.{◌≡◌, ◌+◌, ◌<◌, ℕ, IfOk, IsTrue, All, AllPairs, filter, length};
 ghost use Rattle.std.specs.Prelude.{filter_map, map, OnOk, MatchOption, Option, ◌++◌, ◌||◌, Bool};
 ghost use Rattle.std.specs.Prelude.{false, option_to_list, slice_index_or, if◌then◌else◌};
-ghost use Rattle.std.specs.List.Sorted.{IsSorted};
 ghost use Rattle.std.specs.Option.{option_copied};
 ghost use Rattle.geo_addr.specs.Ranges.{Ends};
 ghost use Rattle.geo_terms.specs.Report.{same_ends};
 ghost use Rattle.geo_terms.specs.declared.place.Said.{Said};
 ghost use Rattle.std.specs.BTreeMap.{get};
-ghost use Rattle.std.specs.BTreeSet.{contains};
 ghost use Rattle.csv_lines.specs.Repeats.{Rises, fate, fault_by, is_kept_by, kept, merged};
 ghost use Rattle.csv_lines.specs.Repeats.{repeat_faults, same_said};
-ghost use Rattle.csv_lines.specs.Doubled.{IsAlone, IsBelow, Shown, ends_cmp, fate_by, is_next};
+ghost use Rattle.csv_lines.specs.Doubled.{IsAlone, IsBelow, Shown, counted, ends_cmp};
+ghost use Rattle.csv_lines.specs.Doubled.{fate_by, is_next, is_shared, slot};
 ghost use Rattle.csv_lines.specs.Doubled.{places_from, shown, with_row};
 ghost use Rattle.csv_lines.specs.declared.fate.Fate.{Fate};
 ghost use Rattle.csv_lines.specs.declared.fate.Fate.TheVariants.{Kept};
@@ -20,7 +19,7 @@ use crate::fault::merged;
 use geo_addr::{Memory, Range, range_of};
 use geo_terms::{Entry, LineNote, Override, Rule, Said};
 use std::alloc::Global;
-use std::collections::{BTreeMap, BTreeSet};
+use std::collections::BTreeMap;
 use std::marker::Model;
 
 /// A line that was accepted: what it is about and what it says.
@@ -130,11 +129,8 @@ pub fn judge<T: Accepted + Drop>(
     if rises(rows.as_slice()) {
         return Ok(Judged { rows, faults });
     }
-    let doubled = doubled_in(alloc, rows.as_slice())?;
-    if doubled.is_empty() {
-        return Ok(Judged { rows, faults });
-    }
-    let places = places_in(alloc, rows.as_slice(), &doubled)?;
+    let counts = counts_of(alloc, rows.as_slice())?;
+    let places = places_in(alloc, rows.as_slice(), counts.as_slice())?;
     let mut rows = rows;
     let fates = fates(alloc, rows.as_slice(), places.as_slice())?;
     let repeated = repeat_faults(
@@ -235,76 +231,66 @@ fn seen_in<'a, T: Accepted>(
     Ok(seen)
 }
 
-// The places of the lines whose ranges are among these.
-fn places_in<T: Accepted>(
-    alloc: Global,
-    rows: &[T],
-    doubled: &BTreeSet<Range>,
-) -> Result<Vec<usize>, Memory>
+// The places of the lines that share a slot with another.
+fn places_in<T: Accepted>(alloc: Global, rows: &[T], counts: &[u8]) -> Result<Vec<usize>, Memory>
+    requires { 0 < length counts.now }
     ensures { IfOk result (λ places. places.items
-        ≡ places_from (λ x. contains ends_cmp doubled.now (T.range x)) 0 rows.now) }
+        ≡ places_from (λ x. is_shared counts.now (T.range x)) 0 rows.now) }
 {
     let mut places = Vec::new(alloc);
     for at in 0..rows.len() {
-        if doubled.contains(&rows[at].range()) {
+        if is_shared(counts, rows[at].range()) {
             places.push(at)?;
         }
     }
     Ok(places)
 }
 
-// The ranges that more than one line has.
+// Whether more than one line is counted in the slot of a range.
+fn is_shared(counts: &[u8], range: Range) -> bool
+    requires { 0 < length counts.now }
+    ensures { result ≡ is_shared counts.now range }
+{
+    1 < counts[slot_of(range, counts.len())]
+}
+
+// How many slots there are for each line: few lines share one that have no range in common.
+const SLOTS: usize = 32;
+
+// How many lines are counted in each slot: those of one range are counted in the same.
 //
-// They are few among a file's ranges, and a sort finds them sooner than a map of all does.
-fn doubled_in<T: Accepted>(alloc: Global, rows: &[T]) -> Result<BTreeSet<Range>, Memory>
-    ensures { IfOk result (λ doubled. (k : Ends) → contains ends_cmp doubled k ≡ false
+// Few lines of a file share their range with another, and so these are found without an order.
+fn counts_of<T: Accepted>(alloc: Global, rows: &[T]) -> Result<Vec<u8>, Memory>
+    ensures some { IfOk result (λ counts. 0 < length counts.items) }
+    ensures alone { IfOk result (λ counts. (k : Ends) → is_shared counts.items k ≡ false
         → IsAlone k (map T.range rows.now)) }
 {
-    let mut ranges = ranges_of(alloc, rows)?;
-    ranges.sort_unstable();
-    let doubled = doubled_among(alloc, ranges.as_slice())?;
-    Ok(doubled)
-}
-
-fn ranges_of<T: Accepted>(alloc: Global, rows: &[T]) -> Result<Vec<Range>, Memory>
-    ensures { IfOk result (λ ranges. ranges.items ≡ map T.range rows.now) }
-{
-    let mut ranges = Vec::with_capacity(alloc, rows.len())?;
+    let slots = rows.len().saturating_mul(SLOTS).saturating_add(1);
+    let mut counts = vec![in alloc; 0; slots]?;
     for row in rows {
-        ranges.push(row.range())?;
+        count_in(&mut counts, row.range());
     }
-    Ok(ranges)
+    Ok(counts)
 }
 
-// The ranges that stand more than once in a list in order, where equal ones are neighbours.
-fn doubled_among(alloc: Global, ranges: &[Range]) -> Result<BTreeSet<Range>, Memory>
-    requires { IsSorted ends_cmp ranges.now }
-    ensures { IfOk result (λ doubled. (k : Ends) → contains ends_cmp doubled k ≡ false
-        → IsAlone k ranges.now) }
+// Counts one more line of a range; 255 stands for more, too.
+fn count_in(counts: &mut Vec<u8>, range: Range)
+    requires { 0 < length counts.old.items }
+    ensures { counts.new.items ≡ counted counts.old.items range }
 {
-    let mut doubled = BTreeSet::new(alloc);
-    for at in 1..ranges.len() {
-        if is_same(ranges[at - 1], ranges[at]) {
-            add(&mut doubled, ranges[at])?;
-        }
-    }
-    Ok(doubled)
+    let slot = slot_of(range, counts.len());
+    counts[slot] = counts[slot].saturating_add(1);
 }
 
-fn is_same(one: Range, other: Range) -> bool
-    ensures { result ≡ same_ends one other }
+// The slot of a range, among so many: blocks spread over them, as the ends of no two have one sum.
+fn slot_of(range: Range, slots: usize) -> usize
+    requires { 0 < slots }
+    ensures slot { result ≡ slot slots range }
+    ensures within { result < slots }
 {
-    one.first == other.first && one.last == other.last
-}
-
-fn add(doubled: &mut BTreeSet<Range>, range: Range) -> Result<(), Memory>
-    ensures { (k : Ends) → OnOk result (contains ends_cmp doubled.new k
-        ≡ (same_ends range k || contains ends_cmp doubled.old k)) }
-{
-    let Ok(_) = doubled.insert(range) else {
-        return Err(Memory);
-    };
-    Ok(())
+    let sum = range.first.wrapping_add(range.last);
+    let spread = sum.wrapping_mul(0x9e37_79b9_7f4a_7c15_f39c_c060_5ced_c835) >> 64;
+    (spread * slots as u128 >> 64) as usize
 }
 
 // Takes one more line.

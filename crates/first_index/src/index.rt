@@ -1,7 +1,6 @@
 //! The first of several statements that holds an address, by halving.
-ghost use Rattle.std.specs.Prelude.{◌≡◌, ◌-◌, ◌^◌, ◌++◌, ◌∷◌, [], ℕ, All, IfOk, IfSome, OnOk};
+ghost use Rattle.std.specs.Prelude.{◌≡◌, ◌++◌, ◌∷◌, [], ℕ, All, IfOk, IfSome, OnOk};
 ghost use Rattle.std.specs.Prelude.{None, map, option_and_then, slice_get};
-ghost use Rattle.geo_addr.specs.Ranges.{ground_first};
 ghost use Rattle.std.specs.List.{enumerate_from};
 ghost use Rattle.std.specs.List.Sorted.{IsNonDecreasingBy, IsPermutation, IsStrictlyIncreasing};
 ghost use Rattle.first_index.specs.Boundaries.{told};
@@ -16,6 +15,7 @@ use crate::nested::{nested_of, order};
 use geo_addr::{Addr, Memory, Range};
 use geo_terms::Statement;
 use std::alloc::Global;
+use std::cmp::Ordering;
 use std::marker::Model;
 
 /// Tells for each address which of several statements is the first in their order that holds it.
@@ -181,29 +181,54 @@ fn put_outer_first<S: Statement>(
     ensures { IsPermutation indexed.old.items indexed.new.items }
 {
     let mut keyed = keyed(alloc, indexed.as_slice())?;
-    // Statements of a file come in a few runs that ascend, and this sort only joins runs.
-    keyed.sort_by_key(|(key, _)| *key)?;
+    sort_outer_first(&mut keyed)?;
     *indexed = unkeyed(alloc, keyed.as_slice())?;
     Ok(())
 }
 
-// Statements, each beside the key by which it is put in order, so that the sort reads none of them.
+// A file of few runs that ascend is sorted by joining them, and any other in place.
+fn sort_outer_first<S: Statement>(keyed: &mut Vec<(u128, (usize, &S))>) -> Result<(), Memory>
+    ensures { IsPermutation keyed.old.items keyed.new.items }
+{
+    if falls(keyed.as_slice()) < keyed.len() / RUN {
+        keyed.sort_by(|x, y| outer_first(x, y))?;
+    } else {
+        keyed.sort_unstable_by(|x, y| outer_first(x, y));
+    }
+    Ok(())
+}
+
+// How many statements a run has at least on average where joining runs pays.
+const RUN: usize = 32;
+
+// How often a ground begins before the one in front of it.
+fn falls<S>(keyed: &[(u128, (usize, &S))]) -> usize {
+    let mut count: usize = 0;
+    for at in 1..keyed.len() {
+        if keyed[at].0 < keyed[at - 1].0 {
+            count = count.saturating_add(1);
+        }
+    }
+    count
+}
+
+// Statements, each beside where its ground begins, so that the sort reads few of them.
 fn keyed<'a, S: Statement>(
     alloc: Global,
     indexed: &[(usize, &'a S)],
-) -> Result<Vec<((u128, u128), (usize, &'a S))>, Memory>
+) -> Result<Vec<(u128, (usize, &'a S))>, Memory>
     ensures { IfOk result (λ keyed. map (λ x. x.1) keyed.items ≡ indexed.entry.now) }
 {
     let mut keyed = Vec::with_capacity(alloc, indexed.len())?;
     for statement in indexed {
-        keyed.push((outer_first(statement.1.range()), *statement))?;
+        keyed.push((statement.1.range().ground_first(), *statement))?;
     }
     Ok(keyed)
 }
 
 fn unkeyed<'a, S>(
     alloc: Global,
-    keyed: &[((u128, u128), (usize, &'a S))],
+    keyed: &[(u128, (usize, &'a S))],
 ) -> Result<Vec<(usize, &'a S)>, Memory>
     ensures { IfOk result (λ indexed. indexed.items ≡ map (λ x. x.1) keyed.entry.now) }
 {
@@ -214,11 +239,12 @@ fn unkeyed<'a, S>(
     Ok(indexed)
 }
 
-// Grounds ascend by it, and of those that begin at one address the largest comes first.
-fn outer_first(range: Range) -> (u128, u128)
-    ensures { result ≡ (ground_first range, 2 ^ 128 - 1 - range.last) }
-{
-    (range.ground_first(), u128::MAX - range.last)
+// Grounds ascend, and of those that begin at one address the largest comes first.
+fn outer_first<S: Statement>(x: &(u128, (usize, &S)), y: &(u128, (usize, &S))) -> Ordering {
+    match x.0.cmp(&y.0) {
+        Ordering::Equal => y.1.1.range().last.cmp(&x.1.1.range().last),
+        apart => apart,
+    }
 }
 
 fn ranges_of<S: Statement>(alloc: Global, ranked: &[(usize, &S)]) -> Result<Vec<Range>, Memory>

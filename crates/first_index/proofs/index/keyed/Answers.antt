@@ -5,7 +5,7 @@ use Rattle.first_index.proofs.index.keyed.Goals as goal
 
 pub loop-statement-preserved : goal.loop-statement-preserved
 loop-statement-preserved g c =
-    let bare = λ (x : (ℕ × ℕ) × (ℕ × Bor g.row.S.Denot)). x.1 in
+    let bare = λ (x : ℕ × (ℕ × Bor g.row.S.Denot)). x.1 in
     let within : c.loop-statement.statement-index < length c.args.indexed.now = omega arith in
     ap (map bare) c.in_ok-push.ensures.items
     ∙ taken_more bare c.loop-statement.keyed.items _ c.args.indexed.now
