@@ -11,8 +11,9 @@ ghost use Rattle.rpsl_reader.specs.Selections.{wanted};
 
 use crate::found::{RefsAndNotes, in_line_order};
 use crate::limits::{LONGEST_DUMP, MOST};
+use crate::urls::Urls;
 use geo_addr::{List, Memory, Text};
-use geo_terms::{Dump, SourceFault, Texts};
+use geo_terms::{Dump, SourceFault};
 use rpsl_reader::{Progress, Reader, Selection};
 use std::alloc::Global;
 use std::marker::Model;
@@ -32,7 +33,7 @@ pub struct DumpReader {
     fed: usize,
     found: RefsAndNotes,
     // The URLs so far, which references share.
-    urls: Texts,
+    urls: Urls,
     fault: Option<SourceFault>,
 }
 
@@ -66,7 +67,7 @@ impl DumpReader {
             reader: Reader::new(alloc),
             fed: 0,
             found: RefsAndNotes::new(alloc),
-            urls: Texts::new(alloc),
+            urls: Urls::new(alloc),
             fault: None,
         })
     }
@@ -156,7 +157,7 @@ fn more_in_piece<'a>(
     selection: &Selection,
     reader: &Reader,
     piece: &'a [u8],
-    urls: &mut Texts,
+    urls: &mut Urls,
 ) -> Result<(Progress<'a>, RefsAndNotes), Memory>
     requires { reader.now.fed + length piece.now < 2 ^ 63 }
     ensures change { IfOk result (λ both. IsChange reader.now both.0) }
@@ -205,7 +206,7 @@ fn more_at_end(
     slot: &Text,
     selection: &Selection,
     reader: &Reader,
-    urls: &mut Texts,
+    urls: &mut Urls,
 ) -> Result<RefsAndNotes, Memory>
     ensures refs { IfOk result (λ more. more.refs.items
         ≡ references slot.now (wanted selection.now (last reader.now.state))) }

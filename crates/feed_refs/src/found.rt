@@ -5,8 +5,9 @@ ghost use Rattle.feed_refs.specs.Dumps.{references, references_of};
 ghost use Rattle.feed_refs.specs.References.{found_in_parts};
 
 use crate::reference::{What, found_of};
+use crate::urls::Urls;
 use geo_addr::{Memory, Text};
-use geo_terms::{LineNote, Reference, Texts};
+use geo_terms::{LineNote, Reference};
 use rpsl_reader::{AttributeSight, Sight, Sights};
 use std::alloc::Global;
 
@@ -35,7 +36,7 @@ impl RefsAndNotes {
         alloc: Global,
         slot: &Text,
         seen: &Sights,
-        urls: &mut Texts,
+        urls: &mut Urls,
     ) -> Result<RefsAndNotes, Memory>
         ensures refs { IfOk result
             (λ found. found.refs.items ≡ references slot.now seen.now.items) }
@@ -83,7 +84,7 @@ fn take_item(
     alloc: Global,
     slot: &Text,
     item: Sight,
-    urls: &mut Texts,
+    urls: &mut Urls,
     found: &mut RefsAndNotes,
 ) -> Result<(), Memory>
     ensures refs { OnOk result
@@ -105,7 +106,7 @@ fn take_object(
     alloc: Global,
     slot: &Text,
     parts: &[AttributeSight],
-    urls: &mut Texts,
+    urls: &mut Urls,
     found: &mut RefsAndNotes,
 ) -> Result<(), Memory>
     ensures refs { OnOk result (found.new.refs.items
@@ -114,32 +115,15 @@ fn take_object(
         (found.new.notes.items
         ≡ found.old.notes.items ++ (found_in_parts slot.now parts.now).notes) }
 {
-    let told = found_of(alloc, slot, parts)?;
+    let told = found_of(alloc, slot, parts, urls)?;
     let mut notes = told.notes.into_vec();
     found.notes.append(&mut notes)?;
     match told.what {
-        What::One(reference) => {
-            let reference = with_shared_url(reference, urls)?;
-            found.refs.push(reference).map_err(Memory::from)
-        }
+        What::One(reference) => found.refs.push(reference).map_err(Memory::from),
         What::NotInet => Ok(()),
         What::Nothing => Ok(()),
         What::Void => Ok(()),
     }
-}
-
-// The same reference, whose URL is the one that came before, if one did.
-fn with_shared_url(reference: Reference, urls: &mut Texts) -> Result<Reference, Memory>
-    ensures { IfOk result (λ shared. shared ≡ reference) }
-{
-    let url = urls.shared(reference.url.as_str())?;
-    Ok(Reference {
-        slot: reference.slot,
-        line: reference.line,
-        range: reference.range,
-        modified: reference.modified,
-        url,
-    })
 }
 
 /// Notes on distinct lines, in line order.

@@ -3,11 +3,12 @@ ghost use Rattle.std.specs.Prelude.{◌≡◌, ◌<◌, length, position, IfSome
 ghost use Rattle.std.specs.List.{list_any};
 ghost use Rattle.std.specs.Option.{option_copied};
 ghost use Rattle.geo_addr.specs.Lines.{is_blank};
+ghost use Rattle.geo_terms.specs.PlaceForm.{same_text};
 ghost use Rattle.feed_refs.specs.Kinds.{begins_blank, first_word, holds_word, is_geofeed};
 ghost use Rattle.feed_refs.specs.Kinds.{is_last_modified, is_of_kind, is_reference_remark};
 ghost use Rattle.feed_refs.specs.Kinds.{remark_url, url_text, used_kind};
 
-use geo_addr::{is_blank, trim_blanks};
+use geo_addr::{Text, is_blank, trim_blanks};
 use rpsl_reader::AttributeSight;
 
 /// The two kinds of references: `geofeed` attributes, and remarks of the form that stands for them.
@@ -58,20 +59,46 @@ pub(crate) fn url_text<'s>(kind: RefKind, attribute: &'s AttributeSight) -> &'s 
 fn is_geofeed(attribute: &AttributeSight) -> bool
     ensures { result ≡ is_geofeed attribute.now }
 {
-    attribute.name.as_str() == "geofeed"
+    is_name(&attribute.name, b"geofeed")
 }
 
 /// Whether an attribute is a remark that refers to a feed.
 pub(crate) fn is_reference_remark(attribute: &AttributeSight) -> bool
     ensures { result ≡ is_reference_remark attribute.now }
 {
-    attribute.name.as_str() == "remarks" && remark_url(attribute.value.as_slice()).is_some()
+    is_name(&attribute.name, b"remarks") && remark_url(attribute.value.as_slice()).is_some()
 }
 
 pub(crate) fn is_last_modified(attribute: &AttributeSight) -> bool
     ensures { result ≡ is_last_modified attribute.now }
 {
-    attribute.name.as_str() == "last-modified"
+    is_name(&attribute.name, b"last-modified")
+}
+
+/// Whether a name is this one.
+pub(crate) fn is_name(name: &Text, known: &[u8]) -> bool
+    ensures { result ≡ same_text name.now known.now }
+{
+    same_bytes(name.as_str().as_bytes(), known)
+}
+
+// Whether two names are one: most differ in their first byte, so that is looked at first.
+fn same_bytes(name: &[u8], known: &[u8]) -> bool
+    ensures { result ≡ same_text name.now known.now }
+{
+    let mut left = name;
+    let mut right = known;
+    while let [a, name @ ..] = left {
+        let [b, known @ ..] = right else {
+            return false;
+        };
+        if *a != *b {
+            return false;
+        }
+        left = name;
+        right = known;
+    }
+    right.is_empty()
 }
 
 // The URL text of a remark of the form `Geofeed https://..`.

@@ -9,6 +9,7 @@ pub mod laws;
 mod limits;
 mod modified;
 mod reference;
+mod urls;
 
 pub use dump::DumpReader;
 pub use feed_url::{UrlRead, read_url};

@@ -13,11 +13,12 @@ ghost use Rattle.geo_addr.specs.Prefixes.{block_in};
 ghost use Rattle.geo_addr.specs.Spans.{range_of_read, span_in};
 ghost use Rattle.feed_refs.specs.Used.{IsUsed};
 
-use crate::feed_url::{UrlRead, read_url};
+use crate::feed_url::UrlRead;
 use crate::kinds::{
-    RefKind, is_last_modified, is_of_kind, is_reference_remark, url_text, used_kind,
+    RefKind, is_last_modified, is_name, is_of_kind, is_reference_remark, url_text, used_kind,
 };
 use crate::modified::modified_in;
+use crate::urls::Urls;
 use geo_addr::{List, Memory, Range, Text, parse_block, parse_span, range_of};
 use geo_terms::{LineNote, Reference, Rule};
 use rpsl_reader::{AttributeSight, Object, parts_of};
@@ -61,14 +62,17 @@ pub fn reference_of(alloc: Global, slot: &str, object: &Object) -> Result<FoundR
 {
     let slot = Text::of(alloc, slot)?;
     let parts = parts_of(alloc, object.parts.as_slice())?;
-    found_of(alloc, &slot, parts.as_slice())
+    let mut urls = Urls::new(alloc);
+    found_of(alloc, &slot, parts.as_slice(), &mut urls)
 }
 
-/// The same, for a slot that is shared, of the attributes of an object.
+/// The same, for a slot that is shared, of the attributes of an object. URLs that came before are
+/// given again.
 pub(crate) fn found_of(
     alloc: Global,
     slot: &Text,
     parts: &[AttributeSight],
+    urls: &mut Urls,
 ) -> Result<FoundRef, Memory>
     ensures { IfOk result (λ told. told ≡ found_in_parts slot.now parts.now) }
 {
@@ -76,7 +80,7 @@ pub(crate) fn found_of(
         [first, ..] => match class_named(first) {
             Class::Other => Ok(without_notes(alloc, What::NotInet)),
             Class::Unread => unread(alloc, first.line),
-            Class::Inet(range) => found_in(alloc, slot, range, parts),
+            Class::Inet(range) => found_in(alloc, slot, range, parts, urls),
         },
         [] => Ok(without_notes(alloc, What::NotInet)),
     }
@@ -109,10 +113,9 @@ fn unread(alloc: Global, line: u64) -> Result<FoundRef, Memory>
 fn class_named(first: &AttributeSight) -> Class
     ensures { result ≡ class_named first.now }
 {
-    let name = first.name.as_str();
-    if name == "inetnum" {
+    if is_name(&first.name, b"inetnum") {
         v4_class(first.value.as_slice())
-    } else if name == "inet6num" {
+    } else if is_name(&first.name, b"inet6num") {
         v6_class(first.value.as_slice())
     } else {
         Class::Other
@@ -148,13 +151,14 @@ fn found_in(
     slot: &Text,
     range: Range,
     parts: &[AttributeSight],
+    urls: &mut Urls,
 ) -> Result<FoundRef, Memory>
     ensures { IfOk result (λ told. told ≡ found_in slot.now range parts.now) }
 {
     let kind = used_kind(parts);
     match used_among(kind, parts) {
         Used::Nobody => Ok(without_notes(alloc, What::Nothing)),
-        Used::One(only) => read_only(alloc, slot, range, parts, only),
+        Used::One(only) => read_only(alloc, slot, range, parts, only, urls),
         Used::Several => {
             let notes = notes_on(alloc, kind, Some(Rule::P04), parts)?;
             Ok(FoundRef {
@@ -203,12 +207,13 @@ fn read_only(
     range: Range,
     parts: &[AttributeSight],
     only: &AttributeSight,
+    urls: &mut Urls,
 ) -> Result<FoundRef, Memory>
     ensures { IfOk result (λ told. told ≡ found_by slot.now range parts.now only.now
         (url_read (url_text (used_kind parts.now) only.now))) }
 {
     let kind = used_kind(parts);
-    let (what, rule) = match read_url(alloc, url_text(kind, only))? {
+    let (what, rule) = match urls.read(url_text(kind, only))? {
         UrlRead::Refused => (What::Nothing, Some(Rule::P05)),
         UrlRead::OtherScheme => (What::Nothing, Some(Rule::P06)),
         UrlRead::Https(url) => {

@@ -1,7 +1,7 @@
 -- A name is ASCII, so it is a text; and a name that is found is the one that was sought.
 use Rattle.std.proofs.Common.{◌≡◌, ℕ, ◌<◌, Bool, true, false, ◌&&◌, List, [], ◌∷◌, length, IsTrue}
 use Rattle.std.proofs.Common.{suc, ap, sym, ◌∙◌, map, refl, arith, nat_eq, nat_le}
-use Rattle.std.proofs.Common.{◌≤◌, ◌||◌, All, get_or}
+use Rattle.std.proofs.Common.{◌≤◌, ◌||◌, All, get_or, not}
 use Rattle.std.proofs.lemmas.List.Elements.{All-head, All-tail}
 use Rattle.std.proofs.lemmas.Bool.Decides.{nat_tests}
 use Rattle.std.proofs.lemmas.Str.{IsUtf8-from_ascii}
@@ -13,7 +13,7 @@ use Rattle.std.specs.Str.{IsAscii, IsUtf8}
 use Rattle.geo_terms.specs.PlaceForm.{same_text}
 use Rattle.rpsl_reader.specs.declared.limits.TheConstants.{LONGEST_NAME}
 use Rattle.rpsl_reader.specs.Attributes.{is_name, is_name_byte}
-use Rattle.rpsl_reader.specs.Selections.{HasFirst, is_among}
+use Rattle.rpsl_reader.specs.Selections.{HasFirst, Wanted, is_among, wants_name}
 
 pub and_left : (a b : Bool) → (a && b) ≡ true → a ≡ true
 and_left true b e = refl
@@ -107,3 +107,16 @@ pub unwanted : (name : List ℕ) (names : List (List ℕ)) (begins : List Bool) 
 unwanted [] names begins long marked unmarked = absurd (omega arith)
 unwanted (b ∷ bs) names begins long marked unmarked =
     not_among (to_ascii_lowercase b) (map to_ascii_lowercase bs) names begins marked unmarked
+
+other_than : (t : Bool) → not t ≡ true → t ≡ false
+other_than true e = absurd (let f : false ≡ true = e in cc)
+other_than false e = refl
+
+-- nothing that begins with such a byte is wanted where not all is
+pub lacking : (w : Wanted) (first i : ℕ) (begins : List Bool) → w.everything ≡ false
+    → All (HasFirst begins) w.names → i ≡ first → not (get_or begins i false) ≡ true
+    → (rest : List ℕ) → wants_name w (first ∷ rest) ≡ false
+lacking w first i begins some marked is unmarked rest =
+    ap (λ t. t || is_among (first ∷ rest) w.names) some
+    ∙ not_among first rest w.names begins marked
+    (ap (λ k. get_or begins k false) (sym is) ∙ other_than (get_or begins i false) unmarked)

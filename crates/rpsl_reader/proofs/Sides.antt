@@ -3,20 +3,23 @@ use Rattle.std.proofs.Common.{◌≡◌, ℕ, suc, ◌+◌, ◌<◌, ◌==◌, B
 use Rattle.std.proofs.Common.{[], ◌∷◌, ◌++◌, length, take, drop, get_or, ◌-◌, ◌≤◌, ◌≢◌, map, IsTrue}
 use Rattle.std.proofs.Common.{Option, Some, None, refl, sym, ap, subst, ◌∙◌, arith, nat_le, inl}
 use Rattle.std.proofs.Common.{inr}
-use Rattle.std.proofs.lemmas.Bool.{cases_lt, lt-ltb, ne_eqb, or_parts}
+use Rattle.std.proofs.Common.{add-zero, length-drop, nat_eq, zero}
+use Rattle.std.proofs.lemmas.Bool.{cases_lt, le-leb, lt-ltb, ne_eqb, or_parts}
 use Rattle.std.proofs.lemmas.Bool.Decides.{nat_tests}
-use Rattle.std.proofs.lemmas.List.{take-append-drop, take_all}
+use Rattle.std.proofs.lemmas.List.{get_or-drop, length-take-le, take-append-drop, take_all}
 use Rattle.std.proofs.lemmas.List.Sums.{prefix_len-le-length}
 use Rattle.std.proofs.lemmas.Option.{none-some}
 use Rattle.std.specs.Bool.{⊤}
-use Rattle.std.specs.Char.{is_ascii_alphabetic, to_ascii_lowercase}
+use Rattle.std.specs.Char.{is_ascii_alphabetic, is_ascii_lowercase, to_ascii_lowercase}
 use Rattle.std.specs.List.{list_all, list_any, position, position_or_len}
 use Rattle.geo_addr.specs.Prefixes.{cut_first}
+use Rattle.rpsl_reader.proofs.Lanes.{ends_at_colon}
 use Rattle.rpsl_reader.proofs.Names.{and_left, and_right}
 use Rattle.rpsl_reader.specs.declared.limits.TheConstants.{LONGEST_NAME}
 use Rattle.rpsl_reader.specs.Attributes.{HasSides, Numbered, behind, continued, continues}
 use Rattle.rpsl_reader.specs.Attributes.{is_attribute, is_name, is_name_byte, is_named, joined}
 use Rattle.rpsl_reader.specs.Attributes.{may_begin, name_of, said_of, value_of}
+use Rattle.rpsl_reader.specs.Selections.{Wanted, wants_name}
 
 -- where the first byte stands that may not stand in a name
 abbrev end_of : List ℕ → ℕ
@@ -225,6 +228,20 @@ named_rest line name rest n d at front is some colon begins =
     (has_sides line (take (length rest - 1) (drop 1 rest)) (sym (is ∙ ap (λ k. drop k line) at)
     ∙ colon_is rest d some colon) (ap may_begin (sym same) ∙ begins))
 
+letter_of : (b : ℕ) → is_ascii_lowercase b ≡ true → is_ascii_alphabetic b ≡ true
+letter_of b h = grind (arith, nat_tests)
+
+-- a letter and up to 15 bytes more may begin a line
+plain_begins : (line : List ℕ) (n : ℕ) → n < length line → n ≤ 16 → get_or line n 0 ≡ 58
+    → is_ascii_alphabetic (get_or line 0 0) ≡ true → may_begin (take n line) ≡ true
+plain_begins [] n inside few colon letter = absurd (omega arith)
+plain_begins (b ∷ bs) zero inside few colon letter =
+    let f : false ≡ true = grind (arith, nat_tests) in
+    absurd cc
+plain_begins (b ∷ bs) (suc n) inside few colon letter =
+    ap (λ t. t && nat_le (length (take n bs)) LONGEST_NAME) letter
+    ∙ le-leb (length (take n bs)) LONGEST_NAME (omega (arith, length-take-le n bs (omega arith)))
+
 -- a line that continues an attribute begins none
 pub continues_none : (line : List ℕ) → continues line ≡ true → is_attribute line ≡ false
 unfolding is_attribute
@@ -233,6 +250,35 @@ continues_none (b ∷ bs) h =
     let stops : is_name_byte b ≡ false = grind (arith, nat_tests) in
     let bare : (b == 58) ≡ false = grind (arith, nat_tests) in
     none_is (cut_first 58 (b ∷ bs)) (none_named [] (b ∷ bs) refl stops bare)
+
+-- a small letter, then bytes of a name up to a colon
+pub plain_line : (line : List ℕ) (n : ℕ) (small : Bool) → n < length line → n ≤ 16
+    → ((k : ℕ) → k < n → is_name_byte (get_or line k 0) ≡ true)
+    → nat_eq (get_or line n 0) 58 ≡ true → small ≡ is_ascii_lowercase (get_or line 0 0)
+    → small ≡ true → is_attribute line ≡ true
+plain_line line n small inside few named colon is low =
+    let stop : get_or line n 0 ≡ 58 = grind (arith, nat_tests) in
+    let letter : is_ascii_alphabetic (get_or line 0 0) ≡ true =
+    letter_of (get_or line 0 0) (sym is ∙ low) in
+    (named_rest line (take n line) (drop n line) n 0 (ends_at_colon line n inside named stop) refl
+    refl (omega (arith, length-drop n line))
+    (get_or-drop n line 0 0 ∙ ap (λ i. get_or line i 0) (add-zero n) ∙ stop)
+    (plain_begins line n inside few stop letter)).begins
+
+-- the name that a line begins with begins with its first letter
+pub passed_name : (w : Wanted) (line : List ℕ) → 1 ≤ length line
+    → is_ascii_lowercase (get_or line 0 0) ≡ true
+    → ((rest : List ℕ) → wants_name w (get_or line 0 0 ∷ rest) ≡ false)
+    → wants_name w (name_of line) ≡ false
+passed_name w [] some small lacks = absurd (omega arith)
+passed_name w (b ∷ bs) some small lacks =
+    let other : (b == 58) ≡ false = grind (arith, nat_tests) in
+    let lower : to_ascii_lowercase b ≡ b = grind (arith, nat_tests) in
+    let cut : Bool → List ℕ × Option (List ℕ) =
+    λ t. cond t ([], Some bs) (b ∷ (cut_first 58 bs).0, (cut_first 58 bs).1) in
+    ap (λ t. wants_name w (map to_ascii_lowercase (cut t).0)) other
+    ∙ ap (λ k. wants_name w (k ∷ map to_ascii_lowercase (cut_first 58 bs).0)) lower
+    ∙ lacks (map to_ascii_lowercase (cut_first 58 bs).0)
 
 -- what the sides of a line say of it: its name is one, and they are those of its attribute
 pub sides_named : (line name value : List ℕ) → HasSides line name value → IsTrue (is_name name)

@@ -1,11 +1,11 @@
 //! The attributes that the lines of an object make.
 ghost use Rattle.std.specs.Prelude.{◌≡◌, ◌≤◌, ◌∷◌, ◌++◌, [], false, not, length, map, IfOk, OnOk};
-ghost use Rattle.std.specs.Prelude.{IsTrue, MatchOption, filter};
+ghost use Rattle.std.specs.Prelude.{IsTrue, MatchOption, filter, true};
 ghost use Rattle.std.specs.Char.{to_ascii_lowercase};
 ghost use Rattle.std.specs.List.{list_any, position, position_or_len};
 ghost use Rattle.rpsl_reader.specs.Attributes.{HasSides, attribute, attribute_in, attributes};
 ghost use Rattle.rpsl_reader.specs.Attributes.{continued, is_attribute, is_name, is_name_byte};
-ghost use Rattle.rpsl_reader.specs.Attributes.{is_stray, may_begin, said_of};
+ghost use Rattle.rpsl_reader.specs.Attributes.{is_stray, may_begin, name_of, said_of};
 ghost use Rattle.rpsl_reader.specs.Selections.{wants_name};
 
 use crate::front::{TOGETHER, lacks_hash, plain_front};
@@ -78,11 +78,37 @@ fn is_name_byte(byte: u8) -> bool
     byte.is_ascii_alphanumeric() || byte == b'-' || byte == b'_'
 }
 
+// Whether a line begins an attribute by its first bytes: a small letter, and then others, digits
+// and hyphens up to a colon.
+#[inline(always)]
+fn is_plain(line: &[u8]) -> bool
+    ensures { result ≡ true → is_attribute line.now ≡ true }
+{
+    if line.len() < TOGETHER || !line[0].is_ascii_lowercase() {
+        return false;
+    }
+    let end = plain_front(line);
+    end < line.len() && line[end] == b':'
+}
+
+// Whether a line begins an attribute by its first bytes, and its first letter is that of no wanted
+// name.
+#[inline(always)]
+fn is_passed(selection: &Selection, line: &[u8]) -> bool
+    ensures attribute { result ≡ true → is_attribute line.now ≡ true }
+    ensures unwanted { result ≡ true → wants_name selection.now (name_of line.now) ≡ false }
+{
+    match line {
+        [first, ..] => { first.is_ascii_lowercase() && selection.lacks(*first) && is_plain(line) }
+        [] => false,
+    }
+}
+
 /// Whether a line neither begins an attribute nor continues one.
 pub(crate) fn is_stray(line: &[u8]) -> bool
     ensures { result ≡ is_stray line.now }
 {
-    !continues(line) && sides_of(line).is_none()
+    !is_plain(line) && !continues(line) && sides_of(line).is_none()
 }
 
 /// A name in lower case.
@@ -128,6 +154,9 @@ fn continue_value(value: &mut Said, lines: &[GroupLine]) -> Result<(), Memory>
 {
     let mut left = lines;
     while let [line, rest @ ..] = left {
+        if is_plain(line.text) {
+            return Ok(());
+        }
         if continues(line.text) {
             value.join(said_of(without_first(line.text)))?;
         } else if sides_of(line.text).is_some() {
@@ -173,6 +202,9 @@ fn push_line<'a>(
         ++ filter (λ a. wants_name selection.now a.name) (attribute_in line.now lines.now)) }
     ensures stray { IfOk result (λ stray. stray ≡ is_stray line.now.1) }
 {
+    if is_passed(selection, line.text) {
+        return Ok(false);
+    }
     match sides_of(line.text) {
         Some(sides) => {
             push_attribute(alloc, selection, line, sides, lines, parts)?;

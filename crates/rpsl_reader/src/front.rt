@@ -70,19 +70,35 @@ pub(crate) fn feed_among(text: &[u8]) -> usize
     ensures free { (k : ℕ) → k < result → slice_index text.now k ≢ 10 }
     ensures feed { result < WIDE → slice_index text.now result ≡ 10 }
 {
-    let found = feeds(u8x64::from_slice(text));
+    let near = near_feed(text);
+    if near < HALF {
+        return near;
+    }
+    let (_, behind) = text.split_at(HALF);
+    HALF + near_feed(behind)
+}
+
+// The same among the first 32 bytes of a text, or 32.
+#[inline(always)]
+fn near_feed(text: &[u8]) -> usize
+    requires { HALF ≤ length text.now }
+    ensures within { result ≤ HALF }
+    ensures free { (k : ℕ) → k < result → slice_index text.now k ≢ 10 }
+    ensures feed { result < HALF → slice_index text.now result ≡ 10 }
+{
+    let found = feeds(u8x32::from_slice(text));
     if found == 0 {
-        return WIDE;
+        return HALF;
     }
     found.trailing_zeros() as usize
 }
 
 // A bit for each lane that is a line feed, the first one's lowest.
 #[inline(always)]
-fn feeds(bytes: u8x64) -> u64
+fn feeds(bytes: u8x32) -> u64
     ensures { result ≡ mask_l (map (λ b. b == 10) bytes) }
 {
-    bytes.simd_eq(u8x64::splat(b'\n')).to_bitmask()
+    bytes.simd_eq(u8x32::splat(b'\n')).to_bitmask()
 }
 
 /// How many bytes are looked at together in a text that is not short.

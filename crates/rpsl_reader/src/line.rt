@@ -1,5 +1,6 @@
 //! The lines of a text, and what kind each is.
-ghost use Rattle.std.specs.Prelude.{◌≡◌, ◌≢◌, ◌∷◌, ◌++◌, All, IfOk, MatchOption, drop};
+ghost use Rattle.std.specs.Prelude.{◌≡◌, ◌≢◌, ◌∷◌, ◌++◌, All, IfOk, MatchOption, drop, false};
+ghost use Rattle.std.specs.Prelude.{true};
 ghost use Rattle.std.specs.Str.Lines.{strip_carriage_return};
 ghost use Rattle.std.specs.Option.{option_copied};
 ghost use Rattle.geo_addr.specs.Prefixes.{cut_first};
@@ -76,7 +77,20 @@ pub(crate) fn is_comment(line: &[u8]) -> bool
 pub(crate) fn is_end(line: &[u8]) -> bool
     ensures { result ≡ is_end line.now }
 {
+    if begins_plain(line) {
+        return false;
+    }
     line.iter().all(|byte| is_blank(*byte))
+}
+
+// Whether a line begins with a byte behind the blanks and the signs of comments: most do.
+fn begins_plain(line: &[u8]) -> bool
+    ensures { result ≡ true → is_end line.now ≡ false }
+{
+    match line {
+        [first, ..] => *first > b'%',
+        [] => false,
+    }
 }
 
 /// Whether a line goes on with the attribute before it.

@@ -1,6 +1,6 @@
 //! What a reader is asked for.
 ghost use Rattle.std.specs.Prelude.{◌≡◌, ◌∷◌, ◌++◌, [], true, false, map, IfOk, OnOk, OnErr};
-ghost use Rattle.std.specs.Prelude.{IsTrue, Some, None, if◌then◌else◌};
+ghost use Rattle.std.specs.Prelude.{IsTrue, List, Some, None, if◌then◌else◌, ℕ};
 ghost use Rattle.std.specs.Char.{to_ascii_lowercase};
 ghost use Rattle.std.specs.Option.{option_copied};
 ghost use Rattle.geo_terms.specs.PlaceForm.{same_text};
@@ -112,6 +112,13 @@ impl Selection {
             return Ok(None);
         }
         copy_of(find(self.names.as_slice(), name))
+    }
+
+    /// Whether no wanted name begins with a letter.
+    pub(crate) fn lacks(&self, first: u8) -> bool
+        ensures { result ≡ true → (rest : List ℕ) → wants_name self.now (first ∷ rest) ≡ false }
+    {
+        !self.everything && !self.begins[usize::from(first)]
     }
 
     // Whether a wanted name begins with the letter that a name begins with.

@@ -3,4 +3,4 @@ use Rattle.std.proofs.lemmas.Simd.{bitmask_splat}
 use Rattle.rpsl_reader.proofs.front.feeds.Goals as goal
 
 pub returns : goal.returns
-returns c = bitmask_splat w8 eqb c.args.bytes 64 10 c.fits-bytes.0 (omega arith)
+returns c = bitmask_splat w8 eqb c.args.bytes 32 10 c.fits-bytes.0 (omega arith)
