@@ -14,6 +14,7 @@ const LONGEST_KNOWN: usize = 256;
 
 /// The least slots where any tail is known, and the most.
 const LEAST_SLOTS: usize = 1_024;
+
 const MOST_SLOTS: usize = 65_536;
 
 /// A tail with bytes of its own, and the place that each line with this tail says.

@@ -42,14 +42,7 @@ impl<'a, 'b> Work<LinePart<'a>, Gathered> for PartReading<'b> {
         // Room that is not used costs nothing, and a list that grows leaves what it had.
         let entries = most_entries(item.text.len());
         let faults = most_faults(item.text.len());
-        match read_lines(
-            self.alloc,
-            *item,
-            self.known,
-            entries,
-            faults,
-            usize::MAX,
-        ) {
+        match read_lines(self.alloc, *item, self.known, entries, faults, usize::MAX) {
             Ok(found) => Ok(found),
             Err(_) => Err(Memory),
         }

@@ -231,8 +231,8 @@ fn parsed_all<R: Threads + Sync, G: Gate>(
     ensures related { IfOk result (λ parsed. AllZip Parses held.now parsed.items) }
 {
     let (run, rest) = first_run(held);
-    let parsed = parsed_run(forks, run, known)?;
-    let parsed = learned_from(forks.alloc, parsed, known)?;
+    let run = parsed_run(forks, run, known)?;
+    let parsed = learned_from(forks.alloc, run, known)?;
     if rest.is_empty() {
         return Ok(parsed);
     }
@@ -314,13 +314,7 @@ fn parsed_long<R: Threads + Sync, G: Gate>(
     ensures related { IfOk result (λ parsed. AllZip Parses (held.now ∷ []) parsed.items) }
 {
     let mut learned = Vec::new(forks.alloc);
-    let feed = ready_long(
-        forks,
-        held.url,
-        held.bytes.as_slice(),
-        known,
-        &mut learned,
-    );
+    let feed = ready_long(forks, held.url, held.bytes.as_slice(), known, &mut learned);
     let mut parsed = Vec::new(forks.alloc);
     parsed.push(Parsed { feed, learned })?;
     Ok(parsed)
