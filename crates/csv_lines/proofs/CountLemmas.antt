@@ -116,4 +116,5 @@ alone_counted rs counts all k one =
     all.pairs i j d less within (ap (slot (length counts)) (sym at_i ∙ at_j)) in
     let here : 2 ≤ count_at counts k =
     subst (λ (r : Ends). 2 ≤ count_at counts r) (sym at_i) two in
-    let clash : true ≡ false = sym (lt-ltb 1 (count_at counts k) (omega (arith, here))) ∙ one in cc))
+    let clash : true ≡ false =
+    sym (lt-ltb 1 (count_at counts k) (omega (arith, here))) ∙ one in cc))

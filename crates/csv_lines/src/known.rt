@@ -13,7 +13,7 @@ use std::mem;
 const LONGEST_KNOWN: usize = 256;
 
 /// The least slots where any tail is known, and the most.
-const LEAST_SLOTS: usize = 1_024;
+const LEAST_SLOTS: usize = 4_096;
 
 const MOST_SLOTS: usize = 65_536;
 
@@ -66,8 +66,8 @@ impl OwnTail {
 /// that others do, and all lines with one tail share one place.
 ///
 /// Which tails it holds changes no answer. A tail has two slots, that of its mark and the one
-/// beside it; one that comes when both are taken puts out the older one there. So strangers can make
-/// lines be read by their fields, and no more.
+/// beside it, and one that comes when both are taken puts the older one out. So strangers can have
+/// lines read by their fields, and no more.
 #[derive(Debug, Drop)]
 pub struct KnownTails {
     slots: Vec<Option<OwnTail>>,

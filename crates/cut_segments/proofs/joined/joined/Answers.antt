@@ -9,7 +9,8 @@ use Rattle.geo_addr.specs.Ranges.{Ends, ground_first, holds}
 use Rattle.source_changes.specs.Touched.{is_touched}
 use Rattle.cut_segments.specs.Segments.{BeginIn, starts_in}
 use Rattle.cut_segments.proofs.JoinedLemmas.{and_or, begin_more, begins_at, below_more, one_at_most}
-use Rattle.cut_segments.proofs.JoinedLemmas.{IsJoined, part_begins, passed_more, taken_more, with_one}
+use Rattle.cut_segments.proofs.JoinedLemmas.{IsJoined, part_begins, passed_more, taken_more}
+use Rattle.cut_segments.proofs.JoinedLemmas.{with_one}
 use Rattle.cut_segments.proofs.joined.joined.Goals as goal
 use Rattle.cut_segments.proofs.joined.joined.Goals.{in-Some-growing+in_ok-push, in_default-growing}
 

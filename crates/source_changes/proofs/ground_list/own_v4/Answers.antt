@@ -9,4 +9,5 @@ returns c a inside =
     ap (λ (r : Ends). r.first) c.range.view_is in
     let high : c.range.inside.last ≡ c.args.range.last =
     ap (λ (r : Ends). r.last) c.range.view_is in
-    v4_holds c.args.range a (sym c.is_v4.ensures ∙ c.if-not-is_v4.false) (omega (arith, inside.0, low)) (omega (arith, inside.1, high))
+    v4_holds c.args.range a (sym c.is_v4.ensures ∙ c.if-not-is_v4.false)
+    (omega (arith, inside.0, low)) (omega (arith, inside.1, high))
