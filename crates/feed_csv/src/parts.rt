@@ -42,7 +42,9 @@ impl<'a, 'b> Work<LinePart<'a>, Gathered> for PartReading<'b> {
         // Room that is not used costs nothing, and a list that grows leaves what it had.
         let entries = most_entries(item.text.len());
         let faults = most_faults(item.text.len());
-        match read_lines(self.alloc, *item, self.known, entries, faults, usize::MAX) {
+        let none = KnownTails::new(self.alloc);
+        let known = if is_long(item) { &none } else { self.known };
+        match read_lines(self.alloc, *item, known, entries, faults, usize::MAX) {
             Ok(found) => Ok(found),
             Err(_) => Err(Memory),
         }
@@ -78,6 +80,12 @@ pub fn read_feed_by_parts<R: Threads + Sync, G: Gate>(
     }
     let feed = feed_of(forks.alloc, url, all)?;
     Ok(feed)
+}
+
+// Whether a part is so long that most of its tails come often. It then has places of its own, since
+// each copy of a place is counted, which is slow where other threads count it too.
+fn is_long(part: &LinePart) -> bool {
+    part.text.len() > LONG_PART / 4
 }
 
 // After how many bytes a part of a feed of `size` bytes ends, so that each piece has as many parts.
