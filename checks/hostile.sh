@@ -3,7 +3,8 @@
 # honest ones of as many lines and texts of the same lengths: they take no more than three times as
 # much time of the processor, which leaves room for a busy machine, nor half as much memory again.
 # With g++ they have 100,000 lines, or as many as LINES says, which checks/hostile/hostile.cpp
-# makes; without it 10,000, of which the searched words stand in checks/hostile/words.gz.
+# makes; without it 10,000, of which the searched words stand in checks/hostile/words.gz, and no
+# addresses of one slot.
 set -u
 cd "$(dirname "${BASH_SOURCE[0]}")/.." || exit 1
 maker=$PWD/checks/hostile
@@ -16,6 +17,7 @@ fi
 lines=${LINES:-100000}
 if needs g++ g++; then
     g++ -O2 -o made "$maker/hostile.cpp" || fail "the generator is not compiled"
+    families+=(slots)
 else
     lines=10000
     gzip -dc "$maker/words.gz" > words || fail "checks/hostile/words.gz is not read"

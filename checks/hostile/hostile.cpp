@@ -6,6 +6,7 @@
 //   hostile words COUNT | gzip -9n > checks/hostile/words.gz
 //
 // ranges  prefixes of one hash, falling
+// slots   addresses that are counted in one of the slots in which lines of one range are looked for
 // places  places of one mark, whose cities begin with the same 24 letters
 // texts   cities of one mark, so that their places have one too
 // packed  cities whose spellings in a data section have one hash
@@ -157,6 +158,21 @@ static void put_ranges(u64 count, bool honest) {
         printf("%s:1:%x:%x:1/128,DE,,Berlin,\n", front, n >> 16, n & 0xffff);
 }
 
+// The slot of an address is the upper part of its double times the golden ratio; so what stands in
+// the first slot is found by the inverse of that.
+static void put_slots(u64 count, bool honest) {
+    const u128 ratio = (u128)0x9e3779b97f4a7c15 << 64 | 0xf39cc0605cedc835;
+    u128 inverse = 1;
+    for (int turn = 0; turn < 7; turn++) inverse *= 2 - ratio * inverse;
+    const u128 step = (~(u128)0 / (32 * count + 1) / count) & ~(u128)1;
+    for (u64 n = 1; n <= count; n++) {
+        u128 address = (step * n + 2) * (honest ? ratio : inverse) >> 1;
+        for (int part = 7; part >= 0; part--)
+            printf("%x%s", (unsigned)(address >> 16 * part) & 0xffff, part > 0 ? ":" : "");
+        printf("/128,DE,,Berlin,\n");
+    }
+}
+
 static void put_city(unsigned n, const string &city, const char *quote = "") {
     printf("11.%u.%u.%u/32,DE,,%s%s%s,\n", n >> 16, n >> 8 & 255, n & 255, quote,
            city.c_str(), quote);
@@ -175,6 +191,7 @@ int main(int count_of_words, char **words) {
     bool honest = count_of_words > 3;
     if (family == "words") return put_words(count), 0;
     if (family == "ranges") return put_ranges(count, honest), 0;
+    if (family == "slots") return put_slots(count, honest), 0;
     size_t length = family == "places" ? 32 : family == "packed" ? 30 : 16;
     string front;
     strings turns;
