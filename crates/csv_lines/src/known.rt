@@ -12,9 +12,10 @@ use std::mem;
 /// The longest tail that is known to later files, in bytes. Few are longer.
 const LONGEST_KNOWN: usize = 256;
 
-/// The least slots where any tail is known, and the most.
+/// How many slots there are once a tail is known.
 const LEAST_SLOTS: usize = 4_096;
 
+/// How many slots there are at most.
 const MOST_SLOTS: usize = 65_536;
 
 /// A tail with bytes of its own, and the place that each line with this tail says.
@@ -113,7 +114,7 @@ impl KnownTails {
         }
     }
 
-    /// Takes tails in that came new in a file.
+    /// Takes tails in that came new in a file. Whether it holds each from then on, no clause says.
     pub fn learn(&mut self, tails: Vec<OwnTail>) -> Result<(), Memory> {
         for tail in tails {
             self.make_room()?;
@@ -163,9 +164,8 @@ impl KnownTails {
     }
 }
 
-// Puts a tail into a slot; gives what was there, if it was another one.
+// Puts a tail into a slot, and gives what was there.
 fn put_in(slots: &mut Vec<Option<OwnTail>>, slot: usize, tail: OwnTail) -> Option<OwnTail> {
-    let place = slots.get_mut(slot)?;
-    let before = mem::replace(place, Some(tail))?;
-    Some(before)
+    let held = slots.get_mut(slot)?;
+    mem::replace(held, Some(tail))
 }

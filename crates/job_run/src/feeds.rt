@@ -258,7 +258,7 @@ fn first_run<'a, 'b>(held: &'b [Held<'a>]) -> (&'b [Held<'a>], &'b [Held<'a>])
     held.split_at(short.max(1).min(held.len()))
 }
 
-/// What those that were parsed are, of whose tails all are known from then on.
+/// What those that were parsed are, whose new tails are handed to those that come later.
 fn learned_from(
     alloc: Global,
     parsed: Vec<Parsed>,
