@@ -53,6 +53,8 @@ impl Others {
     }
 
     /// The number of the pair in the list, where it is no first one.
+    // Not inlined, so that what finds a first pair stays short.
+    #[inline(never)]
     pub(crate) fn find(&self, pairs: &[Pair], firsts: &[u32], pair: Pair) -> Option<u32>
         requires found { AreFound pairs.now firsts.now self.now.slots.items self.now.crowded }
         requires no_first { (k : ℕ) → slice_get pairs.now k ≡ Some pair
@@ -75,6 +77,7 @@ impl Others {
     }
 
     /// Puts the number of a new pair, which follows those in the list.
+    #[inline(never)]
     pub(crate) fn put(
         &mut self,
         pairs: &[Pair],

@@ -157,16 +157,15 @@ fn settled(rec: Rec, first: u128, last: u128, parts: &mut &[Part]) -> Option<Rec
     let Some(part) = parts.first() else {
         return Some(rec);
     };
-    let part = *part;
-    let range = part.range;
-    if last < range.first {
+    if last < part.range.first {
         return Some(rec);
     }
-    if range.first <= first && last <= range.last {
-        if range.last == last {
-            *parts = parts.split_at(1).1;
-        }
-        return Some(Rec::Leaf(part.leaf));
+    if first < part.range.first || part.range.last < last {
+        return None;
     }
-    None
+    let leaf = part.leaf;
+    if part.range.last == last {
+        *parts = parts.split_at(1).1;
+    }
+    Some(Rec::Leaf(leaf))
 }

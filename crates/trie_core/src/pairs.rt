@@ -1,5 +1,5 @@
 //! The pairs of a store's nodes, each found by the later of its two children.
-ghost use Rattle.std.specs.Prelude.{◌≡◌, ◌+◌, ◌-◌, ◌^◌, ◌<◌, ◌++◌, ◌∷◌, [], ◌↔◌};
+ghost use Rattle.std.specs.Prelude.{◌≡◌, ◌+◌, ◌-◌, ◌^◌, ◌<◌, ◌≤◌, ◌++◌, ◌∷◌, [], ◌↔◌};
 ghost use Rattle.std.specs.Prelude.{length, replicate, slice_get, Some, Contains, MatchOption};
 ghost use Rattle.std.specs.Prelude.{IfOk, OnOk, OnErr, IsErrOf};
 ghost use Rattle.trie_core.specs.Pairs.{number_or_zero, later, AreFound};
@@ -14,6 +14,9 @@ use std::marker::Model;
 
 /// The most nodes that a store holds: one less than there are node numbers.
 const MOST_NODES: usize = 0xffff_ffff;
+
+/// The most slots that are made before a node needs them.
+const MOST_SPARE_SLOTS: usize = 4096;
 
 /// The pairs of a store in the order in which they came, each once.
 ///
@@ -72,6 +75,7 @@ impl Pairs {
     }
 
     /// The number of the pair, which goes last where it is not yet there.
+    #[inline(always)]
     pub(crate) fn add(&mut self, pair: Pair) -> Result<u32, StoreFault>
         ensures at { IfOk result (λ k. slice_get self.new k ≡ Some pair) }
         ensures ok { IfOk result (λ k. IsAdded self.old self.new pair) }
@@ -94,6 +98,7 @@ impl Pairs {
     }
 
     // The number of the pair, if it is there.
+    #[inline(always)]
     fn find(&self, pair: Pair) -> Option<u32>
         ensures found { MatchOption result (Contains self.now pair → ⊥)
             (λ k. slice_get self.now k ≡ Some pair) }
@@ -108,6 +113,7 @@ impl Pairs {
     }
 
     // Puts a new pair last, and gives its number.
+    #[inline(always)]
     fn push(&mut self, pair: Pair) -> Result<u32, Memory>
         requires few { length self.old + 1 < 2 ^ 32 }
         requires new { Contains self.old pair → ⊥ }
@@ -125,6 +131,7 @@ impl Pairs {
 }
 
 // Puts the number of a new pair at the slot of its later child, or among the others.
+#[inline(always)]
 fn note_number(
     firsts: &mut Vec<u32>,
     others: &mut Others,
@@ -159,10 +166,24 @@ fn make_room(list: &mut Vec<u32>, index: usize) -> Result<(), Memory>
     ensures within { OnOk result (index < length list.new.items) }
     ensures err { OnErr result (list.new.items ≡ list.old.items) }
 {
-    let len = index + 1;
-    if list.len() < len {
-        list.resize(len, 0)?;
+    if index < list.len() {
+        return Ok(());
     }
+    lengthen(list, index)
+}
+
+// Puts zeros behind the list, and some spare ones, so that most new nodes find their slot there.
+#[inline(never)]
+fn lengthen(list: &mut Vec<u32>, index: usize) -> Result<(), Memory>
+    requires small { index < 2 ^ 33 }
+    requires beyond { length list.old.items ≤ index }
+    ensures zeros { list.new.items
+        ≡ list.old.items ++ replicate (length list.new.items - length list.old.items) 0 }
+    ensures within { OnOk result (index < length list.new.items) }
+    ensures err { OnErr result (list.new.items ≡ list.old.items) }
+{
+    let spare = (index / 4).min(MOST_SPARE_SLOTS);
+    list.resize(index + 1 + spare, 0)?;
     Ok(())
 }
 

@@ -60,6 +60,7 @@ impl Store {
 
     /// The record of a node with these children, or the leaf where both are that leaf.
     /// It ticks once.
+    #[inline(always)]
     pub fn mk<L: Ledger>(
         &mut self,
         left: Rec,
