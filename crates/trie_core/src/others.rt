@@ -53,8 +53,7 @@ impl Others {
     }
 
     /// The number of the pair in the list, where it is no first one.
-    // Not inlined, so that what finds a first pair stays short.
-    #[inline(never)]
+    #[inline(always)]
     pub(crate) fn find(&self, pairs: &[Pair], firsts: &[u32], pair: Pair) -> Option<u32>
         requires found { AreFound pairs.now firsts.now self.now.slots.items self.now.crowded }
         requires no_first { (k : ℕ) → slice_get pairs.now k ≡ Some pair
@@ -111,7 +110,11 @@ impl Others {
             self.room -= 1;
             return Ok(());
         }
-        let more = self.slots.len() + FIRST_SLOTS;
+        let more = self
+            .slots
+            .len()
+            .saturating_mul(3)
+            .saturating_add(FIRST_SLOTS);
         let Some(len) = self.slots.len().checked_add(more) else {
             return Err(Memory);
         };
@@ -130,9 +133,10 @@ pub(crate) fn at_slot(pairs: &[Pair], slots: &[u32], at: usize, pair: Pair) -> T
     let Some(first) = slots.get(at) else {
         return Told::Missing;
     };
-    let Some(number) = first.checked_sub(1) else {
+    if *first == 0 {
         return Told::Missing;
-    };
+    }
+    let number = *first - 1;
     let Some(held) = pairs.get(number as usize) else {
         return Told::Unknown;
     };
@@ -142,7 +146,9 @@ pub(crate) fn at_slot(pairs: &[Pair], slots: &[u32], at: usize, pair: Pair) -> T
     Told::Unknown
 }
 
-// What the slots of its window tell of the pair.
+// What the slots of its window tell of the pair. Not inlined, so that what finds a first pair stays
+// short.
+#[inline(never)]
 fn in_window(pairs: &[Pair], slots: &[u32], pair: Pair) -> Told
     requires { 8 ≤ length slots.now }
     ensures held { (k : ℕ) → result ≡ Told.Held k → slice_get pairs.now k ≡ Some pair }

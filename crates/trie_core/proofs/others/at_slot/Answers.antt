@@ -9,12 +9,11 @@ returns-in_default-clause-held c = λ k told. absurd (missing_not_held k told)
 pub returns-in_default-clause-unknown : goal.returns-in_default-clause-unknown
 returns-in_default-clause-unknown c = λ told. absurd (missing_not_unknown told)
 
-pub returns-in_default-checked_sub-clause-held : goal.returns-in_default-checked_sub-clause-held
-returns-in_default-checked_sub-clause-held c = λ k told. absurd (missing_not_held k told)
+pub returns-then-first-eq0-clause-held : goal.returns-then-first-eq0-clause-held
+returns-then-first-eq0-clause-held c = λ k told. absurd (missing_not_held k told)
 
-pub returns-in_default-checked_sub-clause-unknown
-    : goal.returns-in_default-checked_sub-clause-unknown
-returns-in_default-checked_sub-clause-unknown c = λ told. absurd (missing_not_unknown told)
+pub returns-then-first-eq0-clause-unknown : goal.returns-then-first-eq0-clause-unknown
+returns-then-first-eq0-clause-unknown c = λ told. absurd (missing_not_unknown told)
 
 pub returns-in_default-get-clause-held : goal.returns-in_default-get-clause-held
 returns-in_default-get-clause-held c = λ k told. absurd (unknown_not_held k told)
