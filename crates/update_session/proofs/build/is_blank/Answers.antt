@@ -1,0 +1,1 @@
+-- The root of no record is the one leaf.
