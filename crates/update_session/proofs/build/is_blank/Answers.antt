@@ -1,1 +1,0 @@
--- The root of no record is the one leaf.
