@@ -18,6 +18,7 @@ use Rattle.cut_segments.specs.Segments.{AreSegments, BeginIn, starts_in, starts_
 use Rattle.source_changes.specs.CutPoints.{whole}
 use Rattle.source_changes.specs.Touched.{is_touched}
 use Rattle.precedence.specs.Chunks.{AreChunks, AreSegmentsIn, BeginAt, IsLimit, IsMark, Tiles}
+use Rattle.precedence.specs.Chunks.{none_spared}
 use Rattle.precedence.proofs.SourceLemmas.{steady}
 
 -- one chunk more, from where the last one ended
@@ -120,12 +121,12 @@ module _ (touched grounds : List Ends) (chunk : Ends) (same : (a : ℕ)
       → BeginIn (starts_in touched chunk) grounds
       → AreSegments grounds points out
       → All (λ r. Contains (starts_of grounds points) r.first) out
-      → AreSegmentsIn s touched chunk out
+      → AreSegmentsIn s touched none_spared chunk out
   segments_of_chunk s bounds points out exact covered begins segments begun = record {
     ranges = segments.ranges;
     apart = segments.apart;
     inside = λ a is. in_chunk a (segments.inside a is);
-    covered = λ a is within. segments.covered a (of_chunk a is within);
+    covered = λ a is within. inl (segments.covered a (of_chunk a is within));
     steady = steady s grounds bounds points exact covered out segments;
     begun = All-weaker (λ (r : Ends). Contains (starts_of grounds points) r.first)
         (λ (r : Ends). Contains (starts_in touched chunk) r.first

@@ -30,16 +30,28 @@ pub record AreChunks (s : InForce) (touched chunks : List Ends) : Type 0 where
   pub tiles : Tiles 0 chunks (2 ^ 128)
   pub begun : All (λ r. (r.first ≡ 0) ⊎ IsMark s touched r.first) chunks
 
--- ascending ranges that have the touched addresses of a chunk and no others; of all of each the
--- same is said; and each begins where a ground does in the chunk, or at a cut point of the sources
-pub record AreSegmentsIn (s : InForce) (touched : List Ends) (chunk : Ends) (out : List Ends)
-    : Type 0 where
+-- ascending ranges that have the touched addresses of a chunk, but those that are spared, and no
+-- others; of all of each the same is said; and each begins where a ground does in the chunk, or at a
+-- cut point of the sources
+pub record AreSegmentsIn (s : InForce) (touched : List Ends) (spared : ℕ → Type 0) (chunk : Ends)
+    (out : List Ends) : Type 0 where
   pub ranges : All IsRange out
   pub apart : AllAdjacentBelow (λ r t. r.last < t.first) out (length out)
   pub inside : (a : ℕ) → Any (λ r. IsWithin r a) out
       → IsTrue (is_touched touched a) × IsWithin chunk a
   pub covered : (a : ℕ) → IsTrue (is_touched touched a) → IsWithin chunk a
-      → Any (λ r. IsWithin r a) out
+      → Any (λ r. IsWithin r a) out ⊎ spared a
   pub steady : All (λ r. (a : ℕ) → IsWithin r a → spoken_at s a ≡ spoken_at s r.first) out
   pub begun : All (λ r. Contains (starts_in touched chunk) r.first
       ⊎ IsCut (statement_ranges s) r.first) out
+
+-- no address
+abbrev pub none_spared : ℕ → Type 0
+none_spared a = ⊥
+
+-- a chunk in neighbouring ranges, of all of each of which the same is said; each but the first
+-- begins at a cut point of the sources
+pub record ArePieces (s : InForce) (chunk : Ends) (out : List Ends) : Type 0 where
+  pub tiles : Tiles chunk.first out (chunk.last + 1)
+  pub steady : All (λ r. (a : ℕ) → IsWithin r a → spoken_at s a ≡ spoken_at s r.first) out
+  pub begun : All (λ r. (r.first ≡ chunk.first) ⊎ IsCut (statement_ranges s) r.first) out

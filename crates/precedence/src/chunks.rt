@@ -1,6 +1,8 @@
 //! Where the address space is cut into chunks.
-ghost use Rattle.std.specs.Prelude.{◌≡◌, ◌<◌, ◌^◌, ◌⊎◌, All, Contains, IfOk, ℕ, map};
-ghost use Rattle.geo_addr.specs.Ranges.{ground_first};
+ghost use Rattle.std.specs.Prelude.{◌≡◌, ◌+◌, ◌++◌, ◌∷◌, [], ◌<◌, ◌≤◌, ◌^◌, ◌⊎◌, All, Contains};
+ghost use Rattle.std.specs.Prelude.{IfOk, OnOk, ℕ, map};
+ghost use Rattle.std.specs.List.Sorted.{IsNonDecreasing};
+ghost use Rattle.geo_addr.specs.Ranges.{Ends, IsWithin, ground_first};
 ghost use Rattle.precedence.specs.Chunks.{BeginAt, IsLimit, Tiles};
 
 use geo_addr::{Memory, Range};
@@ -48,6 +50,43 @@ pub(crate) fn chunks_at(alloc: Global, limits: &[u128], pieces: u32) -> Result<V
         last: u128::MAX,
     })?;
     Ok(chunks)
+}
+
+/// A chunk, cut at ascending points that lie inside it.
+pub(crate) fn pieces_at(alloc: Global, points: &[u128], chunk: Range) -> Result<Vec<Range>, Memory>
+    requires ascending { IsNonDecreasing points.now }
+    requires within { All (IsWithin chunk) points.now }
+    ensures tiles { IfOk result (λ pieces. Tiles chunk.first pieces.items (chunk.last + 1)) }
+    ensures begun { IfOk result
+        (λ pieces. All (λ r. (r.first ≡ chunk.first) ⊎ Contains points.now r.first) pieces.items) }
+    ensures uncut { IfOk result (λ pieces. (c : ℕ) → Contains points.now c
+        → All (λ r. r.first < c → r.last < c) pieces.items) }
+{
+    let mut pieces = Vec::with_capacity(alloc, points.len() + 1)?;
+    let mut first = chunk.first;
+    for point in points {
+        first = cut_before(&mut pieces, first, *point)?;
+    }
+    let last = chunk.last;
+    pieces.push(Range { first, last })?;
+    Ok(pieces)
+}
+
+// Adds the piece that ends before a point, if there is one, and tells where the next one begins.
+fn cut_before(pieces: &mut Vec<Range>, first: u128, point: u128) -> Result<u128, Memory>
+    requires { first ≤ point }
+    ensures next { IfOk result (λ next. next ≡ point) }
+    ensures tiles { OnOk result
+        ((low : ℕ) → Tiles low pieces.old.items first → Tiles low pieces.new.items point) }
+    ensures added { OnOk result ((pieces.new.items ≡ pieces.old.items)
+        ⊎ ((r : Ends) × (pieces.new.items ≡ pieces.old.items ++ r ∷ []) × (r.first ≡ first)
+        × (r.last + 1 ≡ point))) }
+{
+    if first < point {
+        let last = point - 1;
+        pieces.push(Range { first, last })?;
+    }
+    Ok(point)
 }
 
 // Adds the chunk up to a limit, if that lies ahead, and tells where the next one begins.

@@ -4,7 +4,7 @@ ghost use Rattle.std.specs.Option.{option_copied};
 ghost use Rattle.geo_terms.specs.Precedence.{said_place};
 
 use crate::aliases::{push_dump_aliases, push_feed_aliases, push_file_aliases};
-use crate::chunks::{begins_of, chunks_at};
+use crate::chunks::{begins_of, chunks_at, pieces_at};
 use crate::delegations::Delegations;
 use crate::near::Near;
 use crate::notes::{push_dump_notes, push_feed_notes, push_file_notes};
@@ -53,7 +53,7 @@ impl Model for Sources {
 }
 
 impl Sources {
-    ghost use Rattle.std.specs.Prelude.{◌≡◌, ◌++◌, ◌<◌, [], ℕ, List, Some, None, length, map};
+    ghost use Rattle.std.specs.Prelude.{◌≡◌, ◌++◌, ◌<◌, ◌^◌, [], ℕ, List, Some, None, length, map};
     ghost use Rattle.std.specs.Prelude.{is_some, option_map, All, Any, IfOk, IfErr, IsTrue};
     ghost use Rattle.std.specs.Prelude.{OnOk, OnErr};
     ghost use Rattle.std.specs.Arc.{arc_value};
@@ -75,7 +75,7 @@ impl Sources {
     ghost use Rattle.source_changes.specs.Changes.{after, named};
     ghost use Rattle.source_changes.specs.CutPoints.{AreCutsOf, whole};
     ghost use Rattle.cut_segments.specs.CutPoints.{AreCutsInside};
-    ghost use Rattle.precedence.specs.Chunks.{AreChunks, AreSegmentsIn};
+    ghost use Rattle.precedence.specs.Chunks.{AreChunks, ArePieces, AreSegmentsIn, none_spared};
     ghost use Rattle.precedence.specs.CutPoints.{IsConstantBetween};
     ghost use Rattle.precedence.specs.Delegations.{IsIndex};
     ghost use Rattle.source_changes.specs.Touched.{is_touched};
@@ -487,13 +487,38 @@ impl Sources {
     /// The segments of a chunk: those of the touched addresses that it has.
     pub fn segments_in(&self, touched: &GroundList, chunk: Range) -> Result<Vec<Range>, Memory>
         ensures { IfOk result
-            (λ segments. AreSegmentsIn self.now touched.now chunk segments.items) }
+            (λ segments. AreSegmentsIn self.now touched.now none_spared chunk segments.items) }
     {
         let grounds = grounds_in(self.alloc, touched, chunk)?;
         let bounds = self.bounds_in(touched, grounds.as_slice(), chunk)?;
         let points = self.points_in(bounds.as_slice())?;
         let segments = segments_of(self.alloc, grounds.as_slice(), points.as_slice())?;
         Ok(segments)
+    }
+
+    /// A chunk, cut at the cut points of all sources that it has.
+    pub fn pieces_in(&self, chunk: Range) -> Result<Vec<Range>, Memory>
+        ensures pieces { IfOk result (λ pieces. ArePieces self.now chunk pieces.items) }
+        ensures within { chunk.last < 2 ^ 128 }
+    {
+        let Range { first, last } = chunk;
+        let points = self.points_in(&[Range { first, last }])?;
+        let pieces = pieces_at(self.alloc, points.as_slice(), chunk)?;
+        Ok(pieces)
+    }
+
+    /// Whether of no address of a range anything is said.
+    pub fn is_silent_in(&self, range: Range) -> Result<bool, Memory>
+        ensures { IfOk result
+            (λ silent. IsTrue silent → (a : ℕ) → IsWithin range a → spoken_at self.now a ≡ None) }
+    {
+        let pieces = self.pieces_in(range)?;
+        for piece in &pieces {
+            if self.choice(*piece).is_some() {
+                return Ok(false);
+            }
+        }
+        Ok(true)
     }
 
     /// The same sources once more: each of them and each index is shared,

@@ -1,10 +1,10 @@
 -- The blocks that carry IPv4 addresses, by their bits.
 use Rattle.std.proofs.Common.{◌≡◌, ℕ, ◌+◌, ◌-◌, ◌*◌, ◌/◌, ◌%◌, ◌^◌, ◌<◌, ◌≤◌, Bool, true, false}
-use Rattle.std.proofs.Common.{◌||◌, cond, List, Option, refl, sym, ap, ◌∙◌, subst, arith}
+use Rattle.std.proofs.Common.{◌||◌, cond, List, Option, None, refl, sym, ap, ◌∙◌, subst, arith}
 use Rattle.std.specs.Prelude.{Result, Ok, Err, IfOk}
 use Rattle.std.proofs.lemmas.Bool.Decides.{nat_tests}
 use Rattle.geo_addr.specs.Bits.{bits_of}
-use Rattle.geo_addr.specs.Ranges.{Prefix, IsWithin, range_of_block}
+use Rattle.geo_addr.specs.Ranges.{Ends, Prefix, IsWithin, range_of_block}
 use Rattle.geo_addr.proofs.BitsLemmas.{length-bits_of, bits_of-add_multiple}
 use Rattle.geo_terms.specs.Alias.{home, is_alias, is_mapped, is_six_to_four}
 use Rattle.geo_terms.specs.PlaceForm.{PlaceParts}
@@ -119,6 +119,24 @@ six_look t a low =
     ∙ ap (look t) (bits_of-low 32 (a / 2 ^ 80))
 
 -- after both grafts each address has the leaf of its home
+-- nothing is said of an address of either block, where nothing is said in both
+pub silent_in_both : (s : InForce) (mapped six : Ends) → mapped ≡ range_of_block mapped_block
+    → six ≡ range_of_block six_to_four_block
+    → ((a : ℕ) → IsWithin mapped a → spoken_at s a ≡ None)
+    → ((a : ℕ) → IsWithin six a → spoken_at s a ≡ None)
+    → (a : ℕ) → is_alias a ≡ true → spoken_at s a ≡ None
+unfolding is_alias
+silent_in_both s mapped six of_mapped of_six none_mapped none_six a is =
+    by (is_six_to_four a) (is_mapped a) refl refl
+  where
+    by : (x y : Bool) → is_six_to_four a ≡ x → is_mapped a ≡ y → spoken_at s a ≡ None
+    by true y six_is mapped_is =
+        none_six a (subst (λ (r : Ends). IsWithin r a) (sym of_six) (six_within a six_is))
+    by false true six_is mapped_is =
+        none_mapped a (subst (λ (r : Ends). IsWithin r a) (sym of_mapped) (mapped_within a mapped_is))
+    by false false six_is mapped_is =
+        absurd (let e : true ≡ false = sym is ∙ own_is_none a six_is mapped_is in cc)
+
 pub leaf_of_home : (old mid new : List Pair) (root mapped both : Root) (v4 : Rec) (a : ℕ)
     → IsOf old v4 → IsKept old mid → height (meaning old v4) + 96 ≤ 128
     → ((b : ℕ) → IsWithin (range_of_block v4_block) b

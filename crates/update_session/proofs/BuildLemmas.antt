@@ -1,5 +1,5 @@
 -- What a root answers while chunks of segments are painted on it, and after all were.
-use Rattle.std.proofs.Common.{◌≡◌, ℕ, zero, suc, ◌+◌, ◌*◌, ◌^◌, ◌<◌, ◌≤◌, Bool, true, false, cond}
+use Rattle.std.proofs.Common.{◌≡◌, ℕ, zero, suc, ◌+◌, ◌*◌, ◌^◌, ◌<◌, ◌≤◌, ◌⊎◌, Bool, true, false, cond}
 use Rattle.std.proofs.Common.{◌&&◌, leb, eqb, List, [], ◌∷◌, ◌++◌, length, map, get_or}
 use Rattle.std.proofs.Common.{Option, Some, None, inl, inr, refl, sym, ap, ◌∙◌, subst, arith}
 use Rattle.std.proofs.Common.{length-append, append_assoc, append-nil, MatchOption}
@@ -24,7 +24,8 @@ use Rattle.trie_core.specs.declared.node.Root.{Root}
 use Rattle.trie_core.specs.declared.paint.Part.{Part}
 use Rattle.trie_core.specs.Paint.{IsAscending, leaf_in, over}
 use Rattle.trie_core.specs.Store.{leaf_at}
-use Rattle.update_session.specs.Build.{AreChosen, IsChosenIn, StandFor, said_in, segments_of}
+use Rattle.update_session.specs.Build.{AreChosen, IsChosenIn, IsSpared, StandFor, said_in}
+use Rattle.update_session.specs.Build.{segments_of}
 use Rattle.update_session.specs.Touch.{bound, few_places, touch}
 use Rattle.update_session.specs.Kept.{Answers, AnswersSpoken, GrowsBy}
 use Rattle.update_session.specs.declared.choosing.Chosen.{Chosen}
@@ -187,16 +188,16 @@ pub record IsPaintedSoFar (s : InForce) (done : List Ends) (old : List Pair) (be
       → leaf_at new root a ≡ leaf_at old before a
 
 -- the segments of one chunk more; the parts are those that were made of them
-pub painted_more : (s : InForce) (touched : List Ends) (chunk : Ends) (before : List Chosen)
-    (one : Chosen) (made parts : List Part) (old mid new : List Pair)
+pub painted_more : (s : InForce) (touched : List Ends) (blank : Bool) (chunk : Ends)
+    (before : List Chosen) (one : Chosen) (made parts : List Part) (old mid new : List Pair)
     (places more : List PlaceParts) (n : ℕ) (first root painted : Root)
     → IsPaintedSoFar s (flat_map segments_of before) old first mid places root
-    → IsChosenIn s touched chunk one → GrowsBy places more n → parts ≡ made
+    → IsChosenIn s touched blank chunk one → GrowsBy places more n → parts ≡ made
     → map (λ p. p.range) made ≡ one.segments.items
     → StandFor more (map (λ p. p.leaf) made) (said_in one)
     → ((a : ℕ) → a < 2 ^ 128 → leaf_at new painted a ≡ over (leaf_in parts a) (leaf_at mid root a))
     → IsPaintedSoFar s (flat_map segments_of (before ++ one ∷ [])) old first new more painted
-painted_more s touched chunk before one made parts old mid new places more n first root painted
+painted_more s touched blank chunk before one made parts old mid new places more n first root painted
     so_far chosen grown same made_ranges made_stand lookups =
     subst (λ (rs : List Ends). IsPaintedSoFar s rs old first new more painted) (sym longer)
     (record {
@@ -258,29 +259,60 @@ painted_more s touched chunk before one made parts old mid new places more n fir
     beside a below none (Some k) is h =
         absurd (none (any_right (λ r. IsWithin r a) done segments h.0))
 
+-- an address lies in a range of a list, or in none
+have_or_not : (rs : List Ends) (a : ℕ) → Have rs a ⊎ (Have rs a → ⊥)
+have_or_not [] a = inr (λ (k, r, below, is, within). omega (arith, below))
+have_or_not (r ∷ rs) a =
+    elim (have_or_not rs a) [
+      | inl any ↦ inl (any_right (λ x. IsWithin x a) (r ∷ []) rs any)
+      | inr none ↦ by none (leb r.first a && leb a r.last) refl
+    ]
+  where
+    by : (Have rs a → ⊥) → (b : Bool) → (leb r.first a && leb a r.last) ≡ b
+        → Have (r ∷ rs) a ⊎ (Have (r ∷ rs) a → ⊥)
+    by none true inside =
+        inl (any_left (λ x. IsWithin x a) (r ∷ []) rs
+        (any_one (λ x. IsWithin x a) r (grind (arith, nat_tests), grind (arith, nat_tests))))
+    by none false outside =
+        inr (λ any. elim (any_cases (λ x. IsWithin x a) (r ∷ []) rs any) [
+          | inl here ↦
+              let within : IsWithin r a = one_any (λ x. IsWithin x a) r here in
+              let low : r.first ≤ a = within.0 in
+              let high : a ≤ r.last = within.1 in grind (arith, nat_tests)
+          | inr there ↦ none there
+        ])
+
 -- the root on which the segments of all chunks were painted answers what is said,
 -- outside the blocks that carry IPv4 addresses
-pub AnswersSpoken-painted : (s : InForce) (touched : List Ends) (chosen : List Chosen)
-    (old new : List Pair) (before after : List PlaceParts) (n : ℕ) (root painted : Root)
-    → AreChosen s touched chosen
+pub AnswersSpoken-painted : (s : InForce) (touched : List Ends) (blank : Bool)
+    (chosen : List Chosen) (old new : List Pair) (before after : List PlaceParts) (n : ℕ)
+    (root painted : Root) → AreChosen s touched blank chosen
     → IsPaintedSoFar s (flat_map segments_of chosen) old root new after painted
     → GrowsBy before after n
     → ((a : ℕ) → a < 2 ^ 128 → is_alias a ≡ false → is_touched touched a ≡ false
     → Answers old before root (spoken_at s a) a)
+    → ((a : ℕ) → a < 2 ^ 128 → IsSpared s blank a → Answers old before root (spoken_at s a) a)
     → AnswersSpoken new after painted s
-AnswersSpoken-painted s touched chosen old new before after n root painted are so_far grown
-    elsewhere a below own = by (is_touched touched a) refl
+AnswersSpoken-painted s touched blank chosen old new before after n root painted are so_far grown
+    elsewhere spared a below own =
+    elim (have_or_not (flat_map segments_of chosen) a) [
+      | inl any ↦ so_far.within a below any
+      | inr none ↦
+          let was = Answers-grown old before after n root (spoken_at s a) a grown
+          (by none (is_touched touched a) refl) in
+          record {
+            leaf = was.leaf;
+            is = so_far.outside a below none ∙ was.is;
+            few = was.few;
+            place = was.place;
+          }
+    ]
   where
-    by : (b : Bool) → is_touched touched a ≡ b → Answers new after painted (spoken_at s a) a
-    by true is = so_far.within a below (are.covered a below is)
-    by false is =
-        let none : Have (flat_map segments_of chosen) a → ⊥ = λ any.
-        (let e : true ≡ false = sym (are.inside a any) ∙ is in cc) in
-        let was = Answers-grown old before after n root (spoken_at s a) a grown
-        (elsewhere a below own is) in
-        record {
-          leaf = was.leaf;
-          is = so_far.outside a below none ∙ was.is;
-          few = was.few;
-          place = was.place;
-        }
+    by : (Have (flat_map segments_of chosen) a → ⊥) → (b : Bool) → is_touched touched a ≡ b
+        → Answers old before root (spoken_at s a) a
+    by none true is =
+        elim (are.covered a below is) [
+          | inl any ↦ absurd (none any)
+          | inr lies ↦ spared a below lies
+        ]
+    by none false is = elsewhere a below own is

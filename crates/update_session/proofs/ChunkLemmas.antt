@@ -2,7 +2,7 @@
 use Rattle.std.proofs.Common.{◌≡◌, ℕ, suc, ◌+◌, ◌^◌, ◌<◌, ◌≤◌, ◌⊎◌, max, List, []}
 use Rattle.std.proofs.Common.{◌∷◌, ◌++◌, length, map, map-id, get_or, take, Contains, sum_by, sym}
 use Rattle.std.proofs.Common.{Option, Some, None, ap, ◌∙◌, subst, inl, inr, arith, eqb}
-use Rattle.std.proofs.Common.{length-append}
+use Rattle.std.proofs.Common.{Bool, length-append}
 use Rattle.std.specs.List.{All, Any, AllAdjacentBelow, AllByRecursion, AllZip, filter, flat_map}
 use Rattle.std.specs.Iterator.{Yields}
 use Rattle.std.specs.Prelude.{IsTrue}
@@ -26,7 +26,7 @@ use Rattle.cut_segments.specs.Segments.{starts_in}
 use Rattle.least_nodes.proofs.Elements.{In-each_once-new}
 use Rattle.precedence.specs.Chunks.{AreChunks, IsMark, Tiles}
 use Rattle.source_changes.specs.Touched.{is_touched}
-use Rattle.update_session.specs.Build.{AreChosen, IsChosenIn, segments_of}
+use Rattle.update_session.specs.Build.{AreChosen, IsChosenIn, IsSpared, segments_of}
 use Rattle.update_session.specs.Touch.{edges, touch}
 use Rattle.update_session.specs.declared.choosing.Chosen.{Chosen}
 use Rattle.update_session.proofs.TouchLemmas.{among_edges, among_from_in, different_are_few}
@@ -34,7 +34,7 @@ use Rattle.update_session.proofs.TouchLemmas.{in_from_among}
 
 -- ---- ascending ranges behind ascending ranges
 
-ascending_weaker : (low high : ℕ) (rs : List Ends) → low ≤ high → Ascending high rs
+pub ascending_weaker : (low high : ℕ) (rs : List Ends) → low ≤ high → Ascending high rs
     → Ascending low rs
 ascending_weaker low high [] le h = tt
 ascending_weaker low high (r ∷ rs) le h = (omega (arith, h.0), h.1, h.2)
@@ -99,9 +99,9 @@ ends_within out are =
       (here.0, get_or out k d, here.1, here.2, (le, omega arith)),
     ))
 
-module _ (s : InForce) (touched : List Ends) where
+module _ (s : InForce) (touched : List Ends) (blank : Bool) where
   any_flat : (a : ℕ) (chunks : List Ends) (chosen : List Chosen)
-      → AllZip (λ chunk one. IsChosenIn s touched chunk one) chunks chosen
+      → AllZip (λ chunk one. IsChosenIn s touched blank chunk one) chunks chosen
       → Any (λ r. IsWithin r a) (flat_map segments_of chosen) → IsTrue (is_touched touched a)
   any_flat a [] [] h is = absurd (omega (arith, is.2))
   any_flat a [] (c ∷ cs) h is = absurd h
@@ -113,24 +113,30 @@ module _ (s : InForce) (touched : List Ends) where
       ]
 
   flat_any : (a low high : ℕ) (chunks : List Ends) (chosen : List Chosen) → Tiles low chunks high
-      → AllZip (λ chunk one. IsChosenIn s touched chunk one) chunks chosen
+      → AllZip (λ chunk one. IsChosenIn s touched blank chunk one) chunks chosen
       → low ≤ a → a < high → IsTrue (is_touched touched a)
-      → Any (λ r. IsWithin r a) (flat_map segments_of chosen)
+      → Any (λ r. IsWithin r a) (flat_map segments_of chosen) ⊎ IsSpared s blank a
   flat_any a low high [] [] tiles h le lt is = absurd (omega (arith, tiles))
   flat_any a low high [] (c ∷ cs) tiles h le lt is = absurd h
   flat_any a low high (r ∷ rs) [] tiles h le lt is = absurd h
   flat_any a low high (r ∷ rs) (c ∷ cs) tiles h le lt is =
       elim (cases_lt r.last a) [
         | inl later ↦
-            any_right (λ (x : Ends). IsWithin x a) (segments_of c) (flat_map segments_of cs)
-            (flat_any a (r.last + 1) high rs cs tiles.2 h.1 (omega (arith, later)) lt is)
+            elim (flat_any a (r.last + 1) high rs cs tiles.2 h.1 (omega (arith, later)) lt is) [
+              | inl any ↦ inl (any_right (λ (x : Ends). IsWithin x a) (segments_of c)
+                  (flat_map segments_of cs) any)
+              | inr spared ↦ inr spared
+            ]
         | inr here ↦
-            any_left (λ (x : Ends). IsWithin x a) (segments_of c) (flat_map segments_of cs)
-            (h.0.cut.covered a is (omega (arith, tiles.0, le), here))
+            elim (h.0.cut.covered a is (omega (arith, tiles.0, le), here)) [
+              | inl any ↦ inl (any_left (λ (x : Ends). IsWithin x a) (segments_of c)
+                  (flat_map segments_of cs) any)
+              | inr spared ↦ inr spared
+            ]
       ]
 
   flat_ascends : (low high : ℕ) (chunks : List Ends) (chosen : List Chosen) → Tiles low chunks high
-      → AllZip (λ chunk one. IsChosenIn s touched chunk one) chunks chosen
+      → AllZip (λ chunk one. IsChosenIn s touched blank chunk one) chunks chosen
       → Ascending low (flat_map segments_of chosen)
   flat_ascends low high [] [] tiles h = tt
   flat_ascends low high [] (c ∷ cs) tiles h = absurd h
@@ -228,7 +234,7 @@ module _ (s : InForce) (touched : List Ends) where
       by (inr (inr cut)) (inr is) =
           cut_mark c on (subst (IsCut (statement_ranges s)) (sym is.0) cut)
 
-  begun_in : (chunk : Ends) (one : Chosen) → Begun chunk → IsChosenIn s touched chunk one
+  begun_in : (chunk : Ends) (one : Chosen) → Begun chunk → IsChosenIn s touched blank chunk one
       → All (λ r. Among r.first marks) (segments_of one)
   begun_in chunk one begun h k d below =
       let out = segments_of one in
@@ -240,7 +246,7 @@ module _ (s : InForce) (touched : List Ends) where
       segment_begins chunk r.first begun on (h.cut.begun k d below)
 
   all_begun : (chunks : List Ends) (chosen : List Chosen) → AllByRecursion Begun chunks
-      → AllZip (λ chunk one. IsChosenIn s touched chunk one) chunks chosen
+      → AllZip (λ chunk one. IsChosenIn s touched blank chunk one) chunks chosen
       → All (λ r. Among r.first marks) (flat_map segments_of chosen)
   all_begun [] [] begun h = All-from_recursion (λ r. Among r.first marks) [] tt
   all_begun [] (c ∷ cs) begun h = absurd h
@@ -268,10 +274,10 @@ module _ (s : InForce) (touched : List Ends) where
   -- ---- what all chunks say
 
   abbrev InChunk : Chosen → Type 0
-  InChunk one = (chunk : Ends) × IsChosenIn s touched chunk one
+  InChunk one = (chunk : Ends) × IsChosenIn s touched blank chunk one
 
   each_in : (chunks : List Ends) (chosen : List Chosen)
-      → AllZip (λ chunk one. IsChosenIn s touched chunk one) chunks chosen
+      → AllZip (λ chunk one. IsChosenIn s touched blank chunk one) chunks chosen
       → AllByRecursion InChunk chosen
   each_in [] [] h = tt
   each_in [] (c ∷ cs) h = absurd h
@@ -294,8 +300,8 @@ module _ (s : InForce) (touched : List Ends) where
   -- what is said in all chunks of the address space
   pub AreChosen-made : (chunks chunks' : List Ends) (chosen : List Chosen)
       → AreChunks s touched chunks → chunks' ≡ chunks
-      → AllZip (λ chunk one. IsChosenIn s touched chunk one) chunks' chosen
-      → AreChosen s touched chosen
+      → AllZip (λ chunk one. IsChosenIn s touched blank chunk one) chunks' chosen
+      → AreChosen s touched blank chosen
   AreChosen-made chunks chunks' chosen whole same h =
       let are = subst (AreChunks s touched) (sym same) whole in
       let out = flat_map segments_of chosen in
@@ -328,10 +334,10 @@ module _ (s : InForce) (touched : List Ends) where
 
 -- a chunk that a loop comes to behind others: with these it has no more segments than the touch,
 -- and no more places
-pub record IsNext (s : InForce) (touched : List Ends) (before : List Chosen) (one : Chosen)
-    : Type 0 where
+pub record IsNext (s : InForce) (touched : List Ends) (blank : Bool) (before : List Chosen)
+    (one : Chosen) : Type 0 where
   pub chunk : Ends
-  pub is : IsChosenIn s touched chunk one
+  pub is : IsChosenIn s touched blank chunk one
   pub segments : sum_by (λ c. length c.segments.items) before + length one.segments.items
       ≤ touch touched (statement_ranges s)
   pub places : sum_by (λ c. length c.places) before + length one.places
@@ -350,18 +356,18 @@ so_far_within f chosen before i one same below is =
     )
 
 pub next_in : {S : Type 0} {steps : S → Option Chosen → S → Type 0} {start : S} (ready s : InForce)
-    (touched : List Ends) (chosen before : List Chosen) (now after : S) (given : Option Chosen)
-    (one : Chosen) → ready ≡ s → AreChosen ready touched chosen
+    (touched : List Ends) (blank : Bool) (chosen before : List Chosen) (now after : S)
+    (given : Option Chosen) (one : Chosen) → ready ≡ s → AreChosen ready touched blank chosen
     → YieldsList steps (λ c. c) start chosen → Yields steps start before now
-    → given ≡ Some one → steps now given after → IsNext s touched before one
-next_in ready s touched chosen before now after given one same_sources are_ready yields so_far is
-    step =
-    let are = subst (λ (t : InForce). AreChosen t touched chosen) same_sources are_ready in
+    → given ≡ Some one → steps now given after → IsNext s touched blank before one
+next_in ready s touched blank chosen before now after given one same_sources are_ready yields
+    so_far is step =
+    let are = subst (λ (t : InForce). AreChosen t touched blank chosen) same_sources are_ready in
     let turn = YieldsList-turn yields before now so_far given after one is step in
     let i = length before in
     let same : before ≡ take i chosen =
     sym (map-id before) ∙ YieldsList-so_far yields before now so_far in
-    let this = subst (λ (c : Chosen). (chunk : Ends) × IsChosenIn s touched chunk c) (sym turn.1)
+    let this = subst (λ (c : Chosen). (chunk : Ends) × IsChosenIn s touched blank chunk c) (sym turn.1)
     (are.each i one turn.0) in
     record {
       chunk = this.0;
@@ -380,11 +386,12 @@ next_in ready s touched chosen before now after given one same_sources are_ready
 
 -- where the loop ends it came to all of them
 pub all_in : {S : Type 0} {steps : S → Option Chosen → S → Type 0} {start : S} (ready s : InForce)
-    (touched : List Ends) (chosen before : List Chosen) (now after : S) (given : Option Chosen)
-    → ready ≡ s → AreChosen ready touched chosen
+    (touched : List Ends) (blank : Bool) (chosen before : List Chosen) (now after : S)
+    (given : Option Chosen) → ready ≡ s → AreChosen ready touched blank chosen
     → YieldsList steps (λ c. c) start chosen → Yields steps start before now
-    → given ≡ None → steps now given after → AreChosen s touched before
-all_in ready s touched chosen before now after given same_sources are_ready yields so_far is step =
-    subst (AreChosen s touched)
+    → given ≡ None → steps now given after → AreChosen s touched blank before
+all_in ready s touched blank chosen before now after given same_sources are_ready yields so_far is
+    step =
+    subst (AreChosen s touched blank)
     (sym (YieldsList-end yields before now so_far given after is step).0 ∙ map-id before)
-    (subst (λ (t : InForce). AreChosen t touched chosen) same_sources are_ready)
+    (subst (λ (t : InForce). AreChosen t touched blank chosen) same_sources are_ready)

@@ -1,4 +1,5 @@
 pub mod AliasLemmas
+pub mod BlankLemmas
 pub mod BuildLemmas
 pub mod ChangeLemmas
 pub mod ChunkLemmas

@@ -111,6 +111,16 @@ StandFor-renamed places local names (leaf ∷ leaves) h known =
 
 -- ---- one member more
 
+-- a number behind the others, for what is said behind the rest
+pub StandFor-push : (before after : List PlaceParts) (n : ℕ) (leaves more : List ℕ)
+    (said : List (Option PlaceParts)) (leaf : ℕ) (x : Option PlaceParts) → GrowsBy before after n
+    → StandFor before leaves said → leaf ≤ length after → place_at after leaf ≡ x
+    → more ≡ leaves ++ leaf ∷ [] → StandFor after more (said ++ x ∷ [])
+StandFor-push before after n leaves more said leaf x grown h few is pushed =
+    subst (λ (ls : List ℕ). StandFor after ls (said ++ x ∷ [])) (sym pushed)
+    (StandFor-both after leaves (leaf ∷ []) said (x ∷ [])
+    (StandFor-grown before after n leaves said grown h) (StandFor-one after leaf x few is))
+
 -- one number more, for one more thing that is said
 pub StandFor-more : (before after : List PlaceParts) (n : ℕ) (leaves more : List ℕ)
     (said : List (Option PlaceParts)) (i leaf : ℕ) (x : Option PlaceParts) → GrowsBy before after n
@@ -121,12 +131,8 @@ StandFor-more before after n leaves more said i leaf x grown h few is below at p
     let longer : take (i + 1) said ≡ take i said ++ x ∷ [] =
     ap (λ n. take n said) (add-one i) ∙ take-suc said i x below
     ∙ ap (λ y. take i said ++ y ∷ []) (sym at) in
-    let both = StandFor-both after leaves (leaf ∷ []) (take i said) (x ∷ [])
-    (StandFor-grown before after n leaves (take i said) grown h)
-    (StandFor-one after leaf x few is) in
-    subst (λ (ls : List ℕ). StandFor after ls (take (i + 1) said)) (sym pushed)
-    (subst (λ (xs : List (Option PlaceParts)). StandFor after (leaves ++ leaf ∷ []) xs)
-    (sym longer) both)
+    subst (StandFor after more) (sym longer)
+    (StandFor-push before after n leaves more (take i said) leaf x grown h few is pushed)
 
 -- what a function gives for a member stands where the member does
 pub mapped_at : {A B : Type 0} (f : A → B) (xs : List A) (i : ℕ) (x : A) → x ≡ get_or xs i x

@@ -1,7 +1,8 @@
 -- How the tree is painted anew: the touched grounds are cut, each segment gets its place's number,
 -- and the segments are painted, one chunk's after another's.
-use Rattle.std.specs.Prelude.{◌≡◌, ℕ, ◌^◌, ◌<◌, ◌≤◌, IsTrue, List, length, map, flat_map, sum_by}
-use Rattle.std.specs.Prelude.{All, Any, Option, zero, suc, get_or}
+use Rattle.std.specs.Prelude.{◌≡◌, ℕ, ◌^◌, ◌<◌, ◌≤◌, ◌⊎◌, ◌||◌, Bool, not, false, IsTrue, List}
+use Rattle.std.specs.Prelude.{length, map, flat_map, sum_by, All, Any, Option, None, is_some, zero}
+use Rattle.std.specs.Prelude.{suc, get_or}
 use Rattle.std.specs.List.{AllByRecursion}
 use Rattle.geo_addr.specs.Ranges.{Ends, IsWithin}
 use Rattle.geo_terms.specs.Cuts.{statement_ranges}
@@ -39,19 +40,34 @@ pub record IsChosen (s : InForce) (c : Chosen) : Type 0 where
   pub stands : StandFor c.places c.leaves.items (map (λ r. spoken_at s r.first) c.segments.items)
   pub few : length c.places ≤ length c.segments.items
 
+-- where nothing was said before, an address is spared of which nothing is said
+abbrev pub IsSpared : InForce → (blank : Bool) → ℕ → Type 0
+IsSpared s blank a = IsTrue blank × (spoken_at s a ≡ None)
+
+-- a segment is wanted, or where nothing was said before only if something is said of it
+abbrev pub is_wanted : InForce → (blank : Bool) → Ends → Bool
+is_wanted s blank r = not blank || is_some (spoken_at s r.first)
+
+-- all that is said is touched
+abbrev pub IsAllTouched : InForce → (touched : List Ends) → Type 0
+IsAllTouched s touched =
+    (a : ℕ) → a < 2 ^ 128 → is_touched touched a ≡ false → spoken_at s a ≡ None
+
 -- the segments of a chunk, and what is said of them
-pub record IsChosenIn (s : InForce) (touched : List Ends) (chunk : Ends) (c : Chosen) : Type 0 where
-  pub cut : AreSegmentsIn s touched chunk c.segments.items
+pub record IsChosenIn (s : InForce) (touched : List Ends) (blank : Bool) (chunk : Ends) (c : Chosen)
+    : Type 0 where
+  pub cut : AreSegmentsIn s touched (IsSpared s blank) chunk c.segments.items
   pub chosen : IsChosen s c
 
--- what is said in chunks: their segments have the touched addresses and no others, and there are no
--- more of them, nor of places, than the touch
-pub record AreChosen (s : InForce) (touched : List Ends) (chosen : List Chosen) : Type 0 where
-  pub each : All (λ c. (chunk : Ends) × IsChosenIn s touched chunk c) chosen
+-- what is said in chunks: their segments have the touched addresses, but those that are spared, and
+-- no others, and there are no more of them, nor of places, than the touch
+pub record AreChosen (s : InForce) (touched : List Ends) (blank : Bool) (chosen : List Chosen)
+    : Type 0 where
+  pub each : All (λ c. (chunk : Ends) × IsChosenIn s touched blank chunk c) chosen
   pub inside : (a : ℕ) → Any (λ r. IsWithin r a) (flat_map segments_of chosen)
       → IsTrue (is_touched touched a)
   pub covered : (a : ℕ) → a < 2 ^ 128 → IsTrue (is_touched touched a)
-      → Any (λ r. IsWithin r a) (flat_map segments_of chosen)
+      → Any (λ r. IsWithin r a) (flat_map segments_of chosen) ⊎ IsSpared s blank a
   pub segments : sum_by (λ c. length c.segments.items) chosen ≤ touch touched (statement_ranges s)
   pub places : sum_by (λ c. length c.places) chosen ≤ touch touched (statement_ranges s)
 

@@ -1,14 +1,17 @@
 //! The two blocks of IPv6 addresses that carry IPv4 addresses: they get the tree of those.
 ghost use Rattle.std.specs.Prelude.{◌≡◌, ℕ, ◌+◌, ◌-◌, ◌^◌, ◌<◌, ◌≤◌, length, nat_eq, IfOk, Err};
+ghost use Rattle.std.specs.Prelude.{IsTrue, None, true};
 ghost use Rattle.geo_addr.specs.Bits.{bits_of};
 ghost use Rattle.geo_addr.specs.Ranges.{IsWithin, range_of_block};
-ghost use Rattle.geo_terms.specs.Alias.{home};
+ghost use Rattle.geo_terms.specs.Alias.{home, is_alias};
+ghost use Rattle.geo_terms.specs.Precedence.{spoken_at};
 ghost use Rattle.trie_core.specs.Store.{leaf_at, meaning, IsOf, IsRootOf, GrowsBy, IsKept};
 ghost use Rattle.trie_core.specs.Tree.{height, look};
 
 use crate::fault::EmitFault;
-use geo_addr::Block;
+use geo_addr::{Block, Memory, range_of};
 use geo_outside::Steps;
+use precedence::Sources;
 use std::sync::ledger::Ledger;
 use trie_core::{Rec, Root, Store, StoreFault};
 
@@ -26,6 +29,16 @@ const SIX_TO_FOUR: Block = Block {
     first: 0x2002 << 112,
     len: 16,
 };
+
+/// Whether the sources say nothing of the addresses that carry IPv4 addresses.
+pub(crate) fn are_silent(sources: &Sources) -> Result<bool, Memory>
+    ensures { IfOk result (λ silent. IsTrue silent
+        → (a : ℕ) → is_alias a ≡ true → spoken_at sources.now a ≡ None) }
+{
+    let mapped = sources.is_silent_in(range_of(MAPPED))?;
+    let six_to_four = sources.is_silent_in(range_of(SIX_TO_FOUR))?;
+    Ok(mapped && six_to_four)
+}
 
 /// The root that at each address has the leaf that the given one has at the address's home.
 ///

@@ -2,17 +2,21 @@
 //! said of each gets its number and the segments are painted, and the blocks
 //! that carry IPv4 addresses follow.
 ghost use Rattle.std.specs.Prelude.{◌≡◌, ℕ, ◌+◌, ◌-◌, ◌*◌, ◌^◌, ◌<◌, ◌≤◌, ◌⊎◌, [], length, IfOk};
-ghost use Rattle.std.specs.Prelude.{Ok, Err};
+ghost use Rattle.std.specs.Prelude.{Ok, Err, IsTrue, None, true};
+ghost use Rattle.geo_terms.specs.Alias.{is_alias};
+ghost use Rattle.geo_terms.specs.Precedence.{spoken_at};
 ghost use Rattle.trie_core.specs.Paint.{IsAscending, leaf_in, over};
-ghost use Rattle.trie_core.specs.Store.{leaf_at, IsRootOf, GrowsBy};
+ghost use Rattle.trie_core.specs.Store.{leaf_at, tree_of, IsRootOf, GrowsBy};
+ghost use Rattle.trie_core.specs.Tree.{leaf};
 ghost use Rattle.update_session.specs.Kept.{AnswersAll, GrowsBy as PlacesGrowBy, HasBase};
 ghost use Rattle.update_session.specs.Touch.{bound, few_places};
 
-use crate::alias::with_aliases;
+use crate::alias::{are_silent, with_aliases};
 use crate::choosing::choose;
 use crate::fault::EmitFault;
 use crate::numbering::parts_of;
 use fan_work::Forks;
+use geo_addr::Memory;
 use geo_outside::{Gate, Steps};
 use geo_terms::Places;
 use precedence::Sources;
@@ -56,7 +60,8 @@ pub(crate) fn repaint<R: Threads + Sync, G: Gate, L: Ledger>(
         return Ok(root);
     }
     sources.make_ready()?;
-    let chosen = choose(forks, sources, touched)?;
+    let blank = is_blank(store, root, sources)?;
+    let chosen = choose(forks, sources, touched, blank)?;
     let mut painted = root;
     // Each chunk is let go once it is painted, so the parts of one alone are held at a time.
     for one in chosen {
@@ -65,6 +70,19 @@ pub(crate) fn repaint<R: Threads + Sync, G: Gate, L: Ledger>(
         painted = paint(store, painted, parts.as_slice(), steps)?;
     }
     with_aliases(store, painted, steps)
+}
+
+// Whether the root is that of no record, and no address is said to be anywhere that has none of its
+// own: then nothing was said before but of what is touched.
+fn is_blank(store: &Store, root: Root, sources: &Sources) -> Result<bool, Memory>
+    ensures root { IfOk result (λ blank. IsTrue blank → tree_of store.now root ≡ leaf 0) }
+    ensures silent { IfOk result (λ blank. IsTrue blank
+        → (a : ℕ) → is_alias a ≡ true → spoken_at sources.now a ≡ None) }
+{
+    if root != store.empty() {
+        return Ok(false);
+    }
+    are_silent(sources)
 }
 
 // The root with the parts painted on it.

@@ -1,12 +1,16 @@
 //! What the sources say of each segment, cut and looked up by pieces side by side.
-ghost use Rattle.std.specs.Prelude.{◌≡◌, IfOk};
-ghost use Rattle.update_session.specs.Build.{AreChosen, IsChosen};
+ghost use Rattle.std.specs.Prelude.{◌≡◌, ◌++◌, ◌∷◌, ◌||◌, [], filter, is_some, not, IfOk, IsTrue};
+ghost use Rattle.std.specs.Prelude.{List, OnOk, Option};
+ghost use Rattle.std.specs.Option.{option_copied};
+ghost use Rattle.geo_terms.specs.PlaceForm.{PlaceParts};
+ghost use Rattle.update_session.specs.Build.{AreChosen, IsAllTouched, IsChosen, StandFor, is_wanted};
+ghost use Rattle.update_session.specs.Kept.{GrowsBy};
 
 use crate::numbering::leaf_of;
 use fan_work::{Forks, Work, map_pieces};
 use geo_addr::{Memory, Range};
 use geo_outside::Gate;
-use geo_terms::Places;
+use geo_terms::{Place, Places};
 use precedence::{Near, Sources};
 use source_changes::GroundList;
 use std::alloc::Global;
@@ -23,41 +27,54 @@ pub(crate) struct Chosen {
 }
 
 /// Work that cuts what is touched of a chunk, and asks what the sources say of its segments.
+///
+/// Where nothing was said before, all that is said is touched: then the chunk is cut at all cut
+/// points, with no look at the touched grounds, and what nothing is said of is left out.
 #[derive(Drop)]
 struct Choosing<'a, 'b> {
     alloc: Global,
     sources: &'a Sources,
     touched: &'b GroundList,
+    blank: bool,
 }
 
 impl<'a, 'b> Work<Range, Chosen> for Choosing<'a, 'b> {
-    ghost use Rattle.update_session.specs.Build.{IsChosenIn};
+    ghost use Rattle.std.specs.Prelude.{IsTrue};
+    ghost use Rattle.update_session.specs.Build.{IsAllTouched, IsChosenIn};
 
     ghost related = { λ work chunk chosen.
-        IsChosenIn work.sources.now work.touched.now chunk chosen };
+        (IsTrue work.blank → IsAllTouched work.sources.now work.touched.now)
+        → IsChosenIn work.sources.now work.touched.now work.blank chunk chosen };
 
     fn done(&self, item: &Range) -> Result<Chosen, Memory> {
-        let segments = self.sources.segments_in(self.touched, *item)?;
-        let chosen = chosen_in(self.alloc, self.sources, segments)?;
+        let segments = if self.blank {
+            self.sources.pieces_in(*item)?
+        } else {
+            self.sources.segments_in(self.touched, *item)?
+        };
+        let chosen = chosen_in(self.alloc, self.sources, segments.as_slice(), self.blank)?;
         Ok(chosen)
     }
 }
 
 /// What the sources say in the touched grounds, chunk by chunk, cut and looked up by pieces that
-/// enter the gate.
+/// enter the gate. It is `blank` where nothing was said before.
 pub(crate) fn choose<R: Threads + Sync, G: Gate>(
     forks: &Forks<R, G>,
     sources: &Sources,
     touched: &GroundList,
+    blank: bool,
 ) -> Result<Vec<Chosen>, Memory>
+    requires { IsTrue blank → IsAllTouched sources.now touched.now }
     ensures { IfOk result
-        (λ chosen. AreChosen sources.entry.now touched.entry.now chosen.items) }
+        (λ chosen. AreChosen sources.entry.now touched.entry.now blank chosen.items) }
 {
     let chunks = sources.chunks(touched, forks.pieces)?;
     let work = Choosing {
         alloc: forks.alloc,
         sources,
         touched,
+        blank,
     };
     let chosen = map_pieces(
         forks.rt,
@@ -70,24 +87,65 @@ pub(crate) fn choose<R: Threads + Sync, G: Gate>(
     Ok(chosen)
 }
 
-// What the sources say of these segments.
-fn chosen_in(alloc: Global, sources: &Sources, segments: Vec<Range>) -> Result<Chosen, Memory>
-    ensures segments { IfOk result (λ chosen. chosen.segments ≡ segments) }
+// What the sources say of those of these segments that are wanted.
+fn chosen_in(
+    alloc: Global,
+    sources: &Sources,
+    segments: &[Range],
+    blank: bool,
+) -> Result<Chosen, Memory>
+    ensures segments { IfOk result
+        (λ chosen. chosen.segments.items ≡ filter (is_wanted sources.now blank) segments.now) }
     ensures chosen { IfOk result (IsChosen sources.now) }
 {
-    let mut places = Places::new(alloc);
-    let mut leaves = Vec::with_capacity(alloc, segments.len())?;
+    let mut chosen = Chosen::with_room(alloc, segments.len())?;
     let mut near = Near::default();
-    for segment in &segments {
+    for segment in segments {
+        let said = sources.choice_near(*segment, &mut near);
+        if is_wanted(blank, said) {
+            chosen.push(*segment, said)?;
+        }
+    }
+    Ok(chosen)
+}
+
+// Whether a segment is wanted of which this is said.
+fn is_wanted(blank: bool, said: Option<&Place>) -> bool
+    ensures { result ≡ (not blank || is_some (option_copied said.entry)) }
+{
+    !blank || said.is_some()
+}
+
+impl Chosen {
+    // No segments, with room for so many.
+    fn with_room(alloc: Global, len: usize) -> Result<Chosen, Memory>
+        ensures segments { IfOk result (λ chosen. chosen.segments.items ≡ []) }
+        ensures places { IfOk result (λ chosen. chosen.places ≡ []) }
+        ensures leaves { IfOk result (λ chosen. chosen.leaves.items ≡ []) }
+    {
+        Ok(Chosen {
+            segments: Vec::with_capacity(alloc, len)?,
+            places: Places::new(alloc),
+            leaves: Vec::with_capacity(alloc, len)?,
+        })
+    }
+
+    // Puts a segment behind the others, and what is said of it.
+    fn push(&mut self, segment: Range, said: Option<&Place>) -> Result<(), Memory>
+        ensures segments { OnOk result
+            (self.new.segments.items ≡ self.old.segments.items ++ segment ∷ []) }
+        ensures stands { OnOk result ((before : List (Option PlaceParts))
+            → StandFor self.old.places self.old.leaves.items before
+            → StandFor self.new.places self.new.leaves.items
+            (before ++ option_copied said.entry ∷ [])) }
+        ensures places { OnOk result (GrowsBy self.old.places self.new.places 1) }
+    {
         // A table of a chunk is full only where no memory holds the chunk's segments.
-        let Ok(leaf) = leaf_of(&mut places, sources.choice_near(*segment, &mut near)) else {
+        let Ok(leaf) = leaf_of(&mut self.places, said) else {
             return Err(Memory);
         };
-        leaves.push(leaf)?;
+        self.segments.push(segment)?;
+        self.leaves.push(leaf)?;
+        Ok(())
     }
-    Ok(Chosen {
-        segments,
-        places,
-        leaves,
-    })
 }

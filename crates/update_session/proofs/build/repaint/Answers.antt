@@ -1,12 +1,18 @@
 -- One chunk after another, and the blocks that carry IPv4 addresses after all.
-use Rattle.std.proofs.Common.{◌≡◌, ◌∙◌, List, ap, arith, length, map, rules, sym}
+use Rattle.std.proofs.Common.{◌≡◌, ◌∙◌, ℕ, List, None, ap, arith, length, map, rules, subst, sym}
+use Rattle.std.proofs.Common.{true}
 use Rattle.std.proofs.lemmas.Iterator.Adapters.{YieldsList-from_vec}
 use Rattle.std.proofs.lemmas.List.{length-map}
 use Rattle.std.proofs.lemmas.List.Sums.{sum_by_push}
 use Rattle.trie_core.specs.declared.paint.Part.{Part}
 use Rattle.trie_core.proofs.StoreLemmas.{GrowsBy-trans as StoreGrowsBy-trans}
 use Rattle.update_session.specs.declared.choosing.Chosen.{Chosen}
+use Rattle.geo_terms.specs.Alias.{is_alias}
+use Rattle.geo_terms.specs.Precedence.{spoken_at}
+use Rattle.geo_terms.specs.Sources.{InForce}
+use Rattle.update_session.specs.Build.{IsAllTouched}
 use Rattle.update_session.proofs.AliasLemmas.{AnswersAll-made}
+use Rattle.update_session.proofs.BlankLemmas.{all_touched, answers_none}
 use Rattle.update_session.proofs.BuildLemmas.{AnswersSpoken-painted, GrowsBy-trans}
 use Rattle.update_session.proofs.BuildLemmas.{IsAscending-from_segments}
 use Rattle.update_session.proofs.BuildLemmas.{few_places_of, painted_more}
@@ -16,12 +22,27 @@ use Rattle.update_session.proofs.KeptLemmas.{spoken_elsewhere}
 use Rattle.update_session.proofs.NumberingLemmas.{IsKnown-from_chosen}
 use Rattle.update_session.proofs.build.repaint.Goals as goal
 
+pub choose-requires : goal.choose-requires
+choose-requires g c = (
+  c.type_bounds.sync-R,
+  (
+    c.type_bounds.sync-G,
+    λ is.
+        let s = c.args.sources.now in
+        subst (λ (t : InForce). IsAllTouched t c.args.touched.now) (sym c.make_ready.ensures)
+        (all_touched s c.args.store.now c.args.places.now c.args.root c.args.touched.now
+        c.requires.base (c.in_ok-blank.ensures.root is)
+        (subst (λ (t : InForce). (a : ℕ) → is_alias a ≡ true → spoken_at t a ≡ None)
+        c.make_ready.ensures (c.in_ok-blank.ensures.silent is))),
+  ),
+)
+
 pub parts_of-requires : goal.parts_of-requires
 parts_of-requires g c =
     let yields = YieldsList-from_vec {s = c.into_iter-one-iterator.result}
     c.in_ok-chosen.chosen.items (search rules) (search rules) in
     let next = next_in c.make_ready.new.self c.args.sources.now c.args.touched.now
-    c.in_ok-chosen.chosen.items c.loop-one.yielded c.loop-one.one-iterator c.next.new.self
+    c.in_ok-blank.blank c.in_ok-chosen.chosen.items c.loop-one.yielded c.loop-one.one-iterator c.next.new.self
     c.next.result c.in-Some.one c.make_ready.ensures c.in_ok-chosen.ensures yields
     c.loop-one.yielded_by c.in-Some.is c.next.ensures.steps in
     IsKnown-from_chosen c.args.sources.now c.in-Some.one next.is.chosen
@@ -31,7 +52,7 @@ paint-requires-clause-ascending g c =
     let yields = YieldsList-from_vec {s = c.into_iter-one-iterator.result}
     c.in_ok-chosen.chosen.items (search rules) (search rules) in
     let next = next_in c.make_ready.new.self c.args.sources.now c.args.touched.now
-    c.in_ok-chosen.chosen.items c.loop-one.yielded c.loop-one.one-iterator c.next.new.self
+    c.in_ok-blank.blank c.in_ok-chosen.chosen.items c.loop-one.yielded c.loop-one.one-iterator c.next.new.self
     c.next.result c.in-Some.one c.make_ready.ensures c.in_ok-chosen.ensures yields
     c.loop-one.yielded_by c.in-Some.is c.next.ensures.steps in
     IsAscending-from_segments c.in-Some.one.segments.items c.as_slice.result.now
@@ -43,7 +64,7 @@ loop-one-preserved g c =
     let yields = YieldsList-from_vec {s = c.into_iter-one-iterator.result}
     c.in_ok-chosen.chosen.items (search rules) (search rules) in
     let next = next_in c.make_ready.new.self c.args.sources.now c.args.touched.now
-    c.in_ok-chosen.chosen.items c.loop-one.yielded c.loop-one.one-iterator c.next.new.self
+    c.in_ok-blank.blank c.in_ok-chosen.chosen.items c.loop-one.yielded c.loop-one.one-iterator c.next.new.self
     c.next.result c.in-Some.one c.make_ready.ensures c.in_ok-chosen.ensures yields
     c.loop-one.yielded_by c.in-Some.is c.next.ensures.steps in
     let one = c.in-Some.one in
@@ -54,7 +75,8 @@ loop-one-preserved g c =
     ∙ ap length c.in_ok-parts.ensures.ranges in
     record {
       of = c.in_ok-painted.ensures.of;
-      painted = painted_more c.args.sources.now c.args.touched.now next.chunk before one
+      painted = painted_more c.args.sources.now c.args.touched.now c.in_ok-blank.blank next.chunk
+          before one
           c.in_ok-parts.parts.items c.as_slice.result.now c.args.store.now c.loop-one.store
           c.paint.new.store c.loop-one.places c.parts_of.new.places _ c.args.root
           c.loop-one.painted c.in_ok-painted.painted c.loop-one.invariant.painted next.is
@@ -81,7 +103,7 @@ returns-in_err-parts-clause-few_ticks g c =
     let yields = YieldsList-from_vec {s = c.into_iter-one-iterator.result}
     c.in_ok-chosen.chosen.items (search rules) (search rules) in
     let next = next_in c.make_ready.new.self c.args.sources.now c.args.touched.now
-    c.in_ok-chosen.chosen.items c.loop-one.yielded c.loop-one.one-iterator c.next.new.self
+    c.in_ok-blank.blank c.in_ok-chosen.chosen.items c.loop-one.yielded c.loop-one.one-iterator c.next.new.self
     c.next.result c.in-Some.one c.make_ready.ensures c.in_ok-chosen.ensures yields
     c.loop-one.yielded_by c.in-Some.is c.next.ensures.steps in
     omega (
@@ -97,7 +119,7 @@ returns-in_err-parts-clause-places g c =
     let yields = YieldsList-from_vec {s = c.into_iter-one-iterator.result}
     c.in_ok-chosen.chosen.items (search rules) (search rules) in
     let next = next_in c.make_ready.new.self c.args.sources.now c.args.touched.now
-    c.in_ok-chosen.chosen.items c.loop-one.yielded c.loop-one.one-iterator c.next.new.self
+    c.in_ok-blank.blank c.in_ok-chosen.chosen.items c.loop-one.yielded c.loop-one.one-iterator c.next.new.self
     c.next.result c.in-Some.one c.make_ready.ensures c.in_ok-chosen.ensures yields
     c.loop-one.yielded_by c.in-Some.is c.next.ensures.steps in
     few_places_of c.args.sources.now c.args.touched.now _ _ _
@@ -111,7 +133,7 @@ returns-in_err-painted-clause-few_ticks g c =
     let yields = YieldsList-from_vec {s = c.into_iter-one-iterator.result}
     c.in_ok-chosen.chosen.items (search rules) (search rules) in
     let next = next_in c.make_ready.new.self c.args.sources.now c.args.touched.now
-    c.in_ok-chosen.chosen.items c.loop-one.yielded c.loop-one.one-iterator c.next.new.self
+    c.in_ok-blank.blank c.in_ok-chosen.chosen.items c.loop-one.yielded c.loop-one.one-iterator c.next.new.self
     c.next.result c.in-Some.one c.make_ready.ensures c.in_ok-chosen.ensures yields
     c.loop-one.yielded_by c.in-Some.is c.next.ensures.steps in
     let as_many : length c.as_slice.result.now ≡ length c.in-Some.one.segments.items =
@@ -138,7 +160,7 @@ returns-in_err-painted-clause-places g c =
     let yields = YieldsList-from_vec {s = c.into_iter-one-iterator.result}
     c.in_ok-chosen.chosen.items (search rules) (search rules) in
     let next = next_in c.make_ready.new.self c.args.sources.now c.args.touched.now
-    c.in_ok-chosen.chosen.items c.loop-one.yielded c.loop-one.one-iterator c.next.new.self
+    c.in_ok-blank.blank c.in_ok-chosen.chosen.items c.loop-one.yielded c.loop-one.one-iterator c.next.new.self
     c.next.result c.in-Some.one c.make_ready.ensures c.in_ok-chosen.ensures yields
     c.loop-one.yielded_by c.in-Some.is c.next.ensures.steps in
     few_places_of c.args.sources.now c.args.touched.now _ _ _
@@ -152,7 +174,7 @@ returns-clause-few_ticks g c =
     let yields = YieldsList-from_vec {s = c.into_iter-one-iterator.result}
     c.in_ok-chosen.chosen.items (search rules) (search rules) in
     let are = all_in c.make_ready.new.self c.args.sources.now c.args.touched.now
-    c.in_ok-chosen.chosen.items c.loop-one.yielded c.loop-one.one-iterator c.next.new.self
+    c.in_ok-blank.blank c.in_ok-chosen.chosen.items c.loop-one.yielded c.loop-one.one-iterator c.next.new.self
     c.next.result c.make_ready.ensures c.in_ok-chosen.ensures yields c.loop-one.yielded_by
     c.in-None.is c.next.ensures.steps in
     omega (
@@ -169,7 +191,7 @@ returns-clause-places g c =
     let yields = YieldsList-from_vec {s = c.into_iter-one-iterator.result}
     c.in_ok-chosen.chosen.items (search rules) (search rules) in
     let are = all_in c.make_ready.new.self c.args.sources.now c.args.touched.now
-    c.in_ok-chosen.chosen.items c.loop-one.yielded c.loop-one.one-iterator c.next.new.self
+    c.in_ok-blank.blank c.in_ok-chosen.chosen.items c.loop-one.yielded c.loop-one.one-iterator c.next.new.self
     c.next.result c.make_ready.ensures c.in_ok-chosen.ensures yields c.loop-one.yielded_by
     c.in-None.is c.next.ensures.steps in
     few_places_of c.args.sources.now c.args.touched.now _ _ _
@@ -182,15 +204,18 @@ returns-clause-answers g c =
     let yields = YieldsList-from_vec {s = c.into_iter-one-iterator.result}
     c.in_ok-chosen.chosen.items (search rules) (search rules) in
     let are = all_in c.make_ready.new.self c.args.sources.now c.args.touched.now
-    c.in_ok-chosen.chosen.items c.loop-one.yielded c.loop-one.one-iterator c.next.new.self
+    c.in_ok-blank.blank c.in_ok-chosen.chosen.items c.loop-one.yielded c.loop-one.one-iterator c.next.new.self
     c.next.result c.make_ready.ensures c.in_ok-chosen.ensures yields c.loop-one.yielded_by
     c.in-None.is c.next.ensures.steps in
     let s = c.args.sources.now in
     AnswersAll-made s c.loop-one.store c.with_aliases.new.store c.loop-one.places
     c.loop-one.painted c.with_aliases.result
-    (AnswersSpoken-painted s c.args.touched.now c.loop-one.yielded c.args.store.now
+    (AnswersSpoken-painted s c.args.touched.now c.in_ok-blank.blank c.loop-one.yielded
+    c.args.store.now
     c.loop-one.store c.args.places.now c.loop-one.places _ c.args.root c.loop-one.painted are
     c.loop-one.invariant.painted c.loop-one.invariant.places
     (spoken_elsewhere s c.args.store.now c.args.places.now c.args.root c.args.touched.now
-    c.requires.base))
+    c.requires.base)
+    (λ a below spared. answers_none s c.args.store.now c.args.places.now c.args.root a
+    (c.in_ok-blank.ensures.root spared.0) spared.1))
     c.with_aliases.ensures.homes
