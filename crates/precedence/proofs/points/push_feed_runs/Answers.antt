@@ -19,7 +19,8 @@ push_run-requires c = c.cuts.ensures.ascending
 pub loop-feed-preserved : goal.loop-feed-preserved
 loop-feed-preserved c before h =
     subst (λ (rs : List Ends). AreCutsInside rs (c.args.range ∷ [])
-    (points_of c.push_run.new.runs.items)) (entry_more before c.args.feeds.now c.loop-feed.feed-index c.feed-item.result
+    (points_of c.push_run.new.runs.items))
+    (entry_more before c.args.feeds.now c.loop-feed.feed-index c.feed-item.result
     c.loop-feed-test.true c.feed-item.is)
     (gathered (before ++ entry_ranges (all_entries (take c.loop-feed.feed-index c.args.feeds.now)))
     (entry_ranges c.feed-item.result.entries) (c.args.range ∷ []) c.cuts.result.now

@@ -1,4 +1,4 @@
-use Rattle.std.proofs.Common.{◌∷◌, [], List, inl, inr}
+use Rattle.std.proofs.Common.{List, inl, inr}
 use Rattle.geo_addr.specs.Ranges.{Ends, IsWithin}
 use Rattle.cut_segments.proofs.CutLemmas.{any_one, one_any}
 use Rattle.precedence.proofs.RunLemmas.{Run, front_has, pushed}

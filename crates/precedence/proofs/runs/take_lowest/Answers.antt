@@ -1,4 +1,4 @@
-use Rattle.std.proofs.Common.{ℕ, ◌↔◌, ◌⊎◌, List, ◌∷◌, Contains, subst, sym}
+use Rattle.std.proofs.Common.{List, ◌∷◌, subst, sym}
 use Rattle.std.specs.List.Sorted.{IsPermutation}
 use Rattle.std.proofs.lemmas.List.Sorted.{IsPermutation-swap_remove}
 use Rattle.std.proofs.lemmas.Result.{on_ok_weaker}
