@@ -35,15 +35,8 @@ fn push_by_range(found: &mut Vec<u128>, points: &[u128], ranges: &[Range]) -> Re
     Ok(())
 }
 
-/// How many of ascending points lie inside a range, to make room for them; of others any number.
-pub fn room_inside(points: &[u128], range: Range) -> usize {
-    let below = points.partition_point(|point| *point < range.first);
-    let upto = points.partition_point(|point| *point <= range.last);
-    upto.saturating_sub(below)
-}
-
-// The part of ascending points that lies inside a range.
-fn part_inside(points: &[u128], range: Range) -> &[u128]
+/// The part of ascending points that lies inside a range.
+pub fn part_inside(points: &[u128], range: Range) -> &[u128]
     requires { IsStrictlyIncreasing points.now }
     ensures { (c : ℕ) → Contains result.now c ↔ (Contains points.now c × IsWithin range c) }
 {

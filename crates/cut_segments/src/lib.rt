@@ -7,7 +7,7 @@ mod joined;
 mod points;
 mod segments;
 
-pub use inside::{push_inside, room_inside};
+pub use inside::{part_inside, push_inside};
 pub use joined::grounds_in;
 pub use points::{cut_points, whole};
 pub use segments::{segments_between, segments_of};

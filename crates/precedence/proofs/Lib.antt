@@ -3,6 +3,7 @@ pub mod FeedLemmas
 pub mod NoteLemmas
 pub mod PieceLemmas
 pub mod RowLemmas
+pub mod RunLemmas
 pub mod SharedLemmas
 pub mod SourceLemmas
 pub mod StatisticsLemmas

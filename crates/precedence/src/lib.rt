@@ -9,6 +9,7 @@ mod near;
 mod notes;
 mod overriding;
 mod points;
+mod runs;
 mod sources;
 mod statistics;
 mod why;

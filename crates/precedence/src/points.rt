@@ -1,5 +1,5 @@
 //! The cut points of feeds, and gathered cut points in order.
-ghost use Rattle.std.specs.Prelude.{◌<◌, ◌++◌, List, All, find, length, map, flat_map};
+ghost use Rattle.std.specs.Prelude.{◌<◌, ◌++◌, ◌∷◌, [], List, All, find, length, map, flat_map};
 ghost use Rattle.std.specs.Prelude.{IfOk, OnOk};
 ghost use Rattle.std.specs.List.{AllAdjacentBelow};
 ghost use Rattle.std.specs.List.Sorted.{IsStrictlyIncreasing};
@@ -9,7 +9,9 @@ ghost use Rattle.geo_terms.specs.PlaceForm.{same_text};
 ghost use Rattle.geo_terms.specs.SlotOrder.{AreInOrder};
 ghost use Rattle.geo_terms.specs.Sources.{entries_in};
 ghost use Rattle.cut_segments.specs.CutPoints.{AreCutsInside};
+ghost use Rattle.precedence.specs.Runs.{points_of};
 
+use crate::runs::push_run;
 use authority::ReadyFeed;
 use cut_segments::push_inside;
 use geo_addr::{Memory, Range};
@@ -29,6 +31,23 @@ pub fn push_feeds_inside(
 {
     for feed in feeds {
         push_inside(cuts, feed.cuts(), bounds)?;
+    }
+    Ok(())
+}
+
+/// Adds the cut points of the entries of these feeds that lie inside a range, a run for each feed.
+pub fn push_feed_runs<'a>(
+    runs: &mut Vec<&'a [u128]>,
+    feeds: &'a [ReadyFeed],
+    range: Range,
+) -> Result<(), Memory>
+    ensures { OnOk result ((before : List Ends)
+        → AreCutsInside before (range ∷ []) (points_of runs.old.items)
+        → AreCutsInside (before ++ map (λ e. range_of_block e.block)
+        (flat_map (λ f. f.entries) feeds.now)) (range ∷ []) (points_of runs.new.items)) }
+{
+    for feed in feeds {
+        push_run(runs, feed.cuts(), range)?;
     }
     Ok(())
 }

@@ -9,13 +9,12 @@ use crate::delegations::Delegations;
 use crate::near::Near;
 use crate::notes::{push_dump_notes, push_feed_notes, push_file_notes};
 use crate::overriding::Overriding;
-use crate::points::{in_order, push_feed_inside, push_feeds_inside};
+use crate::points::{in_order, push_feed_inside, push_feed_runs, push_feeds_inside};
+use crate::runs::{joined, push_run};
 use crate::statistics::Statistics;
 use crate::why::Why;
 use authority::{Authority, DropFault, ReadyFeed, Speakers};
-use cut_segments::{
-    cut_points, grounds_in, push_inside, room_inside, segments_between, segments_of, whole,
-};
+use cut_segments::{cut_points, grounds_in, push_inside, segments_between, segments_of, whole};
 use geo_addr::{Addr, Block, Memory, Range};
 use geo_terms::{
     Delegation, Dump, Entry, Feed, Note, Override, Overrides, Place, Reference, Said, Stats, home,
@@ -53,7 +52,8 @@ impl Model for Sources {
 }
 
 impl Sources {
-    ghost use Rattle.std.specs.Prelude.{◌≡◌, ◌++◌, ◌<◌, ◌^◌, [], ℕ, List, Some, None, length, map};
+    ghost use Rattle.std.specs.Prelude.{◌≡◌, ◌++◌, ◌∷◌, ◌<◌, ◌^◌, [], ℕ, List, Some, None, length};
+    ghost use Rattle.std.specs.Prelude.{map};
     ghost use Rattle.std.specs.Prelude.{is_some, option_map, All, Any, IfOk, IfErr, IsTrue};
     ghost use Rattle.std.specs.Prelude.{OnOk, OnErr};
     ghost use Rattle.std.specs.Arc.{arc_value};
@@ -78,6 +78,7 @@ impl Sources {
     ghost use Rattle.precedence.specs.Chunks.{AreChunks, ArePieces, AreSegmentsIn, none_spared};
     ghost use Rattle.precedence.specs.CutPoints.{IsConstantBetween};
     ghost use Rattle.precedence.specs.Delegations.{IsIndex};
+    ghost use Rattle.precedence.specs.Runs.{points_of};
     ghost use Rattle.source_changes.specs.Touched.{is_touched};
     ghost use Rattle.precedence.specs.Why.{reasons_of};
     ghost use Rattle.authority.specs.declared.fault.DropFault.{DropFault};
@@ -593,22 +594,6 @@ impl Sources {
         count.saturating_add(self.overriding.cuts().len())
     }
 
-    // How much room to make for the cut points inside ascending ranges. One range is mostly the
-    // whole address space, or a chunk of it.
-    fn room_in(&self, speakers: &Speakers, delegations: &Delegations, bounds: &[Range]) -> usize {
-        if bounds.len() != 1 {
-            return 0;
-        }
-        let range = bounds[0];
-        let mut room = room_inside(speakers.cuts.as_slice(), range);
-        room = room.saturating_add(room_inside(delegations.index.cuts(), range));
-        room = room.saturating_add(room_inside(self.overriding.cuts(), range));
-        for feed in self.authority.feeds() {
-            room = room.saturating_add(room_inside(feed.cuts(), range));
-        }
-        room
-    }
-
     // The cut points of all sources that lie inside one of ascending ranges: ascending, each once.
     fn points_in(&self, bounds: &[Range]) -> Result<Vec<u128>, Memory>
         requires ranges { All IsRange bounds.now }
@@ -619,10 +604,52 @@ impl Sources {
     {
         let speakers = self.authority.speakers()?;
         let delegations = self.statistics.delegations()?;
-        let room = self.room_in(&speakers, &delegations, bounds);
-        let mut points = Vec::with_capacity(self.alloc, room)?;
+        if bounds.len() == 1 {
+            let points = self.joined_in(&speakers, &delegations, bounds[0])?;
+            return in_order(points);
+        }
+        let mut points = Vec::new(self.alloc);
         self.push_points(&mut points, &speakers, &delegations, bounds)?;
         in_order(points)
+    }
+
+    // The cut points of all sources that lie inside a range. They ascend, which no clause says.
+    fn joined_in(
+        &self,
+        speakers: &Speakers,
+        delegations: &Delegations,
+        range: Range,
+    ) -> Result<Vec<u128>, Memory>
+        requires speakers { AreSpeakers (references self.now) speakers.now }
+        requires delegations { IsIndex self.now.stats delegations.now }
+        ensures { IfOk result (λ points.
+            AreCutsInside (statement_ranges self.now) (range ∷ []) points.items) }
+    {
+        let mut runs = Vec::new(self.alloc);
+        self.push_runs(&mut runs, speakers, delegations, range)?;
+        joined(self.alloc, runs)
+    }
+
+    // Adds the cut points of all sources that lie inside a range: those of each kind, and of each
+    // feed, are a run.
+    fn push_runs<'a>(
+        &'a self,
+        runs: &mut Vec<&'a [u128]>,
+        speakers: &'a Speakers,
+        delegations: &'a Delegations,
+        range: Range,
+    ) -> Result<(), Memory>
+        requires speakers { AreSpeakers (references self.now) speakers.now }
+        requires delegations { IsIndex self.now.stats delegations.now }
+        ensures { OnOk result (AreCutsInside [] (range ∷ []) (points_of runs.old.items)
+            → AreCutsInside (statement_ranges self.now) (range ∷ [])
+            (points_of runs.new.items)) }
+    {
+        push_run(runs, speakers.cuts.as_slice(), range)?;
+        push_feed_runs(runs, self.authority.feeds(), range)?;
+        push_run(runs, delegations.index.cuts(), range)?;
+        push_run(runs, self.overriding.cuts(), range)?;
+        Ok(())
     }
 
     // Appends the cut points of all sources that lie inside one of ascending ranges: those of each
