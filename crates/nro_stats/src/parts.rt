@@ -5,6 +5,7 @@ ghost use Rattle.nro_stats.specs.File.{longest, most, notes, rows, stats};
 ghost use Rattle.nro_stats.specs.Parts.{found_notes, found_rows, notes_of, rows_of};
 
 use crate::read::{Gathered, LONGEST_STATS, MOST, gathered_with_room, read_lines, read_stats};
+use crate::read::usual_rows;
 use fan_work::{Forks, Work, map_pieces};
 use geo_addr::{List, Memory, Text};
 use geo_outside::Gate;
@@ -14,8 +15,12 @@ use std::alloc::Global;
 use std::marker::Sync;
 use std::thread::Threads;
 
-/// The least bytes of a part where each piece has several.
-const LONG_PART: usize = 1_048_576;
+/// The least bytes of a part where each piece has several. The C library gives back the room for
+/// the rows of so long a part when they have been put to the others.
+const LONG_PART: usize = 4_194_304;
+
+/// For each so many bytes of a part room for one row is taken ahead; no line of one is shorter.
+const LEAST_LINE: usize = 8;
 
 /// Work that reads the lines of a part of the file in a slot.
 #[derive(Drop)]
@@ -32,7 +37,9 @@ impl<'a, 'b> Work<LinePart<'b>, Gathered> for PartReading<'a> {
     fn done(&self, item: &LinePart<'b>) -> Result<Gathered, Memory> {
         // A text of its own, since all copies of a text are counted in one cell.
         let slot = Text::of(self.alloc, self.slot)?;
-        match read_lines(self.alloc, &slot, *item, usize::MAX) {
+        // Room that is not used costs nothing, and a list that grows leaves what it had.
+        let rows = (item.text.len() / LEAST_LINE).min(MOST);
+        match read_lines(self.alloc, &slot, *item, rows, usize::MAX) {
             Ok(found) => Ok(found),
             Err(_) => Err(Memory),
         }
@@ -83,7 +90,7 @@ fn found_by_parts<R: Threads + Sync, G: Gate>(
 {
     let size = part_size(bytes.len(), forks.pieces as usize, LONG_PART);
     let parts = parts_of(forks.alloc, bytes, size)?;
-    let mut all = gathered_with_room(forks.alloc, bytes.len())?;
+    let mut all = gathered_with_room(forks.alloc, usual_rows(bytes.len()))?;
     read_left(forks, slot, parts.as_slice(), &mut all)?;
     Ok(all)
 }

@@ -33,7 +33,8 @@ pub fn read_stats(alloc: Global, slot: &str, bytes: &[u8]) -> Result<Stats, Sour
         return Err(SourceFault::TooLong);
     }
     let slot = Text::of(alloc, slot)?;
-    let found = read_lines(alloc, &slot, LinePart::whole(bytes), MOST)?;
+    let rows = usual_rows(bytes.len());
+    let found = read_lines(alloc, &slot, LinePart::whole(bytes), rows, MOST)?;
     Ok(Stats {
         slot,
         rows: List::of(found.rows),
@@ -56,11 +57,12 @@ struct Reading {
     texts: Texts,
 }
 
-/// Reads the lines of a part of a file, with at most `limit` delegations.
+/// Reads the lines of a part of a file, with at most `limit` delegations and room for so many rows.
 pub(crate) fn read_lines(
     alloc: Global,
     slot: &Text,
     part: LinePart,
+    rows: usize,
     limit: usize,
 ) -> Result<Gathered, SourceFault>
     ensures rows { IfOk result (λ found. found.rows.items ≡ rows_in slot.now part.entry) }
@@ -70,7 +72,7 @@ pub(crate) fn read_lines(
         → limit < length (rows_in slot.now part.entry) }
     ensures too_long { result ≢ Err SourceFault.TooLong }
 {
-    let gathered = gathered_with_room(alloc, part.text.len())?;
+    let gathered = gathered_with_room(alloc, rows)?;
     let mut found = Reading {
         rows: gathered.rows,
         notes: gathered.notes,
@@ -85,13 +87,17 @@ pub(crate) fn read_lines(
     })
 }
 
-/// Nothing yet, with room for the rows of so many bytes.
-pub(crate) fn gathered_with_room(alloc: Global, size: usize) -> Result<Gathered, Memory>
+/// For how many rows of a file of so many bytes there is room ahead.
+pub(crate) fn usual_rows(size: usize) -> usize {
+    (size / SHORT_LINE).min(MOST)
+}
+
+/// Nothing yet, with room for so many rows, so that they are not moved as they come.
+pub(crate) fn gathered_with_room(alloc: Global, rows: usize) -> Result<Gathered, Memory>
     ensures rows { IfOk result (λ found. found.rows.items ≡ []) }
     ensures notes { IfOk result (λ found. found.notes.items ≡ []) }
 {
-    let room = (size / SHORT_LINE).min(MOST);
-    let rows = Vec::with_capacity(alloc, room)?;
+    let rows = Vec::with_capacity(alloc, rows)?;
     let notes = Vec::new(alloc);
     Ok(Gathered { rows, notes })
 }
