@@ -7,8 +7,8 @@ ghost use Rattle.feed_csv.specs.File.{feed, longest};
 ghost use Rattle.geo_outside.specs.Count.{Rose};
 ghost use Rattle.geo_outside.specs.Files.{Told};
 ghost use Rattle.update_session.specs.Standing.{Standing, Stands};
-ghost use Rattle.job_run.specs.Feeds.{HaltsReading, IsFirstRefused, IsRead, Parses, RefusesParsing};
-ghost use Rattle.job_run.specs.Feeds.{no_read, with_feeds};
+ghost use Rattle.job_run.specs.Feeds.{HaltsReading, IsFirstRefused, IsRead, Parses, ParsesMore};
+ghost use Rattle.job_run.specs.Feeds.{RefusesParsing, no_read, with_feeds};
 ghost use Rattle.job_run.specs.Moves.{read_rooms, sets_feed, together};
 ghost use Rattle.job_run.specs.Parts.{DoesPart, FailsAt};
 ghost use Rattle.job_run.specs.Seen.{Seen};
@@ -251,8 +251,7 @@ fn add_run<R: Threads + Sync, G: Gate>(
     known: &mut KnownTails,
     parsed: &mut Vec<Result<ReadyFeed, Stop>>,
 ) -> Result<(), Memory>
-    ensures { (before : List HeldForm) → AllZip Parses before parsed.old.items
-        → OnOk result (AllZip Parses (before ++ run.entry.items) parsed.new.items) }
+    ensures { OnOk result (ParsesMore run.entry.items parsed.old.items parsed.new.items) }
 {
     let work = Parsing {
         alloc: forks.alloc,
@@ -266,22 +265,37 @@ fn add_run<R: Threads + Sync, G: Gate>(
         run.as_slice(),
         &work,
     )?;
-    learn(found, known, parsed)
+    learn(found, known, parsed)?;
+    Ok(())
 }
 
-/// Adds what a long one is, by parts side by side.
+/// Adds what a long one is.
 fn add_long<R: Threads + Sync, G: Gate>(
     forks: &Forks<R, G>,
     held: Held<'_>,
     known: &mut KnownTails,
     parsed: &mut Vec<Result<ReadyFeed, Stop>>,
 ) -> Result<(), Memory>
+    ensures { OnOk result (ParsesMore (held.entry ∷ []) parsed.old.items parsed.new.items) }
+{
+    let found = parsed_long(forks, held, known)?;
+    learn(found, known, parsed)?;
+    Ok(())
+}
+
+/// What a long one is, by parts side by side.
+fn parsed_long<R: Threads + Sync, G: Gate>(
+    forks: &Forks<R, G>,
+    held: Held<'_>,
+    known: &KnownTails,
+) -> Result<Vec<Parsed>, Memory>
+    ensures related { IfOk result (λ parsed. AllZip Parses (held.entry ∷ []) parsed.items) }
 {
     let mut learned = Vec::new(forks.alloc);
     let feed = ready_long(forks, held.url, held.bytes, known, &mut learned);
-    known.learn(learned)?;
-    parsed.push(feed)?;
-    Ok(())
+    let mut parsed = Vec::new(forks.alloc);
+    parsed.push(Parsed { feed, learned })?;
+    Ok(parsed)
 }
 
 /// Adds what those that were parsed are, whose new tails are handed to those that come later.
