@@ -4,8 +4,9 @@ ghost use Rattle.std.specs.List.{flat_map};
 ghost use Rattle.nro_stats.specs.File.{longest, most, notes, rows, stats};
 ghost use Rattle.nro_stats.specs.Parts.{found_notes, found_rows, notes_of, rows_of};
 
-use crate::read::{Gathered, LONGEST_STATS, MOST, gathered_with_room, read_lines, read_stats};
-use crate::read::usual_rows;
+use crate::read::{
+    Gathered, LONGEST_STATS, MOST, gathered_with_room, read_lines, read_stats, usual_rows,
+};
 use fan_work::{Forks, Work, map_pieces};
 use geo_addr::{List, Memory, Text};
 use geo_outside::Gate;
