@@ -1,9 +1,8 @@
 //! A feed, read by parts side by side.
 ghost use Rattle.std.specs.Prelude.{◌≡◌, ◌<◌, ◌≤◌, ◌↔◌, ◌++◌, IfOk, OnOk, length};
 ghost use Rattle.std.specs.List.{flat_map};
-ghost use Rattle.feed_csv.specs.File.{AreClean, accepted, feed, longest, most};
+ghost use Rattle.feed_csv.specs.File.{AreClean, accepted, feed, longest, most, refused};
 ghost use Rattle.feed_csv.specs.Parts.{accepted_of, found_entries, found_faults, refused_of};
-ghost use Rattle.feed_csv.specs.declared.parts.TheConstants.{FEED_PART};
 
 use crate::read::{Gathered, LONGEST_FEED, MOST, feed_of, gathered_with_room, read_lines};
 use csv_lines::{KnownTails, OwnTail};
@@ -11,7 +10,7 @@ use fan_work::{Forks, Work, map_pieces};
 use geo_addr::Memory;
 use geo_outside::Gate;
 use geo_terms::{Feed, SourceFault};
-use line_parts::{LEAST_PART, LinePart, parts_of};
+use line_parts::{LEAST_PART, LinePart, first_parts, part_size, parts_of};
 use std::alloc::Global;
 use std::marker::Sync;
 use std::thread::Threads;
@@ -58,22 +57,20 @@ impl<'a, 'b> Work<LinePart<'a>, Gathered> for PartReading<'b> {
 pub fn read_feed_by_parts<R: Threads + Sync, G: Gate>(
     forks: &Forks<R, G>,
     url: &str,
-    bytes: &[u8],
+    bytes: Vec<u8>,
     known: &KnownTails,
     learned: &mut Vec<OwnTail>,
 ) -> Result<Feed, SourceFault>
-    ensures read { IfOk result (λ found. found ≡ feed url.now bytes.now) }
+    ensures read { IfOk result (λ found. found ≡ feed url.now bytes.items) }
     ensures clean { IfOk result (λ found. AreClean found.entries) }
-    ensures within { OnOk result (length (accepted bytes.now) ≤ most) }
-    ensures too_long { (result ≡ Err SourceFault.TooLong) ↔ (longest < length bytes.now) }
-    ensures too_many { result ≡ Err SourceFault.TooMany → most < length (accepted bytes.now) }
+    ensures within { OnOk result (length (accepted bytes.items) ≤ most) }
+    ensures too_long { (result ≡ Err SourceFault.TooLong) ↔ (longest < length bytes.items) }
+    ensures too_many { result ≡ Err SourceFault.TooMany → most < length (accepted bytes.items) }
 {
     if bytes.len() > LONGEST_FEED {
         return Err(SourceFault::TooLong);
     }
-    let size = part_size(bytes.len(), forks.pieces as usize);
-    let parts = parts_of(forks.alloc, bytes, size)?;
-    let mut all = read_parts(forks, parts.as_slice(), known, bytes.len())?;
+    let mut all = read_parts(forks, bytes, known)?;
     learned.append(&mut all.tails).map_err(Memory::from)?;
     if all.entries.len() > MOST {
         return Err(SourceFault::TooMany);
@@ -88,29 +85,21 @@ fn is_long(part: &LinePart) -> bool {
     part.text.len() > LONG_PART / 4
 }
 
-// After how many bytes a part of a feed of `size` bytes ends, so that each piece has as many parts.
-fn part_size(size: usize, pieces: usize) -> usize
-    requires { 0 < pieces }
-    ensures { FEED_PART ≤ result }
-{
-    let share = size / pieces;
-    let rounds = (share / LONG_PART).max(1);
-    (share / rounds).max(FEED_PART)
-}
-
-// What is found in all parts of a feed of `size` bytes. As many are read at a time as there are
-// pieces, and what was found in them is put to the rest before the next are read.
+// What is found in all parts of a feed, whose bytes are given back. As many are read at a time as
+// there are pieces, and what was found in them is put to the rest before the next are read.
 fn read_parts<R: Threads + Sync, G: Gate>(
     forks: &Forks<R, G>,
-    parts: &[LinePart],
+    bytes: Vec<u8>,
     known: &KnownTails,
-    size: usize,
 ) -> Result<Gathered, Memory>
-    ensures entries { IfOk result (λ all. all.entries.items ≡ accepted_of parts.now) }
-    ensures faults { IfOk result (λ all. all.faults.items ≡ refused_of parts.now) }
+    ensures entries { IfOk result (λ all. all.entries.items ≡ accepted bytes.items) }
+    ensures faults { IfOk result (λ all. all.faults.items ≡ refused bytes.items) }
 {
-    let mut all = gathered_with_room(forks.alloc, most_entries(size), most_faults(size))?;
-    read_left(forks, parts, known, &mut all)?;
+    let size = part_size(bytes.len(), forks.pieces as usize, LONG_PART);
+    let parts = parts_of(forks.alloc, bytes.as_slice(), size)?;
+    let (entries, faults) = (most_entries(bytes.len()), most_faults(bytes.len()));
+    let mut all = gathered_with_room(forks.alloc, entries, faults)?;
+    read_left(forks, parts.as_slice(), known, &mut all)?;
     all.entries.shrink_to_fit();
     all.faults.shrink_to_fit();
     Ok(all)
@@ -145,19 +134,6 @@ fn most_entries(size: usize) -> usize {
 // The most faults of so many bytes: each has a line of at least two, but for the last.
 fn most_faults(size: usize) -> usize {
     size / 2 + 1
-}
-
-// The first of some parts, at most so many, and the others.
-fn first_parts<'a, 'b>(
-    parts: &'b [LinePart<'a>],
-    count: usize,
-) -> (&'b [LinePart<'a>], &'b [LinePart<'a>])
-    requires some { 0 < length parts.now }
-    requires count { 0 < count }
-    ensures joined { result.0.now ++ result.1.now ≡ parts.now }
-    ensures fewer { length result.1.now < length parts.now }
-{
-    parts.split_at(parts.len().min(count))
 }
 
 // Puts what is found in parts, each read by a piece, to what was found in those before.

@@ -129,7 +129,7 @@ fn read_generated<R: Threads + Sync, G: Gate>(
 {
     let bytes = gen_feed(forks.alloc, lines, second)?;
     let (known, mut learned) = (KnownTails::new(forks.alloc), Vec::new(forks.alloc));
-    match read_feed_by_parts(forks, URL, bytes.as_slice(), &known, &mut learned) {
+    match read_feed_by_parts(forks, URL, bytes, &known, &mut learned) {
         Ok(feed) => Ok(feed),
         Err(fault) => Err(memory_of(fault)),
     }

@@ -5,7 +5,7 @@ use Rattle.std.proofs.Common.{Some, None, Result, Ok, Err, refl, sym, ◌∙◌,
 use Rattle.std.proofs.Common.{add-one}
 use Rattle.std.proofs.Math.Seq.{take-suc}
 use Rattle.std.proofs.lemmas.Slice.Zip.{all_zipped_more}
-use Rattle.std.proofs.lemmas.List.{length-map, take-map}
+use Rattle.std.proofs.lemmas.List.{append-nil, append_assoc, length-map, take-map}
 use Rattle.std.proofs.lemmas.Option.{slice_get_read, slice_get_within}
 use Rattle.std.specs.List.{AllZip, list_all}
 use Rattle.std.specs.Prelude.{slice_get, option_map}
@@ -31,7 +31,8 @@ use Rattle.job_run.specs.Acts.{Move, looks, counts, does, act_effect, after, blo
 use Rattle.job_run.specs.Acts.{step_of}
 use Rattle.job_run.specs.Course.{course, ended, unless}
 use Rattle.job_run.specs.Feeds.{HaltsReading, IsFirstNoFeed, IsFirstRefused, IsNoFeed, IsRead}
-use Rattle.job_run.specs.Feeds.{Parses, RefusesParsing, no_read, with_feeds}
+use Rattle.job_run.specs.Feeds.{Parses, ParsesAllBut, ParsesMore, RefusesParsing, no_read}
+use Rattle.job_run.specs.Feeds.{with_feeds}
 use Rattle.job_run.specs.Moves.{sets_feed, together}
 use Rattle.job_run.specs.Parts.{DoesPart, FailsAt, FailsPart}
 use Rattle.job_run.specs.Published.{Publishes}
@@ -118,6 +119,44 @@ parses_joined run rest helds first others all are here there joined =
     subst (λ zs. AllZip Parses helds zs) (sym joined)
     (subst (λ zs. AllZip Parses zs (first ++ others)) are
     (AllZip-append Parses run rest first others here there))
+
+-- nothing was read yet
+pub none_parsed : (run : List Held) (parsed : List (Result FeedParts Stop)) → run ≡ []
+    → parsed ≡ [] → ParsesAllBut run [] parsed
+none_parsed run parsed empty none = record {
+  done = [];
+  is = empty;
+  made = subst (AllZip Parses []) (sym none) (search);
+}
+
+-- the last run is parsed too
+pub run_parsed : (run held : List Held) (parsed all : List (Result FeedParts Stop))
+    → ParsesAllBut run held parsed → ParsesMore run parsed all → AllZip Parses held all
+run_parsed run held parsed all but more =
+    subst (λ zs. AllZip Parses zs all) but.is (more but.done but.made)
+
+-- one more of those that were read goes into the run
+pub run_longer : (run held now : List Held) (parsed : List (Result FeedParts Stop)) (one : Held)
+    → ParsesAllBut run held parsed → now ≡ run ++ (one ∷ [])
+    → ParsesAllBut now (held ++ (one ∷ [])) parsed
+run_longer run held now parsed one but pushed = record {
+  done = but.done;
+  is =
+      ap (λ t. but.done ++ t) pushed ∙ sym (append_assoc but.done run (one ∷ []))
+      ∙ ap (λ t. t ++ (one ∷ [])) but.is;
+  made = but.made;
+}
+
+-- the run and a long one behind it are parsed
+pub run_and_long : (run held now : List Held) (parsed short long : List (Result FeedParts Stop))
+    (one : Held) → ParsesAllBut run held parsed → ParsesMore run parsed short
+    → ParsesMore (one ∷ []) short long → now ≡ []
+    → ParsesAllBut now (held ++ (one ∷ [])) long
+run_and_long run held now parsed short long one but first second empty = record {
+  done = held ++ (one ∷ []);
+  is = ap (λ t. (held ++ (one ∷ [])) ++ t) empty ∙ append-nil (held ++ (one ∷ []));
+  made = second held (run_parsed run held parsed short but first);
+}
 
 pub reads_pushed : (told : Told) (steps : List Step)
     (helds results : List Held) (i : ℕ) (step : Step) (held : Held) → i < length steps

@@ -1,6 +1,7 @@
 -- Feeds that are set together: what was read for each line, and what was made of it.
-use Rattle.std.specs.Prelude.{◌≡◌, ◌≢◌, ℕ, ◌<◌, ◌⊎◌, List, [], ◌∷◌, map, take, slice_get, Option}
-use Rattle.std.specs.Prelude.{Some, None, Result, Ok, Err}
+use Rattle.std.specs.Prelude.{◌≡◌, ◌≢◌, ℕ, ◌<◌, ◌⊎◌, List, [], ◌∷◌, ◌++◌, map, take, slice_get}
+use Rattle.std.specs.Prelude.{Option, Some, None, Result, Ok, Err}
+use Rattle.std.specs.List.{AllZip}
 use Rattle.std.specs.FinMap as files
 use Rattle.feed_csv.specs.File.{feed, longest}
 use Rattle.geo_outside.specs.Files.{Told}
@@ -47,6 +48,18 @@ abbrev pub Parses : Held → Result FeedParts Stop → Type 0
 Parses held (Ok found) = (found ≡ feed held.url.now held.bytes.items)
     × (no_feed (Some held.bytes.items) ≡ None)
 Parses held (Err why) = IsNoFeed held why
+
+-- more of what was read is parsed, behind what was before
+abbrev pub ParsesMore : List Held → (before after : List (Result FeedParts Stop)) → Type 0
+ParsesMore more before after =
+    (done : List Held) → AllZip Parses done before → AllZip Parses (done ++ more) after
+
+-- of what was read, all but the last run is parsed
+pub record ParsesAllBut (run held : List Held)
+    (parsed : List (Result FeedParts Stop)) : Type 0 where
+  pub done : List Held
+  pub is : done ++ run ≡ held
+  pub made : AllZip Parses done parsed
 
 -- this is the first of what was made that is no feed
 pub record IsFirstRefused (parsed : List (Result FeedParts Stop)) (why : Stop)

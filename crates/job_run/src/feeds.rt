@@ -7,8 +7,8 @@ ghost use Rattle.feed_csv.specs.File.{feed, longest};
 ghost use Rattle.geo_outside.specs.Count.{Rose};
 ghost use Rattle.geo_outside.specs.Files.{Told};
 ghost use Rattle.update_session.specs.Standing.{Standing, Stands};
-ghost use Rattle.job_run.specs.Feeds.{HaltsReading, IsFirstRefused, IsRead, Parses, RefusesParsing};
-ghost use Rattle.job_run.specs.Feeds.{no_read, with_feeds};
+ghost use Rattle.job_run.specs.Feeds.{HaltsReading, IsFirstRefused, IsRead, Parses, ParsesMore};
+ghost use Rattle.job_run.specs.Feeds.{RefusesParsing, no_read, with_feeds};
 ghost use Rattle.job_run.specs.Moves.{read_rooms, sets_feed, together};
 ghost use Rattle.job_run.specs.Parts.{DoesPart, FailsAt};
 ghost use Rattle.job_run.specs.Seen.{Seen};
@@ -115,11 +115,10 @@ pub(crate) fn set_together<R: Threads + Sync, F: Folder, G: Gate>(
         Ok(held) => held,
         Err(stop) => return Err(stop),
     };
-    let feeds = match parse_all(forks, held.as_slice(), known) {
+    let feeds = match parse_all(forks, held, known) {
         Ok(feeds) => feeds,
         Err(stop) => return Err(stop),
     };
-    drop(held);
     match set_all(feeds, session) {
         Ok(()) => Ok(()),
         Err(Memory) => Err(OUT_OF_MEMORY),
@@ -209,11 +208,11 @@ fn read_line<'a, F: Folder>(alloc: Global, step: &'a Step, folder: &mut F) -> Re
 /// The feeds of what was read, by pieces side by side, or the first that is none.
 fn parse_all<R: Threads + Sync, G: Gate>(
     forks: &Forks<R, G>,
-    held: &[Held<'_>],
+    held: Vec<Held<'_>>,
     known: &mut KnownTails,
 ) -> Result<Vec<ReadyFeed>, StepStop>
-    ensures feeds { IfOk result (λ feeds. AllZip Parses held.now (map Ok feeds.items)) }
-    ensures refused { IfErr result (λ stop. RefusesParsing held.now stop.why stop.at) }
+    ensures feeds { IfOk result (λ feeds. AllZip Parses held.entry.items (map Ok feeds.items)) }
+    ensures refused { IfErr result (λ stop. RefusesParsing held.entry.items stop.why stop.at) }
 {
     match parsed_all(forks, held, known) {
         Ok(parsed) => all_feeds(forks.alloc, parsed),
@@ -222,102 +221,96 @@ fn parse_all<R: Threads + Sync, G: Gate>(
 }
 
 /// What each of those that were read is, one run of them after another, so that a run has the tails
-/// of those before it.
+/// of those before it. A run is a long one alone, or short ones between two long ones.
 fn parsed_all<R: Threads + Sync, G: Gate>(
     forks: &Forks<R, G>,
-    held: &[Held<'_>],
+    held: Vec<Held<'_>>,
     known: &mut KnownTails,
 ) -> Result<Vec<Result<ReadyFeed, Stop>>, Memory>
-    ensures related { IfOk result (λ parsed. AllZip Parses held.now parsed.items) }
+    ensures related { IfOk result (λ parsed. AllZip Parses held.entry.items parsed.items) }
 {
-    let (run, rest) = first_run(held);
-    let run = parsed_run(forks, run, known)?;
-    let parsed = learned_from(forks.alloc, run, known)?;
-    if rest.is_empty() {
-        return Ok(parsed);
-    }
-    match parsed_all(forks, rest, known) {
-        Ok(others) => joined(parsed, others),
-        Err(Memory) => {
-            drop(parsed);
-            Err(Memory)
+    let mut parsed = Vec::new(forks.alloc);
+    let mut run = Vec::new(forks.alloc);
+    for one in held {
+        if one.bytes.len() <= FEED_PART {
+            run.push(one)?;
+        } else {
+            add_run(forks, run, known, &mut parsed)?;
+            run = Vec::new(forks.alloc);
+            add_long(forks, one, known, &mut parsed)?;
         }
     }
+    add_run(forks, run, known, &mut parsed)?;
+    Ok(parsed)
 }
 
-/// The first that are parsed together, and the others: a long one alone, or those before the first
-/// long one.
-fn first_run<'a, 'b>(held: &'b [Held<'a>]) -> (&'b [Held<'a>], &'b [Held<'a>])
-    ensures joined { result.0.now ++ result.1.now ≡ held.now }
-    ensures fewer { length result.1.now ≤ length held.now - 1 }
-{
-    let mut short = 0;
-    while short < held.len() && held[short].bytes.len() <= FEED_PART {
-        short += 1;
-    }
-    held.split_at(short.max(1).min(held.len()))
-}
-
-/// What those that were parsed are, whose new tails are handed to those that come later.
-fn learned_from(
-    alloc: Global,
-    parsed: Vec<Parsed>,
-    known: &mut KnownTails,
-) -> Result<Vec<Result<ReadyFeed, Stop>>, Memory>
-    ensures { IfOk result (λ found. found.items ≡ parsed.items) }
-{
-    let mut all = Vec::with_capacity(alloc, parsed.len())?;
-    for one in parsed {
-        known.learn(one.learned)?;
-        all.push(one.feed)?;
-    }
-    Ok(all)
-}
-
-/// Some items, and others behind them.
-fn joined<T: Drop>(first: Vec<T>, others: Vec<T>) -> Result<Vec<T>, Memory>
-    ensures { IfOk result (λ all. all.items ≡ first.items ++ others.items) }
-{
-    let mut all = first;
-    let mut others = others;
-    all.append(&mut others)?;
-    Ok(all)
-}
-
-/// What each of those that were read is, by pieces side by side. A long one that stands alone is
-/// read by parts side by side instead.
-fn parsed_run<R: Threads + Sync, G: Gate>(
+/// Adds what each of a run of short ones is, by pieces side by side.
+fn add_run<R: Threads + Sync, G: Gate>(
     forks: &Forks<R, G>,
-    held: &[Held<'_>],
-    known: &KnownTails,
-) -> Result<Vec<Parsed>, Memory>
-    ensures related { IfOk result (λ parsed. AllZip Parses held.now parsed.items) }
+    run: Vec<Held<'_>>,
+    known: &mut KnownTails,
+    parsed: &mut Vec<Result<ReadyFeed, Stop>>,
+) -> Result<(), Memory>
+    ensures { OnOk result (ParsesMore run.entry.items parsed.old.items parsed.new.items) }
 {
-    if let [one] = held {
-        if one.bytes.len() > FEED_PART {
-            return parsed_long(forks, one, known);
-        }
-    }
     let work = Parsing {
         alloc: forks.alloc,
         known,
     };
-    map_pieces(forks.rt, forks.alloc, forks.gate, forks.pieces, held, &work)
+    let found = map_pieces(
+        forks.rt,
+        forks.alloc,
+        forks.gate,
+        forks.pieces,
+        run.as_slice(),
+        &work,
+    )?;
+    learn(found, known, parsed)?;
+    Ok(())
+}
+
+/// Adds what a long one is.
+fn add_long<R: Threads + Sync, G: Gate>(
+    forks: &Forks<R, G>,
+    held: Held<'_>,
+    known: &mut KnownTails,
+    parsed: &mut Vec<Result<ReadyFeed, Stop>>,
+) -> Result<(), Memory>
+    ensures { OnOk result (ParsesMore (held.entry ∷ []) parsed.old.items parsed.new.items) }
+{
+    let found = parsed_long(forks, held, known)?;
+    learn(found, known, parsed)?;
+    Ok(())
 }
 
 /// What a long one is, by parts side by side.
 fn parsed_long<R: Threads + Sync, G: Gate>(
     forks: &Forks<R, G>,
-    held: &Held<'_>,
+    held: Held<'_>,
     known: &KnownTails,
 ) -> Result<Vec<Parsed>, Memory>
-    ensures related { IfOk result (λ parsed. AllZip Parses (held.now ∷ []) parsed.items) }
+    ensures related { IfOk result (λ parsed. AllZip Parses (held.entry ∷ []) parsed.items) }
 {
     let mut learned = Vec::new(forks.alloc);
-    let feed = ready_long(forks, held.url, held.bytes.as_slice(), known, &mut learned);
+    let feed = ready_long(forks, held.url, held.bytes, known, &mut learned);
     let mut parsed = Vec::new(forks.alloc);
     parsed.push(Parsed { feed, learned })?;
     Ok(parsed)
+}
+
+/// Adds what those that were parsed are, whose new tails are handed to those that come later.
+fn learn(
+    found: Vec<Parsed>,
+    known: &mut KnownTails,
+    parsed: &mut Vec<Result<ReadyFeed, Stop>>,
+) -> Result<(), Memory>
+    ensures { OnOk result (parsed.new.items ≡ parsed.old.items ++ found.items) }
+{
+    for one in found {
+        known.learn(one.learned)?;
+        parsed.push(one.feed)?;
+    }
+    Ok(())
 }
 
 /// The feeds, where none was refused, or the first that was.
@@ -399,14 +392,14 @@ fn feed_of(
 fn ready_long<R: Threads + Sync, G: Gate>(
     forks: &Forks<R, G>,
     url: &str,
-    bytes: &[u8],
+    bytes: Vec<u8>,
     known: &KnownTails,
     learned: &mut Vec<OwnTail>,
 ) -> Result<ReadyFeed, Stop>
-    ensures feed { IfOk result (λ found. found ≡ feed url.now bytes.now) }
-    ensures few { OnOk result (no_feed (Some bytes.now) ≡ None) }
+    ensures feed { IfOk result (λ found. found ≡ feed url.now bytes.items) }
+    ensures few { OnOk result (no_feed (Some bytes.items) ≡ None) }
     ensures unset { IfErr result (λ why. IsHindered why
-        (λ cause. no_feed (Some bytes.now) ≡ Some cause)) }
+        (λ cause. no_feed (Some bytes.items) ≡ Some cause)) }
     ensures read { (result ≢ Err Stop.ReadFailed) × (result ≢ Err (Stop.Blocked Cause.Missing)) }
     ensures reads { (result ≢ Err Stop.PutFailed) × (result ≢ Err Stop.SinkFailed)
         × (result ≢ Err (Stop.Blocked Cause.Words)) }
@@ -425,14 +418,14 @@ fn ready_long<R: Threads + Sync, G: Gate>(
 fn long_feed_of<R: Threads + Sync, G: Gate>(
     forks: &Forks<R, G>,
     url: &str,
-    bytes: &[u8],
+    bytes: Vec<u8>,
     known: &KnownTails,
     learned: &mut Vec<OwnTail>,
 ) -> Result<Feed, Stop>
-    ensures feed { IfOk result (λ found. found ≡ feed url.now bytes.now) }
-    ensures few { OnOk result (no_feed (Some bytes.now) ≡ None) }
+    ensures feed { IfOk result (λ found. found ≡ feed url.now bytes.items) }
+    ensures few { OnOk result (no_feed (Some bytes.items) ≡ None) }
     ensures unset { IfErr result (λ why. IsHindered why
-        (λ cause. no_feed (Some bytes.now) ≡ Some cause)) }
+        (λ cause. no_feed (Some bytes.items) ≡ Some cause)) }
     ensures read { (result ≢ Err Stop.ReadFailed) × (result ≢ Err (Stop.Blocked Cause.Missing)) }
     ensures reads { (result ≢ Err Stop.PutFailed) × (result ≢ Err Stop.SinkFailed)
         × (result ≢ Err (Stop.Blocked Cause.Words)) }

@@ -2,6 +2,8 @@
 use Rattle.std.proofs.Common.{◌≡◌, ℕ, List, [], ◌∷◌, ◌++◌, Option, filter_map, refl}
 use Rattle.std.proofs.Common.{sym, ap, ap₂, ◌∙◌}
 use Rattle.std.specs.List.{AllZip, flat_map}
+use Rattle.std.proofs.lemmas.List.{append_assoc}
+use Rattle.std.proofs.lemmas.List.Concat.{flat_map-append}
 use Rattle.std.proofs.lemmas.List.Elements.{filter_map-append}
 use Rattle.geo_addr.specs.Lines.{numbered_lines}
 use Rattle.line_parts.specs.Parts.{behind, lines_in}
@@ -25,6 +27,20 @@ module _ {A B : Type 0} (f : (ℕ × List ℕ) → Option A) (g : B → List A)
       → AllZip Reads parts found → flat_map g found ≡ filter_map f (numbered_lines file)
   gathered file parts found each cut zipped =
       by_parts parts found each zipped ∙ ap (filter_map f) cut
+
+-- some parts more have been read
+pub more_parts : {A : Type 0} (f : (ℕ × List ℕ) → Option A) (before now : List A)
+    (some rest left : List LinePart)
+    → now ≡ before ++ filter_map f (flat_map lines_in some) → some ++ rest ≡ left
+    → now ++ filter_map f (flat_map lines_in rest) ≡ before ++ filter_map f (flat_map lines_in left)
+more_parts f before now some rest left is both =
+    let of_some = filter_map f (flat_map lines_in some) in
+    let of_rest = filter_map f (flat_map lines_in rest) in
+    ap (λ t. t ++ of_rest) is
+    ∙ append_assoc before of_some of_rest
+    ∙ ap (λ t. before ++ t) (sym (filter_map-append f (flat_map lines_in some)
+    (flat_map lines_in rest)) ∙ ap (filter_map f) (sym (flat_map-append lines_in some rest)
+    ∙ ap (flat_map lines_in) both))
 
 -- what does not look at numbers says the same of a part as of its text
 flat_map-behind : {A : Type 0} (g : List ℕ → List A) (n : ℕ) (ls : List (ℕ × List ℕ))

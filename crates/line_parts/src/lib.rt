@@ -4,7 +4,9 @@
 mod cut;
 mod lines;
 mod part;
+mod rounds;
 
 pub use cut::parts_of;
 pub use lines::PartLines;
 pub use part::{LEAST_PART, LinePart};
+pub use rounds::{first_parts, part_size};

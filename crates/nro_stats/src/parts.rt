@@ -2,24 +2,32 @@
 ghost use Rattle.std.specs.Prelude.{◌≡◌, ◌<◌, ◌≤◌, ◌↔◌, ◌++◌, IfOk, OnOk, length};
 ghost use Rattle.std.specs.List.{flat_map};
 ghost use Rattle.nro_stats.specs.File.{longest, most, notes, rows, stats};
-ghost use Rattle.nro_stats.specs.Parts.{found_notes, found_rows};
+ghost use Rattle.nro_stats.specs.Parts.{found_notes, found_rows, notes_of, rows_of};
 
-use crate::read::{Gathered, LONGEST_STATS, MOST, read_lines, read_stats};
+use crate::read::{
+    Gathered, LONGEST_STATS, MOST, gathered_with_room, read_lines, read_stats, usual_rows,
+};
 use fan_work::{Forks, Work, map_pieces};
 use geo_addr::{List, Memory, Text};
 use geo_outside::Gate;
 use geo_terms::{SourceFault, Stats};
-use line_parts::{LEAST_PART, LinePart, parts_of};
+use line_parts::{LEAST_PART, LinePart, first_parts, part_size, parts_of};
 use std::alloc::Global;
 use std::marker::Sync;
 use std::thread::Threads;
 
-/// Work that reads the lines of a part of the file in a slot, which has `size` bytes.
+/// The least bytes of a part where each piece has several. The C library gives back the room for
+/// the rows of so long a part when they have been put to the others.
+const LONG_PART: usize = 4_194_304;
+
+/// For each so many bytes of a part room for one row is taken ahead; no line of one is shorter.
+const LEAST_LINE: usize = 8;
+
+/// Work that reads the lines of a part of the file in a slot.
 #[derive(Drop)]
 struct PartReading<'a> {
     alloc: Global,
     slot: &'a str,
-    size: usize,
 }
 
 impl<'a, 'b> Work<LinePart<'b>, Gathered> for PartReading<'a> {
@@ -28,15 +36,11 @@ impl<'a, 'b> Work<LinePart<'b>, Gathered> for PartReading<'a> {
     ghost related = { λ work part found. IsPartRead work.slot.now part found };
 
     fn done(&self, item: &LinePart<'b>) -> Result<Gathered, Memory> {
-        // The rows of the other parts come to stand behind those of the first.
-        let room = if item.before == 0 {
-            self.size
-        } else {
-            item.text.len()
-        };
         // A text of its own, since all copies of a text are counted in one cell.
         let slot = Text::of(self.alloc, self.slot)?;
-        match read_lines(self.alloc, &slot, *item, room, usize::MAX) {
+        // Room that is not used costs nothing, and a list that grows leaves what it had.
+        let rows = (item.text.len() / LEAST_LINE).min(MOST);
+        match read_lines(self.alloc, &slot, *item, rows, usize::MAX) {
             Ok(found) => Ok(found),
             Err(_) => Err(Memory),
         }
@@ -45,8 +49,9 @@ impl<'a, 'b> Work<LinePart<'b>, Gathered> for PartReading<'a> {
 
 /// Reads a statistics file as `read_stats` does, by parts of it side by side.
 ///
-/// A file of at most `LEAST_PART` bytes is read on the calling thread. Whether a longer one has too
-/// many delegations is asked once all are read.
+/// A file of at most `LEAST_PART` bytes is read on the calling thread, as each is where there is one
+/// piece. A long file has more parts than there are pieces, so that what is found in a part is soon
+/// put to the rest. Whether it has too many delegations is asked once all are read.
 pub fn read_stats_by_parts<R: Threads + Sync, G: Gate>(
     forks: &Forks<R, G>,
     slot: &str,
@@ -57,7 +62,7 @@ pub fn read_stats_by_parts<R: Threads + Sync, G: Gate>(
     ensures too_long { (result ≡ Err SourceFault.TooLong) ↔ (longest < length bytes.now) }
     ensures too_many { result ≡ Err SourceFault.TooMany → most < length (rows slot.now bytes.now) }
 {
-    if bytes.len() <= LEAST_PART {
+    if bytes.len() <= LEAST_PART || forks.pieces == 1 {
         return read_stats(forks.alloc, slot, bytes);
     }
     if bytes.len() > LONGEST_STATS {
@@ -84,49 +89,79 @@ fn found_by_parts<R: Threads + Sync, G: Gate>(
     ensures rows { IfOk result (λ all. all.rows.items ≡ rows slot.now bytes.now) }
     ensures notes { IfOk result (λ all. all.notes.items ≡ notes bytes.now) }
 {
-    let size = (bytes.len() / forks.pieces as usize).max(LEAST_PART);
+    let size = part_size(bytes.len(), forks.pieces as usize, LONG_PART);
     let parts = parts_of(forks.alloc, bytes, size)?;
+    let mut all = gathered_with_room(forks.alloc, usual_rows(bytes.len()))?;
+    read_left(forks, slot, parts.as_slice(), &mut all)?;
+    Ok(all)
+}
+
+// Puts what is found in the parts that are left to what was found in those before.
+fn read_left<R: Threads + Sync, G: Gate>(
+    forks: &Forks<R, G>,
+    slot: &str,
+    left: &[LinePart],
+    all: &mut Gathered,
+) -> Result<(), Memory>
+    ensures rows { OnOk result
+        (all.new.rows.items ≡ all.old.rows.items ++ rows_of slot.now left.now) }
+    ensures notes { OnOk result (all.new.notes.items ≡ all.old.notes.items ++ notes_of left.now) }
+{
+    if left.is_empty() {
+        return Ok(());
+    }
+    let (some, rest) = first_parts(left, forks.pieces as usize);
+    read_some(forks, slot, some, all)?;
+    read_left(forks, slot, rest, all)?;
+    Ok(())
+}
+
+// Puts what is found in parts, each read by a piece, to what was found in those before.
+fn read_some<R: Threads + Sync, G: Gate>(
+    forks: &Forks<R, G>,
+    slot: &str,
+    parts: &[LinePart],
+    all: &mut Gathered,
+) -> Result<(), Memory>
+    ensures rows { OnOk result
+        (all.new.rows.items ≡ all.old.rows.items ++ rows_of slot.now parts.now) }
+    ensures notes { OnOk result (all.new.notes.items ≡ all.old.notes.items ++ notes_of parts.now) }
+{
     let work = PartReading {
         alloc: forks.alloc,
         slot,
-        size: bytes.len(),
     };
     let found = map_pieces(
         forks.rt,
         forks.alloc,
         forks.gate,
         forks.pieces,
-        parts.as_slice(),
+        parts,
         &work,
     )?;
-    joined(forks.alloc, found)
+    put_all(found, all)?;
+    Ok(())
 }
 
-// What was found in all parts.
-fn joined(alloc: Global, parts: Vec<Gathered>) -> Result<Gathered, Memory>
-    ensures rows { IfOk result (λ all. all.rows.items ≡ flat_map found_rows parts.items) }
-    ensures notes { IfOk result (λ all. all.notes.items ≡ flat_map found_notes parts.items) }
+// Puts what was found in parts to what was found in those before.
+fn put_all(parts: Vec<Gathered>, all: &mut Gathered) -> Result<(), Memory>
+    ensures rows { OnOk result (all.new.rows.items
+        ≡ all.old.rows.items ++ flat_map found_rows parts.items) }
+    ensures notes { OnOk result (all.new.notes.items
+        ≡ all.old.notes.items ++ flat_map found_notes parts.items) }
 {
-    let mut all = Gathered {
-        rows: Vec::new(alloc),
-        notes: Vec::new(alloc),
-    };
     for part in parts {
-        all = joined_two(all, part)?;
+        put(part, all)?;
     }
-    Ok(all)
+    Ok(())
 }
 
-// What was found in two parts, in the room of the first where that has rows.
-fn joined_two(first: Gathered, second: Gathered) -> Result<Gathered, Memory>
-    ensures rows { IfOk result (λ all. all.rows.items ≡ first.rows.items ++ second.rows.items) }
-    ensures notes { IfOk result (λ all. all.notes.items ≡ first.notes.items ++ second.notes.items) }
+fn put(part: Gathered, all: &mut Gathered) -> Result<(), Memory>
+    ensures rows { OnOk result (all.new.rows.items ≡ all.old.rows.items ++ part.rows.items) }
+    ensures notes { OnOk result (all.new.notes.items ≡ all.old.notes.items ++ part.notes.items) }
 {
-    if first.rows.is_empty() && first.notes.is_empty() {
-        return Ok(second);
-    }
-    let (mut all, mut second) = (first, second);
-    all.rows.append(&mut second.rows)?;
-    all.notes.append(&mut second.notes)?;
-    Ok(all)
+    let mut part = part;
+    all.rows.append(&mut part.rows)?;
+    all.notes.append(&mut part.notes)?;
+    Ok(())
 }

@@ -1,6 +1,6 @@
 //! A statistics file.
-ghost use Rattle.std.specs.Prelude.{◌≡◌, ◌≢◌, ◌<◌, ◌≤◌, ◌↔◌, ◌++◌, length, IfOk, IsSome, OnOk};
-ghost use Rattle.std.specs.Prelude.{option_to_list};
+ghost use Rattle.std.specs.Prelude.{◌≡◌, ◌≢◌, ◌<◌, ◌≤◌, ◌↔◌, ◌++◌, [], length, IfOk, IsSome};
+ghost use Rattle.std.specs.Prelude.{OnOk, option_to_list};
 ghost use Rattle.nro_stats.specs.File.{longest, most, note_of, row_of, rows, stats};
 ghost use Rattle.nro_stats.specs.Parts.{notes_in, rows_in};
 
@@ -33,7 +33,8 @@ pub fn read_stats(alloc: Global, slot: &str, bytes: &[u8]) -> Result<Stats, Sour
         return Err(SourceFault::TooLong);
     }
     let slot = Text::of(alloc, slot)?;
-    let found = read_lines(alloc, &slot, LinePart::whole(bytes), bytes.len(), MOST)?;
+    let rows = usual_rows(bytes.len());
+    let found = read_lines(alloc, &slot, LinePart::whole(bytes), rows, MOST)?;
     Ok(Stats {
         slot,
         rows: List::of(found.rows),
@@ -56,12 +57,12 @@ struct Reading {
     texts: Texts,
 }
 
-/// Reads the lines of a part of a file of `size` bytes, with at most `limit` delegations.
+/// Reads the lines of a part of a file, with at most `limit` delegations and room for so many rows.
 pub(crate) fn read_lines(
     alloc: Global,
     slot: &Text,
     part: LinePart,
-    size: usize,
+    rows: usize,
     limit: usize,
 ) -> Result<Gathered, SourceFault>
     ensures rows { IfOk result (λ found. found.rows.items ≡ rows_in slot.now part.entry) }
@@ -71,10 +72,10 @@ pub(crate) fn read_lines(
         → limit < length (rows_in slot.now part.entry) }
     ensures too_long { result ≢ Err SourceFault.TooLong }
 {
-    let room = (size / SHORT_LINE).min(MOST);
+    let gathered = gathered_with_room(alloc, rows)?;
     let mut found = Reading {
-        rows: Vec::with_capacity(alloc, room).map_err(Memory::from)?,
-        notes: Vec::new(alloc),
+        rows: gathered.rows,
+        notes: gathered.notes,
         texts: Texts::new(alloc),
     };
     for line in part.lines() {
@@ -84,6 +85,21 @@ pub(crate) fn read_lines(
         rows: found.rows,
         notes: found.notes,
     })
+}
+
+/// For how many rows of a file of so many bytes there is room ahead.
+pub(crate) fn usual_rows(size: usize) -> usize {
+    (size / SHORT_LINE).min(MOST)
+}
+
+/// Nothing yet, with room for so many rows, so that they are not moved as they come.
+pub(crate) fn gathered_with_room(alloc: Global, rows: usize) -> Result<Gathered, Memory>
+    ensures rows { IfOk result (λ found. found.rows.items ≡ []) }
+    ensures notes { IfOk result (λ found. found.notes.items ≡ []) }
+{
+    let rows = Vec::with_capacity(alloc, rows)?;
+    let notes = Vec::new(alloc);
+    Ok(Gathered { rows, notes })
 }
 
 // Adds what one more line says.

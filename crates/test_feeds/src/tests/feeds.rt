@@ -227,7 +227,7 @@ fn a_feed_by_parts(rt: HostRuntime) -> Result<(), Fail> {
         pieces: 4,
     };
     let (known, mut learned) = (KnownTails::new(rt.alloc()), Vec::new(rt.alloc()));
-    let feed = read_feed_by_parts(&forks, "u", file.as_slice(), &known, &mut learned)?;
+    let feed = read_feed_by_parts(&forks, "u", file, &known, &mut learned)?;
     assert_eq!(rt; counts(&feed), (40_000, 0, 40_000));
     Ok(())
 }

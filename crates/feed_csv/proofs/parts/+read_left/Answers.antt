@@ -1,7 +1,7 @@
 -- Some parts, and then the rest.
 use Rattle.std.proofs.Common.{◌∙◌}
 use Rattle.feed_csv.specs.File.{entry_of, fault_of}
-use Rattle.feed_csv.proofs.PartLemmas.{more_parts}
+use Rattle.line_parts.proofs.GatherLemmas.{more_parts}
 use Rattle.feed_csv.proofs.parts.+read_left.Goals as goal
 
 pub returns-clause-entries : goal.returns-clause-entries

@@ -8,13 +8,13 @@ use Rattle.job_run.proofs.feeds.parse_all.Goals as goal
 pub returns-in-Ok-clause-feeds : goal.returns-in-Ok-clause-feeds
 returns-in-Ok-clause-feeds g c =
     IfOk-weaker c.all_feeds.result _ _
-    (λ feeds same. subst (AllZip Parses c.args.held.now) same c.in-Ok.ensures.related)
+    (λ feeds same. subst (AllZip Parses c.args.held.items) same c.in-Ok.ensures.related)
     c.all_feeds.ensures.feeds
 
 pub returns-in-Ok-clause-refused : goal.returns-in-Ok-clause-refused
 returns-in-Ok-clause-refused g c =
     IfErr-weaker c.all_feeds.result _ _ (λ stop refused. elim refused [
-      | inl first ↦ inl (first_refused c.args.held.now c.in-Ok.parsed.items stop.why stop.at
+      | inl first ↦ inl (first_refused c.args.held.items c.in-Ok.parsed.items stop.why stop.at
           c.in-Ok.ensures.related first)
       | inr out ↦ inr out
     ]) c.all_feeds.ensures.refused

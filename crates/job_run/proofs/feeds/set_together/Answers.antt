@@ -12,18 +12,18 @@ returns-in-Err-clause-stopped g c now world same here =
 pub returns-in-Err-parse_all-clause-stopped : goal.returns-in-Err-parse_all-clause-stopped
 returns-in-Err-parse_all-clause-stopped g c now world same here =
     counting_fails c.args.group.now world c.args.session.now now here
-    c.as_slice.result.now (search rules) c.requires.some
+    c.in-Ok.held.items (search rules) c.requires.some
     c.in-Err-parse_all.stop.why c.in-Err-parse_all.stop.at c.in-Err-parse_all.ensures.refused
 
 pub returns-in-Err-parse_all-clause-at : goal.returns-in-Err-parse_all-clause-at
 returns-in-Err-parse_all-clause-at g c =
-    within_group c.args.group.now c.as_slice.result.now c.in-Err-parse_all.stop.why
+    within_group c.args.group.now c.in-Ok.held.items c.in-Err-parse_all.stop.why
     c.in-Err-parse_all.stop.at c.requires.some (search rules) c.in-Err-parse_all.ensures.refused
 
 pub returns-in-Ok-set_all-clause-done : goal.returns-in-Ok-set_all-clause-done
 returns-in-Ok-set_all-clause-done g c now world same here =
     group_done c.args.group.now world c.args.session.now now here
-    c.as_slice.result.now (search rules)
+    c.in-Ok.held.items (search rules)
     c.in-Ok-parse_all.feeds.items c.in-Ok-parse_all.ensures.feeds c.set_all.new.session
     (search rules)
 

@@ -1,24 +1,18 @@
--- The lists of the parts are those of the file.
-use Rattle.std.proofs.Common.{◌∙◌, List, subst}
-use Rattle.std.proofs.lemmas.Result.{IfOk-weaker}
-use Rattle.std.specs.List.{AllZip}
-use Rattle.line_parts.specs.declared.part.LinePart.{LinePart}
-use Rattle.nro_stats.specs.Parts.{IsPartRead}
-use Rattle.nro_stats.proofs.PartLemmas.{notes_of_parts, rows_of_parts}
+-- What was found in the parts is what the file says.
+use Rattle.std.proofs.Common.{◌++◌, ◌∙◌, ap, filter_map}
+use Rattle.nro_stats.specs.File.{note_of, row_of}
+use Rattle.nro_stats.specs.Parts.{notes_of, rows_of}
 use Rattle.nro_stats.proofs.parts.found_by_parts.Goals as goal
 
 pub returns-clause-rows : goal.returns-clause-rows
 returns-clause-rows g c =
-    let zipped = subst (λ (ps : List LinePart). AllZip (IsPartRead c.args.slot.now) ps
-    c.in_ok-found.found.items) c.as_slice.ensures.value c.in_ok-found.ensures.related in
-    IfOk-weaker c.joined.result _ _ (λ all is. is
-    ∙ rows_of_parts c.args.slot.now c.args.bytes.now _ _ c.in_ok-parts.ensures.lines zipped)
-    c.joined.ensures.rows
+    c.in_ok-read_left.ensures.rows
+    ∙ ap (λ t. t ++ rows_of c.args.slot.now c.as_slice.result.now) c.in_ok-all.ensures.rows
+    ∙ ap (rows_of c.args.slot.now) c.as_slice.ensures.value
+    ∙ ap (filter_map (row_of c.args.slot.now)) c.in_ok-parts.ensures.lines
 
 pub returns-clause-notes : goal.returns-clause-notes
 returns-clause-notes g c =
-    let zipped = subst (λ (ps : List LinePart). AllZip (IsPartRead c.args.slot.now) ps
-    c.in_ok-found.found.items) c.as_slice.ensures.value c.in_ok-found.ensures.related in
-    IfOk-weaker c.joined.result _ _ (λ all is. is
-    ∙ notes_of_parts c.args.slot.now c.args.bytes.now _ _ c.in_ok-parts.ensures.lines zipped)
-    c.joined.ensures.notes
+    c.in_ok-read_left.ensures.notes
+    ∙ ap (λ t. t ++ notes_of c.as_slice.result.now) c.in_ok-all.ensures.notes
+    ∙ ap notes_of c.as_slice.ensures.value ∙ ap (filter_map note_of) c.in_ok-parts.ensures.lines
