@@ -134,10 +134,7 @@ impl Place {
           postal = postal.now;
         }) }
     {
-        says(self.country(), country)
-            && says(self.region(), region)
-            && says(self.city(), city)
-            && says(self.postal(), postal)
+        self.parts.texts.has(country, region, city, postal)
     }
 
     // Whether the four texts of both are the same.
@@ -159,13 +156,6 @@ impl Place {
             .then_with(|| self.city().cmp(other.city()))
             .then_with(|| self.postal().cmp(other.postal()))
     }
-}
-
-// Whether these are the bytes of the text.
-fn says(text: &str, bytes: &[u8]) -> bool
-    ensures { result ≡ same_text text.now bytes.now }
-{
-    text.as_bytes() == bytes
 }
 
 // What four texts are mixed to.

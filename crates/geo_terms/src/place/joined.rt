@@ -66,7 +66,30 @@ impl JoinedTexts {
         let cut_alike = (self.region_at == other.region_at)
             & (self.city_at == other.city_at)
             & (self.postal_at == other.postal_at);
-        cut_alike && same_bytes(self.text.as_str().as_bytes(), other.text.as_str().as_bytes())
+        cut_alike
+            && same_bytes(
+                self.text.as_str().as_bytes(),
+                other.text.as_str().as_bytes(),
+            )
+    }
+
+    /// Whether these are the four texts.
+    pub(crate) fn has(&self, country: &[u8], region: &[u8], city: &[u8], postal: &[u8]) -> bool
+        ensures { result ≡ same_place self.now (record {
+          country = country.now;
+          region = region.now;
+          city = city.now;
+          postal = postal.now;
+        }) }
+    {
+        let text = self.text.as_str().as_bytes();
+        let region_at = self.region_at as usize;
+        let city_at = self.city_at as usize;
+        let postal_at = self.postal_at as usize;
+        same_bytes(&text[..region_at], country)
+            && same_bytes(&text[region_at..city_at], region)
+            && same_bytes(&text[city_at..postal_at], city)
+            && same_bytes(&text[postal_at..], postal)
     }
 
     pub(crate) fn country(&self) -> &str

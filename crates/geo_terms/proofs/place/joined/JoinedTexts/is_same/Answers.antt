@@ -1,8 +1,7 @@
 -- The same text that is cut alike is the same four texts.
-use Rattle.std.proofs.Common.{◌&&◌, ◌≡◌, ◌∙◌, ap, sym, Bool}
+use Rattle.std.proofs.Common.{◌&&◌, ◌∙◌, ap, sym}
 use Rattle.std.specs.Prelude.{string_bytes}
 use Rattle.geo_terms.proofs.SameLemmas.{same_joined}
-use Rattle.geo_terms.specs.Numbers.{same_place}
 use Rattle.geo_terms.specs.PlaceForm.{same_text}
 use Rattle.geo_terms.proofs.place.joined.JoinedTexts.is_same.Goals as goal
 
