@@ -2,12 +2,12 @@ pub mod Ascending
 pub mod Constancy
 pub mod FirstLemmas
 pub mod JoinedLemmas
-pub mod LeadLemmas
 pub mod LineOrder
 pub mod Members
 pub mod NumberLemmas
 pub mod PlaceLemmas
 pub mod ReportLemmas
+pub mod SameLemmas
 pub mod SeenLemmas
 pub mod SlotLemmas
 pub mod TableLemmas

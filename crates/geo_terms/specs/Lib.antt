@@ -9,7 +9,6 @@ pub mod Numbers
 pub mod Orders
 pub mod PlaceEquality
 pub mod PlaceForm
-pub mod PlaceLead
 pub mod PlaceMarks
 pub mod PlaceOrder
 pub mod PlaceTable

@@ -36,7 +36,7 @@ text_total =
 pub place_total : IsTotalOrder place_cmp
 place_total = then_total (on_total place_rank nat_cmp_total) text_total
 
-text_ties : (x y : PlaceParts) → same_place x y ≡ eq_by_cmp text_cmp x y
+pub text_ties : (x y : PlaceParts) → same_place x y ≡ eq_by_cmp text_cmp x y
 text_ties x y =
     both_tied _ _ _ _ (both_tied _ _ _ _ (both_tied _ _ _ _ (texts_ties x.country y.country)
     (texts_ties x.region y.region)) (texts_ties x.city y.city)) (texts_ties x.postal y.postal)

@@ -5,7 +5,6 @@ ghost use Rattle.std.specs.Cmp.Rules.{hashing};
 ghost use Rattle.std.specs.Hash as fed;
 ghost use Rattle.std.proofs.Common.{rules};
 ghost use Rattle.geo_terms.specs.PlaceForm.{IsPlace, same_text};
-ghost use Rattle.geo_terms.specs.PlaceLead.{Tells};
 ghost use Rattle.geo_terms.specs.PlaceMarks.{mixed_again, mixed_texts, place_mark, place_rank};
 ghost use Rattle.geo_terms.specs.Numbers.{same_place};
 ghost use Rattle.geo_terms.specs.PlaceEquality as equality;
@@ -34,20 +33,18 @@ pub struct Place {
     parts: Arc<Parts>,
 }
 
-/// The four texts of a place, the number by which it is found again, one by which places are
-/// ordered first, and one that tells its country and region where they are of the usual form.
+/// The four texts of a place, the number by which it is found again, and one by which places are
+/// ordered first.
 #[derive(Debug, Drop)]
 struct Parts {
     mark: u32,
     rank: u32,
-    lead: u64,
     texts: JoinedTexts,
 }
 
 impl Model for Place {
     ghost use Rattle.std.specs.Arc.{arc_value};
     ghost use Rattle.geo_terms.specs.PlaceForm.{PlaceParts, IsPlace};
-    ghost use Rattle.geo_terms.specs.PlaceLead.{Tells};
     ghost use Rattle.geo_terms.specs.PlaceMarks.{place_mark, place_rank};
     ghost use Rattle.std.specs.Prelude.{◌≡◌};
 
@@ -56,8 +53,6 @@ impl Model for Place {
     ghost view = { λ p. (arc_value p.parts).texts };
 
     ghost invariant = { λ p. IsPlace (arc_value p.parts).texts
-        × Tells (arc_value p.parts).lead (arc_value p.parts).texts.country
-        (arc_value p.parts).texts.region
         × ((arc_value p.parts).mark ≡ place_mark (arc_value p.parts).texts)
         × ((arc_value p.parts).rank ≡ place_rank (arc_value p.parts).texts) };
 }
@@ -73,13 +68,7 @@ impl Place {
         let mixed = mixed_texts(first, second, third, fourth);
         let again = mixed_again(mixed, first, second, third, fourth);
         let (mark, rank) = ((mixed % (1 << 32)) as u32, (again % (1 << 32)) as u32);
-        let lead = lead_of(first, second);
-        let parts = Parts {
-            mark,
-            rank,
-            lead,
-            texts,
-        };
+        let parts = Parts { mark, rank, texts };
         let parts = Arc::new(alloc, parts)?;
         Ok(Place { parts })
     }
@@ -145,63 +134,28 @@ impl Place {
           postal = postal.now;
         }) }
     {
-        says(self.country(), country)
-            && says(self.region(), region)
-            && says(self.city(), city)
-            && says(self.postal(), postal)
+        self.parts.texts.has(country, region, city, postal)
     }
 
-    // Whether both have the same country and region; mostly one comparison of numbers tells.
-    fn lies_beside(&self, other: &Place) -> bool
-        ensures { result ≡ (same_text self.now.country other.now.country
-            && same_text self.now.region other.now.region) }
+    // Whether the four texts of both are the same.
+    fn is_same(&self, other: &Place) -> bool
+        ensures { result ≡ same_place self.now other.now }
     {
-        if self.has_lead_of(other) {
-            return true;
-        }
-        self.country() == other.country() && self.region() == other.region()
+        self.parts.texts.is_same(&other.parts.texts)
     }
 
-    // Whether one number tells the country and the region of both.
-    fn has_lead_of(&self, other: &Place) -> bool
-        ensures { IsTrue result → IsTrue (same_text self.now.country other.now.country
-            && same_text self.now.region other.now.region) }
-    {
-        let lead = self.parts.lead;
-        if lead == 0 || lead != other.parts.lead {
-            return false;
-        }
-        true
-    }
-
-    // The order of both by their four texts.
+    // The order of both by their four texts, which are mostly the same where this is asked.
     fn text_cmp(&self, other: &Place) -> Ordering
         ensures { result ≡ order.text_cmp self.now other.now }
     {
-        self.front_cmp(other)
+        if self.is_same(other) {
+            return Ordering::Equal;
+        }
+        (self.country().cmp(other.country()))
+            .then_with(|| self.region().cmp(other.region()))
             .then_with(|| self.city().cmp(other.city()))
             .then_with(|| self.postal().cmp(other.postal()))
     }
-
-    // The order of both by country and region; mostly one comparison of numbers tells that they
-    // are the same.
-    fn front_cmp(&self, other: &Place) -> Ordering
-        ensures { result ≡ order.front_cmp self.now other.now }
-    {
-        if self.has_lead_of(other) {
-            return Ordering::Equal;
-        }
-        self.country()
-            .cmp(other.country())
-            .then_with(|| self.region().cmp(other.region()))
-    }
-}
-
-// Whether these are the bytes of the text.
-fn says(text: &str, bytes: &[u8]) -> bool
-    ensures { result ≡ same_text text.now bytes.now }
-{
-    text.as_bytes() == bytes
 }
 
 // What four texts are mixed to.
@@ -246,48 +200,13 @@ fn mixed_again(mixed: u64, country: &[u8], region: &[u8], city: &[u8], postal: &
     hasher.finish()
 }
 
-// A number that tells a country and its region, or 0 where none does.
-fn lead_of(country: &[u8], region: &[u8]) -> u64
-    ensures { Tells result country.now region.now }
-{
-    let lead = spelled(country, region);
-    if tells(lead, country, region) {
-        lead
-    } else {
-        0
-    }
-}
-
-// Whether the number tells this country and this region.
-fn tells(lead: u64, country: &[u8], region: &[u8]) -> bool
-    ensures { IsTrue result → Tells lead country.now region.now }
-{
-    let bytes = lead.to_le_bytes();
-    let count = bytes[0] as usize;
-    if count == 0 || count > 8 {
-        return false;
-    }
-    &bytes[1..3] == country && &bytes[1..count] == region
-}
-
-// One more than the length of the region, and behind it the region's bytes, the lowest first; where
-// there is no region, those of the country.
-fn spelled(country: &[u8], region: &[u8]) -> u64 {
-    let text = if region.is_empty() { country } else { region };
-    let mut word = 0;
-    for byte in text.iter().rev() {
-        word = word << 8 | u64::from(*byte);
-    }
-    word << 8 | (region.len() as u64 + 1)
-}
-
 impl PartialEq for Place {
     ghost eq = { same_place };
 
     ghost laws = { partial_equiv_from_equiv equality.place_equiv };
 
     fn eq(&self, other: &Place) -> bool {
-        self.lies_beside(other) && self.city() == other.city() && self.postal() == other.postal()
+        self.is_same(other)
     }
 }
 

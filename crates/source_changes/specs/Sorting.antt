@@ -10,8 +10,7 @@ use Rattle.std.specs.Ordering.{is_eq, nat_cmp, ordering_then}
 use Rattle.std.specs.declared.cmp.Ordering.{Ordering}
 use Rattle.geo_addr.specs.Ranges.{Ends, Prefix, range_of_block}
 use Rattle.geo_terms.specs.DelegationForm.{DelegationParts}
-use Rattle.geo_terms.specs.Numbers.{same_place}
-use Rattle.geo_terms.specs.PlaceForm.{PlaceParts}
+use Rattle.geo_terms.specs.PlaceOrder.{place_cmp, place_ties, place_total}
 use Rattle.geo_terms.specs.Precedence.{said_place, text_cmp}
 use Rattle.geo_terms.specs.declared.place.Said.{Said}
 use Rattle.geo_terms.specs.declared.statement.Entry.{Entry}
@@ -23,11 +22,6 @@ use Rattle.source_changes.specs.SameStatement.{same_range, same_reference, same_
 
 abbrev pub range_cmp : Ends → Ends → Ordering
 range_cmp x y = ordering_then (nat_cmp x.first y.first) (nat_cmp x.last y.last)
-
-abbrev pub place_cmp : PlaceParts → PlaceParts → Ordering
-place_cmp x y =
-    ordering_then (ordering_then (ordering_then (text_cmp x.country y.country)
-    (text_cmp x.region y.region)) (text_cmp x.city y.city)) (text_cmp x.postal y.postal)
 
 -- nothing goes before every place
 abbrev pub said_cmp : Said → Said → Ordering
@@ -57,13 +51,6 @@ abbrev pub DecidesSame : {X : Type 0} → (X → Ends) → (X → X → Bool) �
 DecidesSame {X} range same rest = (x y : X) → same x y ≡ is_eq (whole_cmp range rest x y)
 
 -- each of these orders is total
-place_total : IsTotalOrder place_cmp
-place_total =
-    then_total (then_total (then_total (on_total (λ (p : PlaceParts). p.country) nat_list_cmp_total)
-    (on_total (λ (p : PlaceParts). p.region) nat_list_cmp_total))
-    (on_total (λ (p : PlaceParts). p.city) nat_list_cmp_total))
-    (on_total (λ (p : PlaceParts). p.postal) nat_list_cmp_total)
-
 said_total : IsTotalOrder said_cmp
 said_total = on_total said_place (options_total place_total)
 
@@ -98,12 +85,6 @@ override_rest_total = on_total (λ (o : Override). o.said) said_total
 -- two statements tie where they are the same
 pub range_ties : (x y : Ends) → same_range x y ≡ is_eq (range_cmp x y)
 range_ties x y = both_tied _ _ _ _ (unsigned_ties x.first y.first) (unsigned_ties x.last y.last)
-
-place_ties : (x y : PlaceParts) → same_place x y ≡ is_eq (place_cmp x y)
-place_ties x y =
-    both_tied _ _ _ _ (both_tied _ _ _ _ (both_tied _ _ _ _ (texts_ties x.country y.country)
-    (texts_ties x.region y.region)) (texts_ties x.city y.city))
-    (texts_ties x.postal y.postal)
 
 said_ties : (x y : Said) → same_said x y ≡ is_eq (said_cmp x y)
 said_ties Nothing Nothing = refl

@@ -2,9 +2,9 @@
 ghost use Rattle.std.specs.Prelude.{◌≡◌, Bool};
 ghost use Rattle.std.specs.Cmp.{IsTotalOrder};
 ghost use Rattle.std.specs.declared.cmp.Ordering.{Ordering};
-ghost use Rattle.source_changes.specs.Sorting.{DecidesSame, place_cmp, said_cmp};
+ghost use Rattle.source_changes.specs.Sorting.{DecidesSame, said_cmp};
 
-use geo_terms::{Delegation, Entry, Override, Place, Reference, Said, Statement};
+use geo_terms::{Delegation, Entry, Override, Reference, Said, Statement};
 use std::cmp::Ordering;
 
 /// A statement that another one of its kind can be the same as, whatever their lines.
@@ -77,7 +77,7 @@ impl Compared for Delegation {
 
     #[tactic(auto, unfolding(crate::specs::Sorting::delegation_rest))]
     fn compare_rest(&self, other: &Delegation) -> Ordering {
-        compare_places(&self.place, &other.place).then_with(|| self.slot.cmp(&other.slot))
+        (self.place.cmp(&other.place)).then_with(|| self.slot.cmp(&other.slot))
     }
 }
 
@@ -100,16 +100,6 @@ impl Compared for Override {
     }
 }
 
-// The four texts, one after the other.
-fn compare_places(x: &Place, y: &Place) -> Ordering
-    ensures { result ≡ place_cmp x.now y.now }
-{
-    (x.country().cmp(y.country()))
-        .then_with(|| x.region().cmp(y.region()))
-        .then_with(|| x.city().cmp(y.city()))
-        .then_with(|| x.postal().cmp(y.postal()))
-}
-
 fn compare_said(x: &Said, y: &Said) -> Ordering
     ensures { result ≡ said_cmp x.now y.now }
 {
@@ -117,6 +107,6 @@ fn compare_said(x: &Said, y: &Said) -> Ordering
         (Said::Nothing, Said::Nothing) => Ordering::Equal,
         (Said::Nothing, Said::At(_)) => Ordering::Less,
         (Said::At(_), Said::Nothing) => Ordering::Greater,
-        (Said::At(x), Said::At(y)) => compare_places(x, y),
+        (Said::At(x), Said::At(y)) => x.cmp(y),
     }
 }

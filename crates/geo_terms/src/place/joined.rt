@@ -1,6 +1,7 @@
 //! Four texts in one string.
 ghost use Rattle.std.specs.Prelude.{◌≡◌, ◌+◌, ◌<◌, ◌^◌, ◌++◌, length, IfOk, string_bytes};
-ghost use Rattle.geo_terms.specs.PlaceForm.{upper};
+ghost use Rattle.geo_terms.specs.Numbers.{same_place};
+ghost use Rattle.geo_terms.specs.PlaceForm.{same_text, upper};
 
 use geo_addr::Memory;
 use std::alloc::Global;
@@ -58,6 +59,39 @@ impl JoinedTexts {
         })
     }
 
+    /// Whether the four texts of both are the same.
+    pub(crate) fn is_same(&self, other: &JoinedTexts) -> bool
+        ensures { result ≡ same_place self.now other.now }
+    {
+        let cut_alike = (self.region_at == other.region_at)
+            & (self.city_at == other.city_at)
+            & (self.postal_at == other.postal_at);
+        cut_alike
+            && same_bytes(
+                self.text.as_str().as_bytes(),
+                other.text.as_str().as_bytes(),
+            )
+    }
+
+    /// Whether these are the four texts.
+    pub(crate) fn has(&self, country: &[u8], region: &[u8], city: &[u8], postal: &[u8]) -> bool
+        ensures { result ≡ same_place self.now (record {
+          country = country.now;
+          region = region.now;
+          city = city.now;
+          postal = postal.now;
+        }) }
+    {
+        let text = self.text.as_str().as_bytes();
+        let region_at = self.region_at as usize;
+        let city_at = self.city_at as usize;
+        let postal_at = self.postal_at as usize;
+        same_bytes(&text[..region_at], country)
+            && same_bytes(&text[region_at..city_at], region)
+            && same_bytes(&text[city_at..postal_at], city)
+            && same_bytes(&text[postal_at..], postal)
+    }
+
     pub(crate) fn country(&self) -> &str
         ensures { result.now ≡ self.now.country }
     {
@@ -102,4 +136,43 @@ fn joined(
     text.push_str(city)?;
     text.push_str(postal)?;
     Ok(text)
+}
+
+// Whether both are the same bytes; eight at a time are compared as one number.
+fn same_bytes(x: &[u8], y: &[u8]) -> bool
+    ensures { result ≡ same_text x.now y.now }
+{
+    if x.len() != y.len() {
+        return false;
+    }
+    let (mut left, mut right) = (x, y);
+    while let Some((one, rest)) = left.split_first_chunk::<8>() {
+        let Some((other, others)) = right.split_first_chunk::<8>() else {
+            return false;
+        };
+        if u64::from_le_bytes(*one) != u64::from_le_bytes(*other) {
+            return false;
+        }
+        left = rest;
+        right = others;
+    }
+    same_few(left, right)
+}
+
+// Whether both are the same few bytes.
+fn same_few(x: &[u8], y: &[u8]) -> bool
+    ensures { result ≡ same_text x.now y.now }
+{
+    let (mut left, mut right) = (x, y);
+    while let [one, rest @ ..] = left {
+        let [other, others @ ..] = right else {
+            return false;
+        };
+        if *one != *other {
+            return false;
+        }
+        left = rest;
+        right = others;
+    }
+    right.is_empty()
 }
