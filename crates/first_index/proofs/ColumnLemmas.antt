@@ -2,19 +2,20 @@
 use Rattle.std.proofs.Common.{◌≡◌, ℕ, zero, suc, ◌+◌, ◌-◌, ◌<◌, ◌≤◌, Bool, true, false, cond, ◌||◌}
 use Rattle.std.proofs.Common.{eqb, leb, List, [], ◌∷◌, ◌++◌, length, get_or, map, Option, None}
 use Rattle.std.proofs.Common.{refl, sym, ap, ◌∙◌, subst, inl, inr, arith, drop, append_assoc}
-use Rattle.std.proofs.Common.{Ordering, slice_get}
+use Rattle.std.proofs.Common.{Ordering, Some, slice_get, slice_set, take}
 use Rattle.std.specs.Option.{option_and_then}
 use Rattle.std.specs.List.Sorted.{IsNonDecreasingBy, IsPartitionPoint, IsStrictlyIncreasing}
 use Rattle.std.proofs.lemmas.Bool.{cases_lt}
 use Rattle.std.proofs.lemmas.Bool.Decides.{nat_tests}
 use Rattle.std.proofs.lemmas.List.Kept.{AllPairs-from_increasing}
 use Rattle.geo_addr.specs.Ranges.{Ends}
-use Rattle.geo_terms.proofs.Ascending.{Up}
+use Rattle.geo_terms.proofs.Ascending.{Up, up_from}
 use Rattle.first_index.specs.Boundaries.{told}
 use Rattle.first_index.specs.Columns.{AreColumns, begin_at, coded_index, last_ones, of_columns}
 use Rattle.first_index.specs.FirstIndex.{TellsFirst}
-use Rattle.first_index.specs.Nested.{stands_at}
+use Rattle.first_index.specs.Nested.{IsPut, stands_at}
 use Rattle.first_index.specs.declared.boundaries.Boundary.{Boundary}
+use Rattle.first_index.proofs.NestedLemmas.{last_is, put_last, put_new, snoc_length}
 
 abbrev place : Boundary → ℕ
 place b = b.at
@@ -170,6 +171,89 @@ columns_of_last bs ps cs up same is = record {
       subst IsStrictlyIncreasing (ap (map place) (sym is) ∙ points_are ps cs same)
       (increasing 0 (map place (last_ones bs)) (up_last 0 bs up (low_from bs)));
 }
+
+up_more : (low : ℕ) (xs : List ℕ) (a : ℕ) → Up low xs → (xs ≡ [] → low ≤ a)
+    → ((x : ℕ) → slice_get xs (length xs - 1) ≡ Some x → x < a) → Up low (xs ++ a ∷ [])
+up_more low [] a up none past = (none refl, tt)
+up_more low (x ∷ []) a up none past =
+    let lt : x < a = past x refl in (up.0, (omega arith, tt))
+up_more low (x ∷ y ∷ ys) a up none past = (
+  up.0,
+  up_more (x + 1) (y ∷ ys) a up.1 (λ e. cc) (λ z is.
+      let n : length (x ∷ y ∷ ys) - 1 ≡ suc (length (y ∷ ys) - 1) = omega arith in
+      past z (rw n is)),
+)
+
+-- one more point, behind the last one, and its code
+pub columns_put : (ps cs : List ℕ) (a c : ℕ) → AreColumns ps cs
+    → ((x : ℕ) → slice_get ps (length ps - 1) ≡ Some x → x < a)
+    → AreColumns (ps ++ a ∷ []) (cs ++ c ∷ [])
+columns_put ps cs a c h past = record {
+  same_length = snoc_length ps a ∙ ap (λ n. n + 1) h.same_length ∙ sym (snoc_length cs c);
+  ascending =
+      increasing 0 (ps ++ a ∷ []) (up_more 0 ps a (up_from ps h.ascending) (λ e. omega arith) past);
+}
+
+pub put_columns : (ps cs : List ℕ) (a c : ℕ) (first : Option ℕ) → length ps ≡ length cs
+    → coded_index c ≡ first
+    → IsPut a first (of_columns ps cs) (of_columns (ps ++ a ∷ []) (cs ++ c ∷ []))
+put_columns ps cs a c first same code =
+    subst (λ bs. IsPut a first (of_columns ps cs) bs) (sym (columns_more ps cs a c same))
+    (subst (λ o. IsPut a first (of_columns ps cs)
+    (of_columns ps cs ++ record { at = a; first = o } ∷ [])) (sym code)
+    (put_new a first (of_columns ps cs)))
+
+set_snoc : (cs : List ℕ) (d c : ℕ) → slice_set (cs ++ d ∷ []) (length (cs ++ d ∷ []) - 1) c
+    ≡ cs ++ c ∷ []
+set_snoc [] d c = refl
+set_snoc (x ∷ cs) d c =
+    let long : length (cs ++ d ∷ []) ≡ length cs + 1 = snoc_length cs d in
+    let n : length (x ∷ cs ++ d ∷ []) - 1 ≡ suc (length (cs ++ d ∷ []) - 1) = omega arith in
+    rw n (ap (λ ys. x ∷ ys) (set_snoc cs d c))
+
+some_last : (cs : List ℕ) → 0 < length cs → (ds : List ℕ) × (d : ℕ) × (cs ≡ ds ++ d ∷ [])
+some_last [] lt = absurd (omega arith)
+some_last (x ∷ []) lt = ([], x, refl)
+some_last (x ∷ y ∷ ys) lt =
+    let (ds, d, is) = some_last (y ∷ ys) (omega arith) in (x ∷ ds, d, ap (λ zs. x ∷ zs) is)
+
+-- another code in place of the last one
+pub columns_set : (ps cs : List ℕ) (p c : ℕ) → AreColumns ps cs
+    → slice_get ps (length ps - 1) ≡ Some p
+    → AreColumns ps (slice_set cs (length cs - 1) c)
+    × ((a : ℕ) (first : Option ℕ) → a ≤ p → coded_index c ≡ first
+    → IsPut a first (of_columns ps cs) (of_columns ps (slice_set cs (length cs - 1) c)))
+columns_set ps cs p c h is =
+    let qs : List ℕ = take (length ps - 1) ps in
+    let points : ps ≡ qs ++ p ∷ [] = last_is ps p is in
+    let long : length ps ≡ length qs + 1 = ap length points ∙ snoc_length qs p in
+    let same : length ps ≡ length cs = h.same_length in
+    let (ds, d, codes) = some_last cs (omega arith) in
+    let short : length cs ≡ length ds + 1 = ap length codes ∙ snoc_length ds d in
+    let both : length qs ≡ length ds = omega arith in
+    let set : slice_set cs (length cs - 1) c ≡ ds ++ c ∷ [] =
+    ap (λ zs. slice_set zs (length zs - 1) c) codes ∙ set_snoc ds d c in
+    let old : of_columns ps cs ≡ of_columns qs ds ++ record { at = p; first = coded_index d } ∷ [] =
+    ap (λ zs. of_columns zs cs) points ∙ ap (λ zs. of_columns (qs ++ p ∷ []) zs) codes
+    ∙ columns_more qs ds p d both in
+    let new : of_columns ps (slice_set cs (length cs - 1) c)
+    ≡ of_columns qs ds ++ record { at = p; first = coded_index c } ∷ [] =
+    ap (λ zs. of_columns zs (slice_set cs (length cs - 1) c)) points
+    ∙ ap (λ zs. of_columns (qs ++ p ∷ []) zs) set
+    ∙ columns_more qs ds p c both in (
+      record {
+        same_length = long ∙ ap (λ n. n + 1) both ∙ sym (snoc_length ds c) ∙ sym (ap length set);
+        ascending = h.ascending;
+      },
+      λ a first le code.
+          subst (λ bs. IsPut a first bs (of_columns ps (slice_set cs (length cs - 1) c))) (sym old)
+          (subst (λ bs. IsPut a first (of_columns qs ds
+          ++ record { at = p; first = coded_index d } ∷ []) bs) (sym new)
+          (subst (λ o. IsPut a first (of_columns qs ds
+          ++ record { at = p; first = coded_index d } ∷ [])
+          (of_columns qs ds ++ record { at = p; first = o } ∷ [])) (sym code)
+          (put_last a first (of_columns qs ds) (record { at = p; first = coded_index d }) le))),
+    )
 
 drop_here : {X : Type 0} (xs : List X) (i : ℕ) (x : X) → i < length xs → get_or xs i x ≡ x
     → drop i xs ≡ x ∷ drop (i + 1) xs
