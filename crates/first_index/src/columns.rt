@@ -1,11 +1,10 @@
 //! Boundaries in columns: 20 bytes each in place of 32, and the column of addresses is of use by
 //! itself.
-ghost use Rattle.std.specs.Prelude.{◌≡◌, ◌<◌, ◌≤◌, ◌-◌, ◌++◌, ◌∷◌, [], ℕ, IfOk, IsTrue, None, OnErr};
-ghost use Rattle.std.specs.Prelude.{OnOk, Some, drop, false, length, slice_get, slice_set};
+ghost use Rattle.std.specs.Prelude.{◌≡◌, ◌<◌, ◌≤◌, ◌-◌, ◌++◌, ◌∷◌, [], ℕ, IfOk, IsTrue, None};
+ghost use Rattle.std.specs.Prelude.{OnErr, OnOk, Some, false, length, slice_get, slice_set};
 ghost use Rattle.first_index.specs.Boundaries.{told};
-ghost use Rattle.first_index.specs.Columns.{AreColumns, begin_at, coded_index, of_columns};
+ghost use Rattle.first_index.specs.Columns.{AreColumns, coded_index, of_columns};
 
-use crate::boundaries::Boundary;
 use geo_addr::Memory;
 
 // Stands for no index.
@@ -36,16 +35,6 @@ pub fn decoded(code: u32) -> Option<usize>
     Some(code as usize)
 }
 
-// Whether the boundary at an index and the one before it stand at one address.
-pub fn stands_at(boundaries: &[Boundary], index: usize, at: u128) -> bool
-    ensures { result ≡ begin_at (drop index boundaries.now) at }
-{
-    match boundaries.get(index) {
-        Some(boundary) => boundary.at == at,
-        None => false,
-    }
-}
-
 // Whether an address is behind the last of these points.
 pub fn is_past(points: &[u128], at: u128) -> bool
     ensures past { IsTrue result → (p : ℕ)
@@ -59,8 +48,8 @@ pub fn is_past(points: &[u128], at: u128) -> bool
     }
 }
 
-// Puts a point and its code behind those in the columns, or stops with the columns as they were.
-#[inline(always)]
+// Puts a point and its code behind those in the columns, or stops with the columns as they were:
+// where the room that was made for all of them is used up, there is no memory for more.
 pub fn put_column(
     points: &mut Vec<u128>,
     codes: &mut Vec<u32>,
@@ -72,13 +61,11 @@ pub fn put_column(
     ensures kept { OnErr result ((points.new.items ≡ points.old.items)
         × (codes.new.items ≡ codes.old.items)) }
 {
-    if points.push(at).is_err() {
+    if points.len() >= points.capacity() || codes.len() >= codes.capacity() {
         return Err(Memory);
     }
-    if codes.push(code).is_err() {
-        let _lone = points.pop();
-        return Err(Memory);
-    }
+    points.push(at)?;
+    codes.push(code)?;
     Ok(())
 }
 

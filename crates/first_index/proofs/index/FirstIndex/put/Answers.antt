@@ -1,9 +1,9 @@
-use Rattle.std.proofs.Common.{◌≡◌, ◌∙◌, ◌-◌, ◌++◌, ◌∷◌, [], ℕ, List, Option, Some, ap, length}
+use Rattle.std.proofs.Common.{◌≡◌, ◌∙◌, ◌-◌, ◌++◌, ◌∷◌, [], ℕ, List, Some, ap, length}
 use Rattle.std.proofs.Common.{slice_get, subst, sym}
 use Rattle.first_index.specs.Columns.{of_columns}
 use Rattle.first_index.specs.Nested.{IsPut}
 use Rattle.first_index.specs.declared.boundaries.Boundary.{Boundary}
-use Rattle.first_index.proofs.ColumnLemmas.{columns_put, columns_set, put_columns}
+use Rattle.first_index.proofs.ColumnLemmas.{put_columns, set_columns}
 use Rattle.first_index.proofs.index.FirstIndex.put.Goals as goal
 
 pub returns-then-is_past : goal.returns-then-is_past
@@ -33,5 +33,5 @@ returns c =
     (of_columns ps c.set_last.new.codes.items)) c.self.view_is
     (subst (λ (xs : List ℕ). IsPut c.args.at c.args.first (of_columns ps cs) (of_columns ps xs))
     (sym c.set_last.ensures)
-    ((columns_set ps cs held.0 c.in_ok-code.code c.self.invariant last).1 c.args.at c.args.first
-    held.1.1 c.in_ok-code.ensures))
+    (set_columns ps cs held.0 c.args.at c.in_ok-code.code c.args.first
+    c.self.invariant.same_length last held.1.1 c.in_ok-code.ensures))
