@@ -3,7 +3,7 @@ use Rattle.std.proofs.Common.{◌≡◌, ℕ, zero, suc, ◌+◌, ◌-◌, ◌^�
 use Rattle.std.proofs.Common.{◌&&◌, ◌||◌, eqb, leb, ltb, List, [], ◌∷◌, ◌++◌, length, get_or, map}
 use Rattle.std.proofs.Common.{fold, take, Option, Some, None, slice_get, Ordering, refl, sym, ap}
 use Rattle.std.proofs.Common.{◌∙◌, subst, arith}
-use Rattle.std.specs.List.{enumerate_from, filter}
+use Rattle.std.specs.List.{filter}
 use Rattle.std.specs.List.Sorted.{IsNonDecreasingBy}
 use Rattle.std.specs.Option.{option_map}
 use Rattle.std.specs.Ordering.{is_lt}
@@ -11,7 +11,6 @@ use Rattle.std.proofs.lemmas.Bool.Decides.{nat_tests}
 use Rattle.std.proofs.lemmas.List.{take_more}
 use Rattle.std.proofs.lemmas.List.Elements.{filter-append}
 use Rattle.std.proofs.lemmas.List.Folds.{list_any-append}
-use Rattle.std.proofs.lemmas.List.FromFn.{get_or-enumerate_from, length-enumerate_from}
 use Rattle.std.proofs.lemmas.List.Sums.{fold-append}
 use Rattle.geo_addr.specs.Ranges.{Ends, IsRange, ground_first, holds}
 use Rattle.first_index.specs.Boundaries.{told}
@@ -253,17 +252,6 @@ put_last at first bs old le = record {
         subst (λ n. IsPut at first (bs ++ old ∷ []) (bs ++ record { at = n; first = first } ∷ []))
         (sym is) (put_over at first bs old is)
 
--- one more of a list, with its index
-pub take_listed : {X : Type 0} (xs : List X) (i : ℕ) (x : X) → i < length xs → x ≡ get_or xs i x
-    → take (i + 1) (enumerate_from 0 xs) ≡ take i (enumerate_from 0 xs) ++ (i, x) ∷ []
-take_listed xs i x within is =
-    let long : length (enumerate_from 0 xs) ≡ length xs = length-enumerate_from 0 xs in
-    let index : 0 + i ≡ i = omega arith in
-    take_more (enumerate_from 0 xs) i (0, x) (omega arith)
-    ∙ ap (λ y. take i (enumerate_from 0 xs) ++ y ∷ [])
-    (get_or-enumerate_from 0 xs i (0, x) within ∙ ap (λ n. (n, get_or xs i x)) index
-    ∙ ap (λ y. (i, y)) (sym is))
-
 -- boundaries in order climb up to the next one
 climb_taken : (low : ℕ) (xs : List Boundary) (i : ℕ) (b : Boundary)
     → IsNonDecreasingBy (λ (x : Boundary). x.at) xs
@@ -377,20 +365,17 @@ module _ {X : Type 0} (order : X → X → Ordering) (range_of : X → Ends) whe
       assoc true v w = refl
       assoc false v w = refl
 
-  -- before the first statement
-  pub none_passed : (bs : List Boundary) (os : List (ℕ × (ℕ × X))) → bs ≡ [] → os ≡ []
-      → ArePassed order range_of [] 0 bs os
-  none_passed bs os no_bs no_os =
-      rw (no_bs, no_os) (record {
-        bound = omega arith;
-        climb = omega arith;
-        nest = tt;
-        reach = tt;
-        past = λ a lt. absurd (omega arith);
-        now = λ a le within. refl;
-        here = λ a le within. refl;
-        stand = λ c. refl;
-      })
+  pub none_passed : ArePassed order range_of [] 0 [] []
+  none_passed = record {
+    bound = omega arith;
+    climb = omega arith;
+    nest = tt;
+    reach = tt;
+    past = λ a lt. absurd (omega arith);
+    now = λ a le within. refl;
+    here = λ a le within. refl;
+    stand = λ c. refl;
+  }
 
   module _ (cs : List (ℕ × X)) (low : ℕ) (bs : List Boundary) (os : List (ℕ × (ℕ × X))) where
     -- the same up to a higher address that all open grounds reach

@@ -10,8 +10,7 @@ use Rattle.std.specs.Option.{option_and_then, option_map}
 use Rattle.std.specs.Ordering.{is_lt}
 use Rattle.std.proofs.lemmas.Bool.Decides.{nat_tests}
 use Rattle.std.proofs.lemmas.List.Folds.{Any-from_list_any, list_any-from_Any}
-use Rattle.std.proofs.lemmas.List.Sorted.{IsPermutation-map, IsPermutation-refl}
-use Rattle.std.proofs.lemmas.List.Sorted.{list_any-IsPermutation}
+use Rattle.std.proofs.lemmas.List.Sorted.{IsPermutation-map, list_any-IsPermutation}
 use Rattle.geo_addr.specs.Ranges.{AreCuts, Ends, IsEdge, ground_first, holds}
 use Rattle.geo_terms.specs.First.{better}
 use Rattle.first_index.specs.FirstIndex.{StandAtCuts, TellsFirst, index_cmp}
@@ -154,18 +153,6 @@ module _ {X Y : Type 0} (see : Y → X) (order : X → X → Ordering) (range_of
       ≡ map range_of xs
   ranges_in n [] = refl
   ranges_in n (x ∷ xs) = ap (λ rs. range_of x ∷ rs) (ranges_in (n + 1) xs)
-
-  listed_seen : (n : ℕ) (ys : List Y) → map seen (enumerate_from n ys)
-      ≡ enumerate_from n (map see ys)
-  listed_seen n [] = refl
-  listed_seen n (y ∷ ys) = ap (λ zs. (n, see y) ∷ zs) (listed_seen (n + 1) ys)
-
-  -- as they are listed, they stand in an order of their own
-  pub listed_moved : (ys : List Y)
-      → IsPermutation (enumerate_from 0 (map see ys)) (map seen (enumerate_from 0 ys))
-  listed_moved ys =
-      subst (λ (zs : List (ℕ × X)). IsPermutation zs (map seen (enumerate_from 0 ys)))
-      (listed_seen 0 ys) (IsPermutation-refl (map seen (enumerate_from 0 ys)))
 
   module _ (xs : List X) (ys : List (ℕ × Y)) (bs : List Boundary)
       (moved : IsPermutation (enumerate_from 0 xs) (map seen ys)) where

@@ -5,12 +5,12 @@ ghost use Rattle.std.specs.List.{enumerate_from};
 ghost use Rattle.std.specs.List.Sorted.{IsNonDecreasingBy, IsPermutation, IsStrictlyIncreasing};
 ghost use Rattle.first_index.specs.Boundaries.{told};
 ghost use Rattle.first_index.specs.FirstIndex.{StandAtCuts, TellsFirst, with_index};
-ghost use Rattle.first_index.specs.Nested.{AreAlike, IsPut};
+ghost use Rattle.first_index.specs.Nested.{AreAlike, AreBoundariesOf, IsPut};
 
 use crate::boundaries::{Boundary, boundaries_of};
 use crate::columns::{coded, is_past, put_column, set_last, told};
 use crate::near::told_near;
-use crate::nested::{nested_as_listed, nested_of, order};
+use crate::nested::{nested_of, order};
 use geo_addr::{Addr, Memory, Range};
 use geo_terms::Statement;
 use std::alloc::Global;
@@ -88,12 +88,8 @@ impl FirstIndex {
             (λ index. StandAtCuts S.range (map (λ s. s.now) statements.entry.now) index) }
         ensures kept { OnOk result (All S.kept (map (λ s. s.now) statements.entry.now)) }
     {
-        if let Some(index) = nested_as_listed(alloc, statements)? {
-            return Ok(index);
-        }
         let mut ranked = indexed(alloc, statements)?;
-        put_outer_first(alloc, &mut ranked)?;
-        if let Some(index) = nested_of(alloc, ranked.as_slice())? {
+        if let Some(index) = nested_in_some_order(alloc, &mut ranked)? {
             return Ok(index);
         }
         ranked.sort_unstable_by(|x, y| order(x, y));
@@ -156,6 +152,26 @@ fn indexed<'a, S: Statement>(
         ranked.push((index, *statement))?;
     }
     Ok(ranked)
+}
+
+// The index of grounds that nest, in the order that the statements are put in; `None` where two
+// cross.
+fn nested_in_some_order<S: Statement>(
+    alloc: Global,
+    indexed: &mut Vec<(usize, &S)>,
+) -> Result<Option<FirstIndex>, Memory>
+    ensures moved { IsPermutation indexed.old.items indexed.new.items }
+    ensures found { IfOk result (λ found. IfSome found (λ index. AreBoundariesOf
+        (λ x y. S.order x.now y.now) (λ x. S.range x.now) indexed.new.items index)) }
+    ensures kept { IfOk result (λ found. IfSome found
+        (λ _. All (λ x. S.kept x.1.now) indexed.new.items)) }
+{
+    let found = nested_of(alloc, indexed.as_slice())?;
+    if found.is_some() {
+        return Ok(found);
+    }
+    put_outer_first(alloc, indexed)?;
+    nested_of(alloc, indexed.as_slice())
 }
 
 // Puts statements in the order in which their grounds begin, the largest first of those that begin

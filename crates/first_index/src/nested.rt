@@ -3,7 +3,6 @@ ghost use Rattle.std.specs.Prelude.{◌≡◌, ◌<◌, ◌≤◌, ◌+◌, ◌-
 ghost use Rattle.std.specs.Prelude.{IfSome};
 ghost use Rattle.std.specs.Prelude.{IsTrue, MatchOption, length, None, OnOk, Some, nat_lt};
 ghost use Rattle.std.specs.Prelude.{option_map};
-ghost use Rattle.std.specs.List.{enumerate_from};
 ghost use Rattle.std.specs.Option.{unwrap_or};
 ghost use Rattle.std.specs.Ordering.{is_lt};
 ghost use Rattle.geo_terms.specs.First.{better};
@@ -17,39 +16,8 @@ use geo_terms::Statement;
 use std::alloc::Global;
 use std::cmp::Ordering;
 
-/// The index of statements whose grounds nest, where each outer one comes before those in it as
-/// they are listed; `None` where they do not.
-pub fn nested_as_listed<S: Statement>(
-    alloc: Global,
-    statements: &[&S],
-) -> Result<Option<FirstIndex>, Memory>
-    ensures found { IfOk result (λ found. IfSome found (λ index. AreBoundariesOf
-        (λ x y. S.order x.now y.now) (λ x. S.range x.now)
-        (enumerate_from 0 statements.entry.now) index)) }
-    ensures kept { IfOk result (λ found. IfSome found
-        (λ _. All (λ s. S.kept s.now) statements.entry.now)) }
-{
-    let mut index = room_for(alloc, statements.len())?;
-    let mut opened = Vec::new(alloc);
-    let mut low = 0;
-    for (place, statement) in statements.iter().enumerate() {
-        let Some(first) = pass(&mut index, &mut opened, low, (place, *statement))? else {
-            return Ok(None);
-        };
-        low = first;
-    }
-    close(&mut index, &mut opened, None)?;
-    Ok(Some(index))
-}
-
-// Room for the boundaries of so many grounds: one where each begins, and one behind its end.
-fn room_for(alloc: Global, grounds: usize) -> Result<FirstIndex, Memory>
-    ensures { IfOk result (λ index. index ≡ []) }
-{
-    FirstIndex::with_room(alloc, grounds.saturating_mul(2))
-}
-
-/// The same of statements with their indexes.
+/// The index of statements whose grounds nest, where each outer one comes before those in it;
+/// `None` where they do not.
 pub fn nested_of<S: Statement>(
     alloc: Global,
     indexed: &[(usize, &S)],
@@ -59,7 +27,9 @@ pub fn nested_of<S: Statement>(
     ensures kept { IfOk result (λ found. IfSome found
         (λ _. All (λ x. S.kept x.1.now) indexed.entry.now)) }
 {
-    let mut index = room_for(alloc, indexed.len())?;
+    // each ground puts one boundary where it begins, and one behind its end
+    let mut index = FirstIndex::with_room(alloc, indexed.len().saturating_mul(2))?;
+    // each with its last address, and the first statement that holds it up to there
     let mut opened = Vec::new(alloc);
     let mut low = 0;
     for statement in indexed {
@@ -73,8 +43,6 @@ pub fn nested_of<S: Statement>(
 }
 
 // Passes one more statement, and answers where its ground begins; `None` where it does not nest.
-// Each open ground stands with its last address and the first statement that holds it up to there.
-#[inline(always)]
 fn pass<'a, S: Statement>(
     index: &mut FirstIndex,
     opened: &mut Vec<(u128, (usize, &'a S))>,

@@ -1,11 +1,12 @@
 use Rattle.std.proofs.Common.{◌≡◌, ◌∙◌, ◌+◌, ◌<◌, ◌++◌, ◌∷◌, [], ℕ, List, Bor, Ordering, ap, arith}
-use Rattle.std.proofs.Common.{length, subst, sym, take}
+use Rattle.std.proofs.Common.{length, refl, subst, sym, take}
 use Rattle.std.specs.List.{All}
 use Rattle.std.proofs.lemmas.List.{take_all, take_more}
 use Rattle.std.proofs.lemmas.List.Elements.{All-more}
 use Rattle.geo_addr.specs.Ranges.{Ends}
 use Rattle.first_index.specs.Nested.{AreBoundariesOf, ArePassed}
-use Rattle.first_index.proofs.NestedLemmas.{all_passed, none_passed}
+use Rattle.first_index.specs.declared.boundaries.Boundary.{Boundary}
+use Rattle.first_index.proofs.NestedLemmas.{all_passed}
 use Rattle.first_index.proofs.nested.nested_of.Goals as goal
 
 pub loop-statement-preserved : goal.loop-statement-preserved
@@ -47,6 +48,21 @@ returns-clause-found g c =
     (take_all i xs c.loop-statement-test.false)
     (all_passed order range (take i xs) c.loop-statement.low c.close.new.index
     c.close.new.opened.items done.0 done.1)
+
+-- before the first statement
+none_passed : {X : Type 0} (order : X → X → Ordering) (range : X → Ends) (bs : List Boundary)
+    (os : List (ℕ × (ℕ × X))) → bs ≡ [] → os ≡ [] → ArePassed order range [] 0 bs os
+none_passed order range bs os no_bs no_os =
+    rw (no_bs, no_os) (record {
+      bound = omega arith;
+      climb = omega arith;
+      nest = tt;
+      reach = tt;
+      past = λ a lt. absurd (omega arith);
+      now = λ a le lt. refl;
+      here = λ a le lt. refl;
+      stand = λ c. refl;
+    })
 
 pub loop-statement-init : goal.loop-statement-init
 loop-statement-init g c =

@@ -2,7 +2,7 @@ use Rattle.std.proofs.Common.{◌≡◌, ◌∙◌, ◌^◌, ◌&&◌, ltb, ℕ,
 use Rattle.std.specs.List.{All, enumerate_from}
 use Rattle.std.specs.List.Sorted.{IsNonDecreasingBy, IsPermutation, IsSortedBy}
 use Rattle.std.specs.Ordering.{is_lt}
-use Rattle.std.proofs.lemmas.List.Elements.{All-map, recursion_from_All}
+use Rattle.std.proofs.lemmas.List.Elements.{recursion_from_All}
 use Rattle.std.proofs.lemmas.List.Sorted.{IsPermutation-map, IsPermutation-trans, answers_always}
 use Rattle.std.proofs.lemmas.List.Sorted.{ranks_by}
 use Rattle.geo_addr.specs.Ranges.{Ends}
@@ -13,89 +13,61 @@ use Rattle.first_index.specs.declared.boundaries.Boundary.{Boundary}
 use Rattle.geo_terms.proofs.SeenLemmas.{each_seen, map_map, sorted_seen}
 use Rattle.first_index.proofs.IndexLemmas.{all_kept, ordered_indexes, index_total, stands_indexes}
 use Rattle.first_index.proofs.IndexLemmas.{tells_first}
-use Rattle.first_index.proofs.StandLemmas.{cuts_seen, listed_moved, tells_alike, tells_seen}
+use Rattle.first_index.proofs.StandLemmas.{cuts_seen, tells_alike, tells_seen}
 use Rattle.first_index.proofs.index.FirstIndex.of.Goals as goal
 
 pub returns-in-Some-clause-told : goal.returns-in-Some-clause-told
 returns-in-Some-clause-told g c =
     let X = g.row.S.Denot in
-    let see : Bor X → X = λ x. x.now in
-    let ys : List (Bor X) = c.args.statements.now in
+    let seen : ℕ × Bor X → ℕ × X = λ x. (x.0, x.1.now) in
+    let ys : List (ℕ × Bor X) = c.nested_in_some_order.new.indexed.items in
+    let xs : List X = map (λ (s : Bor X). s.now) c.args.statements.now in
     let found : AreBoundariesOf (λ (x y : Bor X). g.S.Statement.order x.now y.now)
-    (λ x. g.S.Statement.range x.now) (enumerate_from 0 ys) c.in-Some.index =
+    (λ x. g.S.Statement.range x.now) ys c.in-Some.index =
     rw c.in-Some.is at c.in_ok-index.ensures.found in
-    tells_seen see g.S.Statement.order g.S.Statement.range (map see ys) (enumerate_from 0 ys)
-    c.in-Some.index (listed_moved see g.S.Statement.order g.S.Statement.range ys)
+    tells_seen (λ (x : Bor X). x.now) g.S.Statement.order g.S.Statement.range xs ys
+    c.in-Some.index
+    (subst (λ (zs : List (ℕ × X)). IsPermutation zs (map seen ys)) c.in_ok-ranked.ensures
+    (IsPermutation-map seen c.in_ok-ranked.ranked.items ys c.nested_in_some_order.ensures.moved))
     g.met.S.Statement.total found
 
 pub returns-in-Some-clause-cuts : goal.returns-in-Some-clause-cuts
 returns-in-Some-clause-cuts g c =
     let X = g.row.S.Denot in
-    let see : Bor X → X = λ x. x.now in
-    let ys : List (Bor X) = c.args.statements.now in
+    let seen : ℕ × Bor X → ℕ × X = λ x. (x.0, x.1.now) in
+    let ys : List (ℕ × Bor X) = c.nested_in_some_order.new.indexed.items in
+    let xs : List X = map (λ (s : Bor X). s.now) c.args.statements.now in
     let found : AreBoundariesOf (λ (x y : Bor X). g.S.Statement.order x.now y.now)
-    (λ x. g.S.Statement.range x.now) (enumerate_from 0 ys) c.in-Some.index =
+    (λ x. g.S.Statement.range x.now) ys c.in-Some.index =
     rw c.in-Some.is at c.in_ok-index.ensures.found in
-    cuts_seen see g.S.Statement.order g.S.Statement.range (map see ys) (enumerate_from 0 ys)
-    c.in-Some.index (listed_moved see g.S.Statement.order g.S.Statement.range ys) found.stand
+    cuts_seen (λ (x : Bor X). x.now) g.S.Statement.order g.S.Statement.range xs ys
+    c.in-Some.index
+    (subst (λ (zs : List (ℕ × X)). IsPermutation zs (map seen ys)) c.in_ok-ranked.ensures
+    (IsPermutation-map seen c.in_ok-ranked.ranked.items ys c.nested_in_some_order.ensures.moved))
+    found.stand
 
 pub returns-in-Some-clause-kept : goal.returns-in-Some-clause-kept
 returns-in-Some-clause-kept g c =
-    All-map g.S.Statement.kept (λ (x : Bor g.row.S.Denot). x.now) c.args.statements.now
-    (rw c.in-Some.is at c.in_ok-index.ensures.kept)
-
-pub returns-in-Some-2-clause-told : goal.returns-in-Some-2-clause-told
-returns-in-Some-2-clause-told g c =
     let X = g.row.S.Denot in
     let seen : ℕ × Bor X → ℕ × X = λ x. (x.0, x.1.now) in
-    let ys : List (ℕ × Bor X) = c.put_outer_first.new.indexed.items in
-    let xs : List X = map (λ (s : Bor X). s.now) c.args.statements.now in
-    let found : AreBoundariesOf (λ (x y : Bor X). g.S.Statement.order x.now y.now)
-    (λ x. g.S.Statement.range x.now) ys c.in-Some-2.index =
-    rw c.as_slice.ensures.value at (rw c.in-Some-2.is at c.in_ok-index-2.ensures.found) in
-    tells_seen (λ (x : Bor X). x.now) g.S.Statement.order g.S.Statement.range xs ys
-    c.in-Some-2.index
-    (subst (λ (zs : List (ℕ × X)). IsPermutation zs (map seen ys)) c.in_ok-ranked.ensures
-    (IsPermutation-map seen c.in_ok-ranked.ranked.items ys c.in_ok-put_outer_first.ensures))
-    g.met.S.Statement.total found
-
-pub returns-in-Some-2-clause-cuts : goal.returns-in-Some-2-clause-cuts
-returns-in-Some-2-clause-cuts g c =
-    let X = g.row.S.Denot in
-    let seen : ℕ × Bor X → ℕ × X = λ x. (x.0, x.1.now) in
-    let ys : List (ℕ × Bor X) = c.put_outer_first.new.indexed.items in
-    let xs : List X = map (λ (s : Bor X). s.now) c.args.statements.now in
-    let found : AreBoundariesOf (λ (x y : Bor X). g.S.Statement.order x.now y.now)
-    (λ x. g.S.Statement.range x.now) ys c.in-Some-2.index =
-    rw c.as_slice.ensures.value at (rw c.in-Some-2.is at c.in_ok-index-2.ensures.found) in
-    cuts_seen (λ (x : Bor X). x.now) g.S.Statement.order g.S.Statement.range xs ys
-    c.in-Some-2.index
-    (subst (λ (zs : List (ℕ × X)). IsPermutation zs (map seen ys)) c.in_ok-ranked.ensures
-    (IsPermutation-map seen c.in_ok-ranked.ranked.items ys c.in_ok-put_outer_first.ensures))
-    found.stand
-
-pub returns-in-Some-2-clause-kept : goal.returns-in-Some-2-clause-kept
-returns-in-Some-2-clause-kept g c =
-    let X = g.row.S.Denot in
-    let seen : ℕ × Bor X → ℕ × X = λ x. (x.0, x.1.now) in
-    let ys : List (ℕ × Bor X) = c.put_outer_first.new.indexed.items in
+    let ys : List (ℕ × Bor X) = c.nested_in_some_order.new.indexed.items in
     let xs : List X = map (λ (s : Bor X). s.now) c.args.statements.now in
     let kept : All (λ (y : ℕ × Bor X). g.S.Statement.kept y.1.now) ys =
-    rw c.as_slice.ensures.value at (rw c.in-Some-2.is at c.in_ok-index-2.ensures.kept) in
+    rw c.in-Some.is at c.in_ok-index.ensures.kept in
     all_kept g.S.Statement.order g.met.S.Statement.total g.S.Statement.range xs (map seen ys)
     (subst (λ (zs : List (ℕ × X)). IsPermutation zs (map seen ys)) c.in_ok-ranked.ensures
-    (IsPermutation-map seen c.in_ok-ranked.ranked.items ys c.in_ok-put_outer_first.ensures))
+    (IsPermutation-map seen c.in_ok-ranked.ranked.items ys c.nested_in_some_order.ensures.moved))
     g.S.Statement.kept
     (each_seen seen (λ x. g.S.Statement.kept x.1) ys
     (recursion_from_All (λ (y : ℕ × Bor X). g.S.Statement.kept y.1.now) ys kept))
 
 pub in_columns-requires : goal.in_columns-requires
 in_columns-requires g c =
-    let out : c.as_slice-6.result.now
-    ≡ map (with_index c.as_slice-5.result.now) c.in_ok-boundaries.boundaries.items =
-    c.as_slice-6.ensures.value ∙ c.put_indexes.ensures in
+    let out : c.as_slice-5.result.now
+    ≡ map (with_index c.as_slice-4.result.now) c.in_ok-boundaries.boundaries.items =
+    c.as_slice-5.ensures.value ∙ c.put_indexes.ensures in
     subst (λ (bs : List Boundary). IsNonDecreasingBy (λ (b : Boundary). b.at) bs) (sym out)
-    (ordered_indexes c.as_slice-5.result.now c.in_ok-boundaries.boundaries.items
+    (ordered_indexes c.as_slice-4.result.now c.in_ok-boundaries.boundaries.items
     c.in_ok-boundaries.ensures.tell.ordered)
 
 pub returns-clause-told : goal.returns-clause-told
@@ -115,25 +87,25 @@ returns-clause-told g c =
     let same : IsPermutation (enumerate_from 0 xs) (map seen ys) =
     subst (λ (zs : List (ℕ × X)). IsPermutation zs (map seen ys)) c.in_ok-ranked.ensures
     (IsPermutation-map seen c.in_ok-ranked.ranked.items ys
-    (IsPermutation-trans c.in_ok-ranked.ranked.items c.put_outer_first.new.indexed.items ys
-    c.in_ok-put_outer_first.ensures c.sort_unstable_by.ensures.permutation)) in
+    (IsPermutation-trans c.in_ok-ranked.ranked.items c.nested_in_some_order.new.indexed.items ys
+    c.nested_in_some_order.ensures.moved c.sort_unstable_by.ensures.permutation)) in
     let range : ℕ × X → Ends = λ x. g.S.Statement.range x.1 in
-    let ranges : c.as_slice-3.result.now ≡ map range (map seen ys) =
-    c.as_slice-3.ensures.value ∙ c.in_ok-ranges.ensures.ranges
-    ∙ ap (map (λ (y : ℕ × Bor X). range (seen y))) c.as_slice-2.ensures.value
+    let ranges : c.as_slice-2.result.now ≡ map range (map seen ys) =
+    c.as_slice-2.ensures.value ∙ c.in_ok-ranges.ensures.ranges
+    ∙ ap (map (λ (y : ℕ × Bor X). range (seen y))) c.as_slice.ensures.value
     ∙ sym (map_map seen range ys) in
     let index : ℕ × X → ℕ = λ x. x.0 in
-    let indexes : c.as_slice-5.result.now ≡ map index (map seen ys) =
-    c.as_slice-5.ensures.value ∙ c.in_ok-indexes.ensures
-    ∙ ap (map (λ (y : ℕ × Bor X). index (seen y))) c.as_slice-4.ensures.value
+    let indexes : c.as_slice-4.result.now ≡ map index (map seen ys) =
+    c.as_slice-4.ensures.value ∙ c.in_ok-indexes.ensures
+    ∙ ap (map (λ (y : ℕ × Bor X). index (seen y))) c.as_slice-3.ensures.value
     ∙ sym (map_map seen index ys) in
     let out : c.put_indexes.new.boundaries.items
     ≡ map (with_index (map index (map seen ys))) c.in_ok-boundaries.boundaries.items =
     c.put_indexes.ensures ∙ ap (λ (ps : List ℕ).
     map (with_index ps) c.in_ok-boundaries.boundaries.items) indexes in
-    tells_alike g.S.Statement.order g.S.Statement.range xs _ c.in_ok-index-3.index
-    (subst (λ (bs : List Boundary). AreAlike bs c.in_ok-index-3.index)
-    (c.as_slice-6.ensures.value ∙ out) c.in_ok-index-3.ensures)
+    tells_alike g.S.Statement.order g.S.Statement.range xs _ c.in_ok-index-2.index
+    (subst (λ (bs : List Boundary). AreAlike bs c.in_ok-index-2.index)
+    (c.as_slice-5.ensures.value ∙ out) c.in_ok-index-2.ensures)
     (tells_first g.S.Statement.order g.met.S.Statement.total g.S.Statement.range xs (map seen ys)
     same c.in_ok-boundaries.boundaries.items
     (sorted_seen seen (λ x y. is_lt (index_cmp g.S.Statement.order x y)) ys sorted)
@@ -150,17 +122,17 @@ returns-clause-cuts g c =
     let same : IsPermutation (enumerate_from 0 xs) (map seen ys) =
     subst (λ (zs : List (ℕ × X)). IsPermutation zs (map seen ys)) c.in_ok-ranked.ensures
     (IsPermutation-map seen c.in_ok-ranked.ranked.items ys
-    (IsPermutation-trans c.in_ok-ranked.ranked.items c.put_outer_first.new.indexed.items ys
-    c.in_ok-put_outer_first.ensures c.sort_unstable_by.ensures.permutation)) in
-    let ranges : c.as_slice-3.result.now ≡ map range ys =
-    c.as_slice-3.ensures.value ∙ c.in_ok-ranges.ensures.ranges
-    ∙ ap (map range) c.as_slice-2.ensures.value in
+    (IsPermutation-trans c.in_ok-ranked.ranked.items c.nested_in_some_order.new.indexed.items ys
+    c.nested_in_some_order.ensures.moved c.sort_unstable_by.ensures.permutation)) in
+    let ranges : c.as_slice-2.result.now ≡ map range ys =
+    c.as_slice-2.ensures.value ∙ c.in_ok-ranges.ensures.ranges
+    ∙ ap (map range) c.as_slice.ensures.value in
     cuts_seen (λ (x : Bor X). x.now) g.S.Statement.order g.S.Statement.range xs ys
-    c.in_ok-index-3.index same
-    (λ k. sym (c.in_ok-index-3.ensures.stand k)
+    c.in_ok-index-2.index same
+    (λ k. sym (c.in_ok-index-2.ensures.stand k)
     ∙ ap (λ (bs : List Boundary). stands_at bs k)
-    (c.as_slice-6.ensures.value ∙ c.put_indexes.ensures)
-    ∙ stands_indexes c.as_slice-5.result.now c.in_ok-boundaries.boundaries.items k
+    (c.as_slice-5.ensures.value ∙ c.put_indexes.ensures)
+    ∙ stands_indexes c.as_slice-4.result.now c.in_ok-boundaries.boundaries.items k
     ∙ c.in_ok-boundaries.ensures.stand k
     ∙ ap (λ (rs : List Ends). is_edge rs k && ltb k (2 ^ 128)) ranges)
 
@@ -173,11 +145,11 @@ returns-clause-kept g c =
     let same : IsPermutation (enumerate_from 0 xs) (map seen ys) =
     subst (λ (zs : List (ℕ × X)). IsPermutation zs (map seen ys)) c.in_ok-ranked.ensures
     (IsPermutation-map seen c.in_ok-ranked.ranked.items ys
-    (IsPermutation-trans c.in_ok-ranked.ranked.items c.put_outer_first.new.indexed.items ys
-    c.in_ok-put_outer_first.ensures c.sort_unstable_by.ensures.permutation)) in
+    (IsPermutation-trans c.in_ok-ranked.ranked.items c.nested_in_some_order.new.indexed.items ys
+    c.nested_in_some_order.ensures.moved c.sort_unstable_by.ensures.permutation)) in
     let all : All (λ (y : ℕ × Bor X). g.S.Statement.kept y.1.now) ys =
     subst (λ (zs : List (ℕ × Bor X)). All (λ y. g.S.Statement.kept y.1.now) zs)
-    c.as_slice-2.ensures.value c.in_ok-ranges.ensures.kept in
+    c.as_slice.ensures.value c.in_ok-ranges.ensures.kept in
     all_kept g.S.Statement.order g.met.S.Statement.total g.S.Statement.range xs (map seen ys) same
     g.S.Statement.kept
     (each_seen seen (λ x. g.S.Statement.kept x.1) ys
