@@ -8,7 +8,6 @@ use Rattle.std.specs.List.Sorted.{IsNonDecreasingBy}
 use Rattle.std.specs.Option.{option_map}
 use Rattle.std.specs.Ordering.{is_lt}
 use Rattle.std.proofs.lemmas.Bool.Decides.{nat_tests}
-use Rattle.std.proofs.lemmas.List.{take_more}
 use Rattle.std.proofs.lemmas.List.Elements.{filter-append}
 use Rattle.std.proofs.lemmas.List.Folds.{list_any-append}
 use Rattle.std.proofs.lemmas.List.Sums.{fold-append}
@@ -16,9 +15,8 @@ use Rattle.geo_addr.specs.Ranges.{Ends, IsRange, ground_first, holds}
 use Rattle.first_index.specs.Boundaries.{told}
 use Rattle.geo_terms.specs.First.{better}
 use Rattle.first_index.specs.FirstIndex.{index_cmp}
-use Rattle.first_index.specs.Nested.{AreAlike, AreBoundariesOf, ArePassed, Climb, IsPut, Nest}
-use Rattle.first_index.specs.Nested.{Reach, best, best_index, innermost, is_edge, is_end}
-use Rattle.first_index.specs.Nested.{stands_at, top}
+use Rattle.first_index.specs.Nested.{AreBoundariesOf, ArePassed, Climb, IsPut, Nest, Reach}
+use Rattle.first_index.specs.Nested.{best, best_index, innermost, is_edge, is_end, stands_at, top}
 use Rattle.first_index.specs.declared.boundaries.Boundary.{Boundary}
 use Rattle.first_index.proofs.BoundaryLemmas.{ground_before, held}
 
@@ -251,53 +249,6 @@ put_last at first bs old le = record {
         let is : old.at ≡ at = omega arith in
         subst (λ n. IsPut at first (bs ++ old ∷ []) (bs ++ record { at = n; first = first } ∷ []))
         (sym is) (put_over at first bs old is)
-
--- boundaries in order climb up to the next one
-climb_taken : (low : ℕ) (xs : List Boundary) (i : ℕ) (b : Boundary)
-    → IsNonDecreasingBy (λ (x : Boundary). x.at) xs
-    → ((d : Boundary) → 0 < length xs → low ≤ (get_or xs 0 d).at) → i < length xs
-    → Climb low (get_or xs i b).at (take i xs)
-climb_taken low [] i b up le within = absurd (omega arith)
-climb_taken low (x ∷ xs) zero b up le within = le b (omega arith)
-climb_taken low (x ∷ xs) (suc i) b up le within = (
-  le b (omega arith),
-  climb_taken x.at xs i b (λ j k d below there. up (suc j) (suc k) d (omega arith) (omega arith))
-      (λ d some. up zero (suc zero) d (omega arith) (omega arith)) (omega arith),
-)
-
--- what was put of boundaries in order
-pub record ArePut (given bs : List Boundary) : Type 0 where
-  pub climb : (high : ℕ) → Climb 0 high given → Climb 0 high bs
-  pub alike : AreAlike given bs
-
-pub none_put : (bs : List Boundary) → bs ≡ [] → ArePut [] bs
-none_put bs none =
-    rw none (record {
-      climb = λ high up. up;
-      alike = record { tell = λ a. refl; stand = λ c. refl };
-    })
-
-pub more_put : (xs : List Boundary) (i : ℕ) (b : Boundary) (bs new : List Boundary)
-    → IsNonDecreasingBy (λ (x : Boundary). x.at) xs → i < length xs → b ≡ get_or xs i b
-    → ArePut (take i xs) bs → IsPut b.at b.first bs new → ArePut (take (i + 1) xs) new
-more_put xs i b bs new up within is before put =
-    let given : List Boundary = take i xs in
-    let more : take (i + 1) xs ≡ given ++ b ∷ [] =
-    take_more xs i b within ∙ ap (λ y. given ++ y ∷ []) (sym is) in
-    let below : Climb 0 b.at given =
-    subst (λ (y : Boundary). Climb 0 y.at given) (sym is)
-    (climb_taken 0 xs i b up (λ d some. omega arith) within) in
-    let low : Climb 0 b.at bs = before.climb b.at below in
-    subst (λ (zs : List Boundary). ArePut zs new) (sym more) (record {
-      climb = λ high all.
-          climb_higher 0 b.at high new (climb_last 0 high given b all) (put.climb 0 low);
-      alike = record {
-        tell = λ a. told_more None 0 given b a below
-            ∙ ap (λ t. cond (leb b.at a) b.first t) (before.alike.tell a) ∙ sym (put.tell 0 low a);
-        stand = λ c. stands_more given b c ∙ ap (λ v. v || eqb b.at c) (before.alike.stand c)
-            ∙ sym (put.stand 0 low c);
-      };
-    })
 
 -- a point that is an edge, where the ground ends or begins there
 stand_close : (s e q w : Bool) → (q ≡ true → w ≡ true)

@@ -14,8 +14,7 @@ use Rattle.std.proofs.lemmas.List.Sorted.{IsPermutation-map, list_any-IsPermutat
 use Rattle.geo_addr.specs.Ranges.{AreCuts, Ends, IsEdge, ground_first, holds}
 use Rattle.geo_terms.specs.First.{better}
 use Rattle.first_index.specs.FirstIndex.{StandAtCuts, TellsFirst, index_cmp}
-use Rattle.first_index.specs.Nested.{AreAlike, AreBoundariesOf, StandAtEdges, best_index, is_edge}
-use Rattle.first_index.specs.Nested.{stands_at}
+use Rattle.first_index.specs.Nested.{AreBoundariesOf, StandAtEdges, best_index, is_edge, stands_at}
 use Rattle.first_index.specs.declared.boundaries.Boundary.{Boundary}
 use Rattle.first_index.proofs.IndexLemmas.{best_first}
 use Rattle.geo_terms.proofs.SeenLemmas.{map_map}
@@ -45,13 +44,6 @@ stands_among (b ∷ bs) c is =
       | true ↦ λ e here. inl (grind (arith, nat_tests))
       | false ↦ λ e later. inr (stands_among bs c later)
     ] refl is
-
--- what boundaries tell of statements, others that are alike tell too
-pub tells_alike : {X : Type 0} (order : X → X → Ordering) (range_of : X → Ends) (xs : List X)
-    (bs cs : List Boundary) → AreAlike bs cs → TellsFirst order range_of xs bs
-    → TellsFirst order range_of xs cs
-tells_alike order range_of xs bs cs alike h a lt =
-    ap (option_and_then (slice_get xs)) (sym (alike.tell a)) ∙ h a lt
 
 both : (x y : Bool) → (x && y) ≡ true → (x ≡ true) × (y ≡ true)
 both true y is = (refl, is)

@@ -55,11 +55,6 @@ is_edge rs c = list_any (λ r. nat_eq (ground_first r) c || nat_eq (r.last + 1) 
 abbrev pub StandAtEdges : List Ends → List Boundary → Type 0
 StandAtEdges rs bs = (c : ℕ) → stands_at bs c ≡ (is_edge rs c && nat_lt c (2 ^ 128))
 
--- boundaries that tell the same of each address, and stand at the same points
-pub record AreAlike (xs ys : List Boundary) : Type 0 where
-  pub tell : (a : ℕ) → told None xs a ≡ told None ys a
-  pub stand : (c : ℕ) → stands_at xs c ≡ stands_at ys c
-
 -- one more boundary, which stands for one at the same address
 pub record IsPut (at : ℕ) (first : Option ℕ) (old new : List Boundary) : Type 0 where
   pub climb : (low : ℕ) → Climb low at old → Climb low at new

@@ -1,10 +1,11 @@
 //! Boundaries in columns: 20 bytes each in place of 32, and the column of addresses is of use by
 //! itself.
 ghost use Rattle.std.specs.Prelude.{◌≡◌, ◌<◌, ◌≤◌, ◌-◌, ◌++◌, ◌∷◌, [], ℕ, IfOk, IsTrue, None};
-ghost use Rattle.std.specs.Prelude.{OnErr, OnOk, Some, false, length, slice_get, slice_set};
+ghost use Rattle.std.specs.Prelude.{OnErr, OnOk, Some, drop, false, length, slice_get, slice_set};
 ghost use Rattle.first_index.specs.Boundaries.{told};
-ghost use Rattle.first_index.specs.Columns.{AreColumns, coded_index, of_columns};
+ghost use Rattle.first_index.specs.Columns.{AreColumns, begin_at, coded_index, of_columns};
 
+use crate::boundaries::Boundary;
 use geo_addr::Memory;
 
 // Stands for no index.
@@ -33,6 +34,16 @@ pub fn decoded(code: u32) -> Option<usize>
         return None;
     }
     Some(code as usize)
+}
+
+// Whether the boundary at an index and the one before it stand at one address.
+pub fn stands_at(boundaries: &[Boundary], index: usize, at: u128) -> bool
+    ensures { result ≡ begin_at (drop index boundaries.now) at }
+{
+    match boundaries.get(index) {
+        Some(boundary) => boundary.at == at,
+        None => false,
+    }
 }
 
 // Whether an address is behind the last of these points.

@@ -4,11 +4,12 @@ ghost use Rattle.std.specs.Prelude.{None, map, option_and_then, slice_get};
 ghost use Rattle.std.specs.List.{enumerate_from};
 ghost use Rattle.std.specs.List.Sorted.{IsNonDecreasingBy, IsPermutation, IsStrictlyIncreasing};
 ghost use Rattle.first_index.specs.Boundaries.{told};
+ghost use Rattle.first_index.specs.Columns.{last_ones};
 ghost use Rattle.first_index.specs.FirstIndex.{StandAtCuts, TellsFirst, with_index};
-ghost use Rattle.first_index.specs.Nested.{AreAlike, AreBoundariesOf, IsPut};
+ghost use Rattle.first_index.specs.Nested.{AreBoundariesOf, IsPut};
 
 use crate::boundaries::{Boundary, boundaries_of};
-use crate::columns::{coded, is_past, put_column, set_last, told};
+use crate::columns::{coded, is_past, put_column, set_last, stands_at, told};
 use crate::near::told_near;
 use crate::nested::{nested_of, order};
 use geo_addr::{Addr, Memory, Range};
@@ -51,10 +52,11 @@ impl FirstIndex {
         }
     }
 
-    // Room for so many boundaries; what of it is not filled is never touched.
-    pub(crate) fn with_room(alloc: Global, room: usize) -> Result<FirstIndex, Memory>
+    // Room for the boundaries of so many statements; what of it is not filled is never touched.
+    pub(crate) fn with_room(alloc: Global, statements: usize) -> Result<FirstIndex, Memory>
         ensures { IfOk result (λ index. index ≡ []) }
     {
+        let room = statements.saturating_mul(2).saturating_add(1);
         let points = Vec::with_capacity(alloc, room)?;
         let codes = Vec::with_capacity(alloc, room)?;
         Ok(FirstIndex { points, codes })
@@ -130,13 +132,17 @@ impl FirstIndex {
 // The index that has boundaries in order, of those at one address the last.
 fn in_columns(alloc: Global, boundaries: &[Boundary]) -> Result<FirstIndex, Memory>
     requires { IsNonDecreasingBy (λ b. b.at) boundaries.now }
-    ensures { IfOk result (λ index. AreAlike boundaries.now index) }
+    ensures { IfOk result (λ index. index ≡ last_ones boundaries.now) }
 {
-    let mut index = FirstIndex::with_room(alloc, boundaries.len())?;
-    for boundary in boundaries {
-        index.put(boundary.at, boundary.first)?;
+    let mut points = Vec::with_capacity(alloc, boundaries.len())?;
+    let mut codes = Vec::with_capacity(alloc, boundaries.len())?;
+    for (index, boundary) in boundaries.iter().enumerate() {
+        if !stands_at(boundaries, index + 1, boundary.at) {
+            let code = coded(boundary.first)?;
+            put_column(&mut points, &mut codes, boundary.at, code)?;
+        }
     }
-    Ok(index)
+    Ok(FirstIndex { points, codes })
 }
 
 // The statements with their indexes.

@@ -27,8 +27,7 @@ pub fn nested_of<S: Statement>(
     ensures kept { IfOk result (λ found. IfSome found
         (λ _. All (λ x. S.kept x.1.now) indexed.entry.now)) }
 {
-    // each ground puts one boundary where it begins, and one behind its end
-    let mut index = FirstIndex::with_room(alloc, indexed.len().saturating_mul(2))?;
+    let mut index = FirstIndex::with_room(alloc, indexed.len())?;
     // each with its last address, and the first statement that holds it up to there
     let mut opened = Vec::new(alloc);
     let mut low = 0;

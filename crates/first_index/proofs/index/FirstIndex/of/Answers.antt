@@ -7,13 +7,15 @@ use Rattle.std.proofs.lemmas.List.Sorted.{IsPermutation-map, IsPermutation-trans
 use Rattle.std.proofs.lemmas.List.Sorted.{ranks_by}
 use Rattle.geo_addr.specs.Ranges.{Ends}
 use Rattle.first_index.specs.Boundaries.{AreBoundaries}
-use Rattle.first_index.specs.FirstIndex.{index_cmp, with_index}
-use Rattle.first_index.specs.Nested.{AreAlike, AreBoundariesOf, is_edge, stands_at}
+use Rattle.first_index.specs.Columns.{last_ones}
+use Rattle.first_index.specs.FirstIndex.{StandAtCuts, TellsFirst, index_cmp, with_index}
+use Rattle.first_index.specs.Nested.{AreBoundariesOf, is_edge, stands_at}
 use Rattle.first_index.specs.declared.boundaries.Boundary.{Boundary}
 use Rattle.geo_terms.proofs.SeenLemmas.{each_seen, map_map, sorted_seen}
 use Rattle.first_index.proofs.IndexLemmas.{all_kept, ordered_indexes, index_total, stands_indexes}
 use Rattle.first_index.proofs.IndexLemmas.{tells_first}
-use Rattle.first_index.proofs.StandLemmas.{cuts_seen, tells_alike, tells_seen}
+use Rattle.first_index.proofs.ColumnLemmas.{stands_last, tells_last}
+use Rattle.first_index.proofs.StandLemmas.{cuts_seen, tells_seen}
 use Rattle.first_index.proofs.index.FirstIndex.of.Goals as goal
 
 pub returns-in-Some-clause-told : goal.returns-in-Some-clause-told
@@ -103,14 +105,16 @@ returns-clause-told g c =
     ≡ map (with_index (map index (map seen ys))) c.in_ok-boundaries.boundaries.items =
     c.put_indexes.ensures ∙ ap (λ (ps : List ℕ).
     map (with_index ps) c.in_ok-boundaries.boundaries.items) indexes in
-    tells_alike g.S.Statement.order g.S.Statement.range xs _ c.in_ok-index-2.index
-    (subst (λ (bs : List Boundary). AreAlike bs c.in_ok-index-2.index)
-    (c.as_slice-5.ensures.value ∙ out) c.in_ok-index-2.ensures)
+    let is : c.in_ok-index-2.index ≡ last_ones c.put_indexes.new.boundaries.items =
+    c.in_ok-index-2.ensures ∙ ap last_ones c.as_slice-5.ensures.value in
+    subst (TellsFirst g.S.Statement.order g.S.Statement.range xs)
+    (sym (is ∙ ap last_ones out))
+    (tells_last g.S.Statement.order g.S.Statement.range xs _
     (tells_first g.S.Statement.order g.met.S.Statement.total g.S.Statement.range xs (map seen ys)
     same c.in_ok-boundaries.boundaries.items
     (sorted_seen seen (λ x y. is_lt (index_cmp g.S.Statement.order x y)) ys sorted)
     (subst (λ (rs : List Ends). AreBoundaries rs c.in_ok-boundaries.boundaries.items) ranges
-    c.in_ok-boundaries.ensures.tell))
+    c.in_ok-boundaries.ensures.tell)))
 
 pub returns-clause-cuts : goal.returns-clause-cuts
 returns-clause-cuts g c =
@@ -127,14 +131,16 @@ returns-clause-cuts g c =
     let ranges : c.as_slice-2.result.now ≡ map range ys =
     c.as_slice-2.ensures.value ∙ c.in_ok-ranges.ensures.ranges
     ∙ ap (map range) c.as_slice.ensures.value in
-    cuts_seen (λ (x : Bor X). x.now) g.S.Statement.order g.S.Statement.range xs ys
-    c.in_ok-index-2.index same
-    (λ k. sym (c.in_ok-index-2.ensures.stand k)
-    ∙ ap (λ (bs : List Boundary). stands_at bs k)
-    (c.as_slice-5.ensures.value ∙ c.put_indexes.ensures)
+    let is : c.in_ok-index-2.index ≡ last_ones c.put_indexes.new.boundaries.items =
+    c.in_ok-index-2.ensures ∙ ap last_ones c.as_slice-5.ensures.value in
+    subst (StandAtCuts g.S.Statement.range xs) (sym is)
+    (cuts_seen (λ (x : Bor X). x.now) g.S.Statement.order g.S.Statement.range xs ys
+    (last_ones c.put_indexes.new.boundaries.items) same
+    (λ k. stands_last c.put_indexes.new.boundaries.items k
+    ∙ ap (λ (bs : List Boundary). stands_at bs k) c.put_indexes.ensures
     ∙ stands_indexes c.as_slice-4.result.now c.in_ok-boundaries.boundaries.items k
     ∙ c.in_ok-boundaries.ensures.stand k
-    ∙ ap (λ (rs : List Ends). is_edge rs k && ltb k (2 ^ 128)) ranges)
+    ∙ ap (λ (rs : List Ends). is_edge rs k && ltb k (2 ^ 128)) ranges))
 
 pub returns-clause-kept : goal.returns-clause-kept
 returns-clause-kept g c =
