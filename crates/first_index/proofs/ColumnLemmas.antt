@@ -2,7 +2,7 @@
 use Rattle.std.proofs.Common.{◌≡◌, ℕ, zero, suc, ◌+◌, ◌-◌, ◌<◌, ◌≤◌, Bool, true, false, cond, ◌||◌}
 use Rattle.std.proofs.Common.{eqb, leb, List, [], ◌∷◌, ◌++◌, length, get_or, map, Option, None}
 use Rattle.std.proofs.Common.{refl, sym, ap, ◌∙◌, subst, inl, inr, arith, drop, append_assoc}
-use Rattle.std.proofs.Common.{Ordering, slice_get}
+use Rattle.std.proofs.Common.{Ordering, Some, slice_get, slice_set, take}
 use Rattle.std.specs.Option.{option_and_then}
 use Rattle.std.specs.List.Sorted.{IsNonDecreasingBy, IsPartitionPoint, IsStrictlyIncreasing}
 use Rattle.std.proofs.lemmas.Bool.{cases_lt}
@@ -13,8 +13,9 @@ use Rattle.geo_terms.proofs.Ascending.{Up}
 use Rattle.first_index.specs.Boundaries.{told}
 use Rattle.first_index.specs.Columns.{AreColumns, begin_at, coded_index, last_ones, of_columns}
 use Rattle.first_index.specs.FirstIndex.{TellsFirst}
-use Rattle.first_index.specs.Nested.{stands_at}
+use Rattle.first_index.specs.Nested.{IsPut, stands_at}
 use Rattle.first_index.specs.declared.boundaries.Boundary.{Boundary}
+use Rattle.first_index.proofs.NestedLemmas.{last_is, put_last, put_new, snoc_length}
 
 abbrev place : Boundary → ℕ
 place b = b.at
@@ -170,6 +171,54 @@ columns_of_last bs ps cs up same is = record {
       subst IsStrictlyIncreasing (ap (map place) (sym is) ∙ points_are ps cs same)
       (increasing 0 (map place (last_ones bs)) (up_last 0 bs up (low_from bs)));
 }
+
+-- one more point and its code behind those that there are
+pub put_columns : (ps cs : List ℕ) (a c : ℕ) (first : Option ℕ) → length ps ≡ length cs
+    → coded_index c ≡ first
+    → IsPut a first (of_columns ps cs) (of_columns (ps ++ a ∷ []) (cs ++ c ∷ []))
+put_columns ps cs a c first same code =
+    subst (λ bs. IsPut a first (of_columns ps cs) bs) (sym (columns_more ps cs a c same))
+    (subst (λ o. IsPut a first (of_columns ps cs)
+    (of_columns ps cs ++ record { at = a; first = o } ∷ [])) (sym code)
+    (put_new a first (of_columns ps cs)))
+
+set_snoc : (cs : List ℕ) (d c : ℕ) → slice_set (cs ++ d ∷ []) (length (cs ++ d ∷ []) - 1) c
+    ≡ cs ++ c ∷ []
+set_snoc [] d c = refl
+set_snoc (x ∷ cs) d c =
+    let long : length (cs ++ d ∷ []) ≡ length cs + 1 = snoc_length cs d in
+    let n : length (x ∷ cs ++ d ∷ []) - 1 ≡ suc (length (cs ++ d ∷ []) - 1) = omega arith in
+    rw n (ap (λ ys. x ∷ ys) (set_snoc cs d c))
+
+some_last : (cs : List ℕ) → 0 < length cs → (ds : List ℕ) × (d : ℕ) × (cs ≡ ds ++ d ∷ [])
+some_last [] lt = absurd (omega arith)
+some_last (x ∷ []) lt = ([], x, refl)
+some_last (x ∷ y ∷ ys) lt =
+    let (ds, d, is) = some_last (y ∷ ys) (omega arith) in (x ∷ ds, d, ap (λ zs. x ∷ zs) is)
+
+-- another code in place of the last one, where that does not stand below an address
+pub set_columns : (ps cs : List ℕ) (p a c : ℕ) (first : Option ℕ) → length ps ≡ length cs
+    → slice_get ps (length ps - 1) ≡ Some p → a ≤ p → coded_index c ≡ first
+    → IsPut a first (of_columns ps cs) (of_columns ps (slice_set cs (length cs - 1) c))
+set_columns ps cs p a c first same is le code =
+    let qs : List ℕ = take (length ps - 1) ps in
+    let points : ps ≡ qs ++ p ∷ [] = last_is ps p is in
+    let long : length ps ≡ length qs + 1 = ap length points ∙ snoc_length qs p in
+    let (ds, d, codes) = some_last cs (omega arith) in
+    let short : length cs ≡ length ds + 1 = ap length codes ∙ snoc_length ds d in
+    let both : length qs ≡ length ds = omega arith in
+    let set : slice_set cs (length cs - 1) c ≡ ds ++ c ∷ [] =
+    ap (λ zs. slice_set zs (length zs - 1) c) codes ∙ set_snoc ds d c in
+    let old : Boundary = record { at = p; first = coded_index d } in
+    let given : of_columns ps cs ≡ of_columns qs ds ++ old ∷ [] =
+    ap (λ zs. of_columns zs cs) points ∙ ap (λ zs. of_columns (qs ++ p ∷ []) zs) codes
+    ∙ columns_more qs ds p d both in
+    let made : of_columns ps (slice_set cs (length cs - 1) c)
+    ≡ of_columns qs ds ++ record { at = p; first = coded_index c } ∷ [] =
+    ap (λ zs. of_columns zs (slice_set cs (length cs - 1) c)) points
+    ∙ ap (λ zs. of_columns (qs ++ p ∷ []) zs) set
+    ∙ columns_more qs ds p c both in
+    rw (given, made, code) (put_last a first (of_columns qs ds) old le)
 
 drop_here : {X : Type 0} (xs : List X) (i : ℕ) (x : X) → i < length xs → get_or xs i x ≡ x
     → drop i xs ≡ x ∷ drop (i + 1) xs

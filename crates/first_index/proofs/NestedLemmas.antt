@@ -204,10 +204,10 @@ put_new at first bs =
     record {
       climb = λ low up. climb_more low bs b up;
       tell = λ low up a. told_more None low bs b a up;
-      stand = λ c. stands_more bs b c;
+      stand = λ low up c. stands_more bs b c;
     }
 
-pub put_over : (at : ℕ) (first : Option ℕ) (bs : List Boundary) (old : Boundary) → old.at ≡ at
+put_over : (at : ℕ) (first : Option ℕ) (bs : List Boundary) (old : Boundary) → old.at ≡ at
     → IsPut at first (bs ++ old ∷ []) (bs ++ record { at = at; first = first } ∷ [])
 put_over at first bs old is =
     let b : Boundary = record { at = at; first = first } in
@@ -219,7 +219,7 @@ put_over at first bs old is =
           (told_more None low bs old a (subst (λ n. Climb low n bs) (sym is) before)
           ∙ ap (λ n. cond (leb n a) old.first (told None bs a)) is)
           ∙ once (leb at a) first old.first (told None bs a));
-      stand = λ c. stands_more bs b c ∙ sym (ap (λ v. v || eqb at c) (stands_more bs old c)
+      stand = λ low up c. stands_more bs b c ∙ sym (ap (λ v. v || eqb at c) (stands_more bs old c)
           ∙ (let e : ((stands_at bs c || eqb old.at c) || eqb at c) ≡ (stands_at bs c || eqb at c) =
           grind (arith, nat_tests) in e));
     }
@@ -227,6 +227,28 @@ put_over at first bs old is =
     once : (v : Bool) (x y z : Option ℕ) → cond v x (cond v y z) ≡ cond v x z
     once true x y z = refl
     once false x y z = refl
+
+climb_last : (low high : ℕ) (bs : List Boundary) (b : Boundary) → Climb low high (bs ++ b ∷ [])
+    → b.at ≤ high
+climb_last low high [] b up = up.1
+climb_last low high (x ∷ xs) b up = climb_last x.at high xs b up.1
+
+-- where what comes before ascends, a last boundary that is not below an address stands at it
+pub put_last : (at : ℕ) (first : Option ℕ) (bs : List Boundary) (old : Boundary) → at ≤ old.at
+    → IsPut at first (bs ++ old ∷ []) (bs ++ record { at = old.at; first = first } ∷ [])
+put_last at first bs old le = record {
+  climb = λ low up. (over low up).climb low up;
+  tell = λ low up. (over low up).tell low up;
+  stand = λ low up. (over low up).stand low up;
+}
+  where
+    over : (low : ℕ) → Climb low at (bs ++ old ∷ [])
+        → IsPut at first (bs ++ old ∷ []) (bs ++ record { at = old.at; first = first } ∷ [])
+    over low up =
+        let below : old.at ≤ at = climb_last low at bs old up in
+        let is : old.at ≡ at = omega arith in
+        subst (λ n. IsPut at first (bs ++ old ∷ []) (bs ++ record { at = n; first = first } ∷ []))
+        (sym is) (put_over at first bs old is)
 
 -- a point that is an edge, where the ground ends or begins there
 stand_close : (s e q w : Bool) → (q ≡ true → w ≡ true)
@@ -378,7 +400,8 @@ module _ {X : Type 0} (order : X → X → Ordering) (range_of : X → Ends) whe
         now = rest;
         here = λ a from high. let passed : leb (l + 1) a ≡ true = grind (arith, nat_tests) in
             put.tell 0 upto_last.climb a ∙ rw passed refl;
-        stand = λ c. ap (λ v. v || (is_end os c && ltb c (2 ^ 128))) (put.stand c)
+        stand = λ c. ap (λ v. v || (is_end os c && ltb c (2 ^ 128)))
+            (put.stand 0 upto_last.climb c)
             ∙ stand_close (stands_at bs c) (is_end os c) (eqb (l + 1) c) (ltb c (2 ^ 128))
             (λ is. grind (arith, nat_tests))
             ∙ ap (λ v. stands_at bs c || (v && ltb c (2 ^ 128))) (sym (end_more os l x c))
@@ -465,7 +488,7 @@ module _ {X : Type 0} (order : X → X → Ordering) (range_of : X → Ends) whe
             put.tell 0 h.climb a ∙ rw passed refl
             ∙ sym (ap (option_map index) (top_more None os last b));
         stand = λ c. ap (λ v. v || (is_end (os ++ (last, b) ∷ []) c && ltb c (2 ^ 128)))
-            (put.stand c)
+            (put.stand 0 h.climb c)
             ∙ ap (λ v. (stands_at bs c || eqb from c) || (v && ltb c (2 ^ 128)))
             (end_more os last b c)
             ∙ stand_open (stands_at bs c) (is_end os c) (eqb from c) (eqb (last + 1) c)

@@ -60,7 +60,8 @@ pub record IsPut (at : ℕ) (first : Option ℕ) (old new : List Boundary) : Typ
   pub climb : (low : ℕ) → Climb low at old → Climb low at new
   pub tell : (low : ℕ) → Climb low at old
       → (a : ℕ) → told None new a ≡ (if nat_le at a then first else told None old a)
-  pub stand : (c : ℕ) → stands_at new c ≡ (stands_at old c || nat_eq at c)
+  pub stand : (low : ℕ) → Climb low at old
+      → (c : ℕ) → stands_at new c ≡ (stands_at old c || nat_eq at c)
 
 module _ {X : Type 0} (order : X → X → Ordering) (range_of : X → Ends) where
   -- the first of statements with their indexes that holds an address

@@ -1,6 +1,7 @@
 //! Boundaries in columns: 20 bytes each in place of 32, and the column of addresses is of use by
 //! itself.
-ghost use Rattle.std.specs.Prelude.{◌≡◌, drop, IfOk, None};
+ghost use Rattle.std.specs.Prelude.{◌≡◌, ◌<◌, ◌≤◌, ◌-◌, ◌++◌, ◌∷◌, [], ℕ, IfOk, IsTrue, None};
+ghost use Rattle.std.specs.Prelude.{OnErr, OnOk, Some, drop, false, length, slice_get, slice_set};
 ghost use Rattle.first_index.specs.Boundaries.{told};
 ghost use Rattle.first_index.specs.Columns.{AreColumns, begin_at, coded_index, of_columns};
 
@@ -42,6 +43,49 @@ pub fn stands_at(boundaries: &[Boundary], index: usize, at: u128) -> bool
     match boundaries.get(index) {
         Some(boundary) => boundary.at == at,
         None => false,
+    }
+}
+
+// Whether an address is behind the last of these points.
+pub fn is_past(points: &[u128], at: u128) -> bool
+    ensures past { IsTrue result → (p : ℕ)
+        → slice_get points.now (length points.now - 1) ≡ Some p → p < at }
+    ensures held { result ≡ false → (p : ℕ)
+        × ((slice_get points.now (length points.now - 1) ≡ Some p) × (at ≤ p)) }
+{
+    match points.last() {
+        Some(last) => *last < at,
+        None => true,
+    }
+}
+
+// Puts a point and its code behind those in the columns, or stops with the columns as they were:
+// where the room that was made for all of them is used up, there is no memory for more.
+pub fn put_column(
+    points: &mut Vec<u128>,
+    codes: &mut Vec<u32>,
+    at: u128,
+    code: u32,
+) -> Result<(), Memory>
+    ensures put { OnOk result ((points.new.items ≡ points.old.items ++ at ∷ [])
+        × (codes.new.items ≡ codes.old.items ++ code ∷ [])) }
+    ensures kept { OnErr result ((points.new.items ≡ points.old.items)
+        × (codes.new.items ≡ codes.old.items)) }
+{
+    if points.len() >= points.capacity() || codes.len() >= codes.capacity() {
+        return Err(Memory);
+    }
+    points.push(at)?;
+    codes.push(code)?;
+    Ok(())
+}
+
+// Puts another code in place of the last one.
+pub fn set_last(codes: &mut Vec<u32>, code: u32)
+    ensures { codes.new.items ≡ slice_set codes.old.items (length codes.old.items - 1) code }
+{
+    if let Some(last) = codes.len().checked_sub(1) {
+        codes[last] = code;
     }
 }
 

@@ -4,12 +4,12 @@ ghost use Rattle.std.specs.Prelude.{None, map, option_and_then, slice_get};
 ghost use Rattle.std.specs.List.{enumerate_from};
 ghost use Rattle.std.specs.List.Sorted.{IsNonDecreasingBy, IsPermutation, IsStrictlyIncreasing};
 ghost use Rattle.first_index.specs.Boundaries.{told};
-ghost use Rattle.first_index.specs.Columns.{coded_index, last_ones};
+ghost use Rattle.first_index.specs.Columns.{last_ones};
 ghost use Rattle.first_index.specs.FirstIndex.{StandAtCuts, TellsFirst, with_index};
-ghost use Rattle.first_index.specs.Nested.{AreBoundariesOf};
+ghost use Rattle.first_index.specs.Nested.{AreBoundariesOf, IsPut};
 
 use crate::boundaries::{Boundary, boundaries_of};
-use crate::columns::{coded, stands_at, told};
+use crate::columns::{coded, is_past, put_column, set_last, stands_at, told};
 use crate::near::told_near;
 use crate::nested::{nested_of, order};
 use geo_addr::{Addr, Memory, Range};
@@ -52,6 +52,32 @@ impl FirstIndex {
         }
     }
 
+    // Room for the boundaries of so many statements; what of it is not filled is never touched.
+    pub(crate) fn with_room(alloc: Global, statements: usize) -> Result<FirstIndex, Memory>
+        ensures { IfOk result (λ index. index ≡ []) }
+    {
+        let room = statements.saturating_mul(2).saturating_add(1);
+        let points = Vec::with_capacity(alloc, room)?;
+        let codes = Vec::with_capacity(alloc, room)?;
+        Ok(FirstIndex { points, codes })
+    }
+
+    // Puts a boundary behind those that there are, in place of the last one where that stands at
+    // the same address. For one more caller, or one more of `pass`, the hint would be dropped, and a
+    // statement would take twice the instructions.
+    #[inline(always)]
+    pub(crate) fn put(&mut self, at: u128, first: Option<usize>) -> Result<(), Memory>
+        ensures { OnOk result (IsPut at first self.old self.new) }
+    {
+        let code = coded(first)?;
+        if is_past(self.points.as_slice(), at) {
+            put_column(&mut self.points, &mut self.codes, at, code)?;
+            return Ok(());
+        }
+        set_last(&mut self.codes, code);
+        Ok(())
+    }
+
     /// The index of these statements.
     ///
     /// Where of any two grounds that share an address one lies in the other, that is one pass over
@@ -66,8 +92,7 @@ impl FirstIndex {
         ensures kept { OnOk result (All S.kept (map (λ s. s.now) statements.entry.now)) }
     {
         let mut ranked = indexed(alloc, statements)?;
-        if let Some(boundaries) = nested_in_some_order(alloc, &mut ranked)? {
-            let index = in_columns(alloc, boundaries.as_slice())?;
+        if let Some(index) = nested_in_some_order(alloc, &mut ranked)? {
             return Ok(index);
         }
         ranked.sort_unstable_by(|x, y| order(x, y));
@@ -114,26 +139,11 @@ fn in_columns(alloc: Global, boundaries: &[Boundary]) -> Result<FirstIndex, Memo
     let mut codes = Vec::with_capacity(alloc, boundaries.len())?;
     for (index, boundary) in boundaries.iter().enumerate() {
         if !stands_at(boundaries, index + 1, boundary.at) {
-            put_column(&mut points, &mut codes, *boundary)?;
+            let code = coded(boundary.first)?;
+            put_column(&mut points, &mut codes, boundary.at, code)?;
         }
     }
     Ok(FirstIndex { points, codes })
-}
-
-// Puts a boundary behind those in the columns.
-fn put_column(
-    points: &mut Vec<u128>,
-    codes: &mut Vec<u32>,
-    boundary: Boundary,
-) -> Result<(), Memory>
-    ensures point { OnOk result (points.new.items ≡ points.old.items ++ boundary.at ∷ []) }
-    ensures code { OnOk result ((code : ℕ) × ((coded_index code ≡ boundary.first)
-        × (codes.new.items ≡ codes.old.items ++ code ∷ []))) }
-{
-    let code = coded(boundary.first)?;
-    points.push(boundary.at)?;
-    codes.push(code)?;
-    Ok(())
 }
 
 // The statements with their indexes.
@@ -151,16 +161,15 @@ fn indexed<'a, S: Statement>(
     Ok(ranked)
 }
 
-// The boundaries of grounds that nest, in the order that the statements are put in; `None` where
-// two
+// The index of grounds that nest, in the order that the statements are put in; `None` where two
 // cross.
 fn nested_in_some_order<S: Statement>(
     alloc: Global,
     indexed: &mut Vec<(usize, &S)>,
-) -> Result<Option<Vec<Boundary>>, Memory>
+) -> Result<Option<FirstIndex>, Memory>
     ensures moved { IsPermutation indexed.old.items indexed.new.items }
-    ensures found { IfOk result (λ found. IfSome found (λ boundaries. AreBoundariesOf
-        (λ x y. S.order x.now y.now) (λ x. S.range x.now) indexed.new.items boundaries.items)) }
+    ensures found { IfOk result (λ found. IfSome found (λ index. AreBoundariesOf
+        (λ x y. S.order x.now y.now) (λ x. S.range x.now) indexed.new.items index)) }
     ensures kept { IfOk result (λ found. IfSome found
         (λ _. All (λ x. S.kept x.1.now) indexed.new.items)) }
 {

@@ -10,50 +10,50 @@ ghost use Rattle.first_index.specs.FirstIndex.{index_cmp};
 ghost use Rattle.first_index.specs.Nested.{AreBoundariesOf, ArePassed, Closes, IsPut, Nest, Reach};
 ghost use Rattle.first_index.specs.Nested.{top};
 
-use crate::boundaries::Boundary;
+use crate::index::FirstIndex;
 use geo_addr::Memory;
 use geo_terms::Statement;
 use std::alloc::Global;
 use std::cmp::Ordering;
 
-/// The boundaries of statements whose grounds nest, where each outer one comes before those in it;
+/// The index of statements whose grounds nest, where each outer one comes before those in it;
 /// `None` where they do not.
 pub fn nested_of<S: Statement>(
     alloc: Global,
     indexed: &[(usize, &S)],
-) -> Result<Option<Vec<Boundary>>, Memory>
-    ensures found { IfOk result (λ found. IfSome found (λ boundaries. AreBoundariesOf
-        (λ x y. S.order x.now y.now) (λ x. S.range x.now) indexed.entry.now boundaries.items)) }
+) -> Result<Option<FirstIndex>, Memory>
+    ensures found { IfOk result (λ found. IfSome found (λ index. AreBoundariesOf
+        (λ x y. S.order x.now y.now) (λ x. S.range x.now) indexed.entry.now index)) }
     ensures kept { IfOk result (λ found. IfSome found
         (λ _. All (λ x. S.kept x.1.now) indexed.entry.now)) }
 {
-    let mut boundaries = Vec::with_capacity(alloc, indexed.len().saturating_add(1))?;
+    let mut index = FirstIndex::with_room(alloc, indexed.len())?;
     // each with its last address, and the first statement that holds it up to there
     let mut opened = Vec::new(alloc);
     let mut low = 0;
     for statement in indexed {
-        let Some(first) = pass(&mut boundaries, &mut opened, low, *statement)? else {
+        let Some(first) = pass(&mut index, &mut opened, low, *statement)? else {
             return Ok(None);
         };
         low = first;
     }
-    close(&mut boundaries, &mut opened, None)?;
-    Ok(Some(boundaries))
+    close(&mut index, &mut opened, None)?;
+    Ok(Some(index))
 }
 
 // Passes one more statement, and answers where its ground begins; `None` where it does not nest.
 fn pass<'a, S: Statement>(
-    boundaries: &mut Vec<Boundary>,
+    index: &mut FirstIndex,
     opened: &mut Vec<(u128, (usize, &'a S))>,
     low: u128,
     statement: (usize, &'a S),
 ) -> Result<Option<u128>, Memory>
     ensures passed { IfOk result (λ next. IfSome next (λ first. (cs : _) → ArePassed
         (λ x y. S.order x.now y.now)
-        (λ x. S.range x.now) cs low boundaries.old.items opened.old.items
+        (λ x. S.range x.now) cs low index.old opened.old.items
         → ArePassed (λ x y. S.order x.now y.now) (λ x. S.range x.now) (cs
         ++ statement.entry ∷ []) first
-        boundaries.new.items opened.new.items)) }
+        index.new opened.new.items)) }
     ensures kept { IfOk result (λ next. IfSome next (λ _. S.kept statement.entry.1.now)) }
 {
     let range = statement.1.range();
@@ -61,28 +61,29 @@ fn pass<'a, S: Statement>(
     if first < low {
         return Ok(None);
     }
-    close(boundaries, opened, Some(first))?;
+    close(index, opened, Some(first))?;
     if !lies_within(range.last, opened.as_slice()) {
         return Ok(None);
     }
     let best = better(innermost(opened.as_slice()), statement);
-    put(boundaries, first, Some(best.0))?;
+    index.put(first, Some(best.0))?;
     opened.push((range.last, best))?;
     Ok(Some(first))
 }
 
 // Closes the open grounds that end before an address, or all.
+#[inline(always)]
 fn close<S: Statement>(
-    boundaries: &mut Vec<Boundary>,
+    index: &mut FirstIndex,
     opened: &mut Vec<(u128, (usize, &S))>,
     next: Option<u128>,
 ) -> Result<(), Memory>
     ensures { OnOk result (Closes (λ x y. S.order x.now y.now) (λ x. S.range x.now)
-        (unwrap_or next (2 ^ 128)) boundaries.old.items opened.old.items boundaries.new.items
+        (unwrap_or next (2 ^ 128)) index.old opened.old.items index.new
         opened.new.items) }
 {
     while let Some(last) = take_ended(opened, next) {
-        put_end(boundaries, last, innermost(opened.as_slice()))?;
+        put_end(index, last, innermost(opened.as_slice()))?;
     }
     Ok(())
 }
@@ -159,18 +160,14 @@ pub fn order<S: Statement>(x: &(usize, &S), y: &(usize, &S)) -> Ordering
 }
 
 // The boundary behind the end of a ground; behind the last address there is none.
-fn put_end<S>(
-    boundaries: &mut Vec<Boundary>,
-    last: u128,
-    outer: Option<(usize, &S)>,
-) -> Result<(), Memory>
+fn put_end<S>(index: &mut FirstIndex, last: u128, outer: Option<(usize, &S)>) -> Result<(), Memory>
     ensures put { OnOk result (last < 2 ^ 128 - 1
         → IsPut (last + 1) (option_map
-        (λ c. c.0) outer.entry) boundaries.old.items boundaries.new.items) }
-    ensures none { OnOk result (last ≡ 2 ^ 128 - 1 → boundaries.new.items ≡ boundaries.old.items) }
+        (λ c. c.0) outer.entry) index.old index.new) }
+    ensures none { OnOk result (last ≡ 2 ^ 128 - 1 → index.new ≡ index.old) }
 {
     if let Some(at) = last.checked_add(1) {
-        put(boundaries, at, index_of(outer))?;
+        index.put(at, index_of(outer))?;
     }
     Ok(())
 }
@@ -179,17 +176,4 @@ fn index_of<S>(outer: Option<(usize, &S)>) -> Option<usize>
     ensures { result ≡ option_map (λ c. c.0) outer.entry }
 {
     Some(outer?.0)
-}
-
-// Appends a boundary, in place of the last one where that stands at the same address.
-fn put(boundaries: &mut Vec<Boundary>, at: u128, first: Option<usize>) -> Result<(), Memory>
-    ensures { OnOk result (IsPut at first boundaries.old.items boundaries.new.items) }
-{
-    if let Some(last) = boundaries.pop() {
-        if last.at != at {
-            boundaries.push(last)?;
-        }
-    }
-    boundaries.push(Boundary { at, first })?;
-    Ok(())
 }

@@ -7,7 +7,9 @@ use Rattle.first_index.specs.declared.boundaries.Boundary.{Boundary}
 use Rattle.first_index.proofs.ColumnLemmas.{columns_of_last, passed_over, put_behind}
 use Rattle.first_index.proofs.index.in_columns.Goals as goal
 use Rattle.first_index.proofs.index.in_columns.Goals.{else-not-stands_at}
-use Rattle.first_index.proofs.index.in_columns.Goals.{then-not-stands_at+in_ok-put_column}
+use Rattle.first_index.proofs.index.in_columns.Goals.{
+  then-not-stands_at+in_ok-code+in_ok-put_column,
+}
 
 pub loop-index-preserved : goal.loop-index-preserved
 loop-index-preserved c =
@@ -19,18 +21,19 @@ loop-index-preserved c =
     let here : get_or xs i b ≡ b = sym (get_or_default xs i none b within) in
     let test = c.stands_at.ensures in
     elim c.if-not-stands_at.branch [
-      | then-not-stands_at+in_ok-put_column w ↦
+      | then-not-stands_at+in_ok-code+in_ok-put_column w ↦
           let e : begin_at (drop (i + 1) xs) b.at ≡ false = search rules in
-          let put = w.in_ok-put_column.ensures in
+          let put = w.in_ok-put_column.ensures.put in
+          let code : ℕ = w.in_ok-code.code in
           let ps : c.if-not-stands_at.points.items ≡ c.loop-index.points.items ++ b.at ∷ [] =
-          rw w.points-is put.point in
-          let cs : c.if-not-stands_at.codes.items
-          ≡ c.loop-index.codes.items ++ put.code.0 ∷ [] = rw w.codes-is put.code.1.1 in
+          rw w.points-is put.0 in
+          let cs : c.if-not-stands_at.codes.items ≡ c.loop-index.codes.items ++ code ∷ [] =
+          rw w.codes-is put.1 in
           rw (ps, cs) (record {
             same_length = grind (arith, common_steps);
             found =
                 put_behind xs i b within here c.loop-index.points.items c.loop-index.codes.items
-                put.code.0 e c.loop-index.invariant.same_length put.code.1.0
+                code e c.loop-index.invariant.same_length w.in_ok-code.ensures
                 c.loop-index.invariant.found;
           })
       | else-not-stands_at w ↦

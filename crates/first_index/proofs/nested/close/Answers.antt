@@ -12,7 +12,7 @@ loop-last-preserved g c cs low le h =
     let X = g.row.S.Denot in
     let order : Bor X → Bor X → Ordering = λ x y. g.S.Statement.order x.now y.now in
     let range : Bor X → Ends = λ x. g.S.Statement.range x.now in
-    let bs : List Boundary = c.loop-last.boundaries.items in
+    let bs : List Boundary = c.loop-last.index in
     let os : List (ℕ × (ℕ × Bor X)) = c.take_ended.new.opened.items in
     let last : ℕ = c.in-Some.last in
     let before = c.loop-last.invariant cs low le h in
@@ -24,9 +24,9 @@ loop-last-preserved g c cs low le h =
     c.innermost.ensures ∙ ap (top None) c.as_slice.ensures.value in (
       last + 1,
       omega (arith, took.0),
-      closed order range cs before.0 bs os last took.1 at c.put_end.new.boundaries.items
+      closed order range cs before.0 bs os last took.1 at c.put_end.new.index
           (λ below. subst (λ (o : Option (ℕ × Bor X)). IsPut (last + 1)
-          (option_map (λ (x : ℕ × Bor X). x.0) o) bs c.put_end.new.boundaries.items) inner
+          (option_map (λ (x : ℕ × Bor X). x.0) o) bs c.put_end.new.index) inner
           (c.in_ok-put_end.ensures.put below))
           c.in_ok-put_end.ensures.none,
     )
@@ -36,7 +36,7 @@ returns g c cs low le within h =
     let X = g.row.S.Denot in
     let order : Bor X → Bor X → Ordering = λ x y. g.S.Statement.order x.now y.now in
     let range : Bor X → Ends = λ x. g.S.Statement.range x.now in
-    let bs : List Boundary = c.loop-last.boundaries.items in
+    let bs : List Boundary = c.loop-last.index in
     let os : List (ℕ × (ℕ × Bor X)) = c.loop-last.opened.items in
     let to : ℕ = unwrap_or c.args.next (2 ^ 128) in
     let before = c.loop-last.invariant cs low le h in

@@ -8,10 +8,10 @@ abbrev pub invariant-loop-last : goal.invariant-loop-last
 invariant-loop-last g l =
     (cs : List (ℕ × Bor g.row.S.Denot)) (low : ℕ) → low ≤ unwrap_or l.fn.next (2 ^ 128)
     → ArePassed (λ x y. g.S.Statement.order x.now y.now) (λ x. g.S.Statement.range x.now) cs low
-    l.fn.boundaries.items l.fn.opened.items
+    l.fn.index l.fn.opened.items
     → (n : ℕ) × (n ≤ unwrap_or l.fn.next (2 ^ 128))
     × ArePassed (λ x y. g.S.Statement.order x.now y.now) (λ x. g.S.Statement.range x.now) cs n
-    l.boundaries.items l.opened.items
+    l.index l.opened.items
 
 abbrev pub decreases-loop-last : goal.decreases-loop-last
 decreases-loop-last g l = length l.opened.items

@@ -26,7 +26,7 @@ loop-statement-preserved g c =
     record {
       passed =
           subst (λ (cs : List (ℕ × Bor X)). ArePassed order range cs c.in-Some.first
-          c.pass.new.boundaries.items c.pass.new.opened.items) (sym more)
+          c.pass.new.index c.pass.new.opened.items) (sym more)
           (step (take i xs) c.loop-statement.invariant.passed);
       kept =
           All-more (λ (y : ℕ × Bor X). g.S.Statement.kept y.1.now) xs i x within
@@ -44,9 +44,9 @@ returns-clause-found g c =
     let passed = c.loop-statement.invariant.passed in
     let done = c.in_ok-close.ensures (take i xs) c.loop-statement.low passed.bound (omega arith)
     passed in
-    subst (λ (cs : List (ℕ × Bor X)). AreBoundariesOf order range cs c.close.new.boundaries.items)
+    subst (λ (cs : List (ℕ × Bor X)). AreBoundariesOf order range cs c.close.new.index)
     (take_all i xs c.loop-statement-test.false)
-    (all_passed order range (take i xs) c.loop-statement.low c.close.new.boundaries.items
+    (all_passed order range (take i xs) c.loop-statement.low c.close.new.index
     c.close.new.opened.items done.0 done.1)
 
 -- before the first statement
@@ -70,8 +70,8 @@ loop-statement-init g c =
     record {
       passed =
           none_passed (λ (x y : Bor X). g.S.Statement.order x.now y.now)
-          (λ (x : Bor X). g.S.Statement.range x.now) c.in_ok-boundaries.boundaries.items
-          c.new-opened.result.items c.in_ok-boundaries.ensures.items c.new-opened.ensures.items;
+          (λ (x : Bor X). g.S.Statement.range x.now) c.in_ok-index.index
+          c.new-opened.result.items c.in_ok-index.ensures c.new-opened.ensures.items;
       kept = λ k d lt. absurd (omega arith);
     }
 

@@ -7,6 +7,6 @@ use Rattle.first_index.proofs.nested.nested_of.Given as goal
 abbrev pub invariant-loop-statement : goal.invariant-loop-statement
 invariant-loop-statement g l = record {
   passed : ArePassed (λ x y. g.S.Statement.order x.now y.now) (λ x. g.S.Statement.range x.now)
-      (take l.statement-index l.indexed) l.low l.boundaries.items l.opened.items;
+      (take l.statement-index l.indexed) l.low l.index l.opened.items;
   kept : All (λ x. g.S.Statement.kept x.1.now) (take l.statement-index l.indexed);
 }

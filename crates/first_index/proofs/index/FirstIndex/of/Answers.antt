@@ -18,15 +18,6 @@ use Rattle.first_index.proofs.ColumnLemmas.{stands_last, tells_last}
 use Rattle.first_index.proofs.StandLemmas.{cuts_seen, tells_seen}
 use Rattle.first_index.proofs.index.FirstIndex.of.Goals as goal
 
-pub in_columns-requires : goal.in_columns-requires
-in_columns-requires g c =
-    let X = g.row.S.Denot in
-    let found : AreBoundariesOf (λ (x y : Bor X). g.S.Statement.order x.now y.now)
-    (λ x. g.S.Statement.range x.now) c.nested_in_some_order.new.indexed.items
-    c.in-Some.boundaries.items = rw c.in-Some.is at c.in_ok-boundaries.ensures.found in
-    subst (λ (bs : List Boundary). IsNonDecreasingBy (λ (b : Boundary). b.at) bs)
-    (sym c.as_slice.ensures.value) found.ordered
-
 pub returns-in-Some-clause-told : goal.returns-in-Some-clause-told
 returns-in-Some-clause-told g c =
     let X = g.row.S.Denot in
@@ -34,17 +25,13 @@ returns-in-Some-clause-told g c =
     let ys : List (ℕ × Bor X) = c.nested_in_some_order.new.indexed.items in
     let xs : List X = map (λ (s : Bor X). s.now) c.args.statements.now in
     let found : AreBoundariesOf (λ (x y : Bor X). g.S.Statement.order x.now y.now)
-    (λ x. g.S.Statement.range x.now) ys c.in-Some.boundaries.items =
-    rw c.in-Some.is at c.in_ok-boundaries.ensures.found in
-    let is : c.in_ok-index.index ≡ last_ones c.in-Some.boundaries.items =
-    c.in_ok-index.ensures ∙ ap last_ones c.as_slice.ensures.value in
-    subst (TellsFirst g.S.Statement.order g.S.Statement.range xs) (sym is)
-    (tells_last g.S.Statement.order g.S.Statement.range xs c.in-Some.boundaries.items
-    (tells_seen (λ (x : Bor X). x.now) g.S.Statement.order g.S.Statement.range xs ys
-    c.in-Some.boundaries.items
+    (λ x. g.S.Statement.range x.now) ys c.in-Some.index =
+    rw c.in-Some.is at c.in_ok-index.ensures.found in
+    tells_seen (λ (x : Bor X). x.now) g.S.Statement.order g.S.Statement.range xs ys
+    c.in-Some.index
     (subst (λ (zs : List (ℕ × X)). IsPermutation zs (map seen ys)) c.in_ok-ranked.ensures
     (IsPermutation-map seen c.in_ok-ranked.ranked.items ys c.nested_in_some_order.ensures.moved))
-    g.met.S.Statement.total found))
+    g.met.S.Statement.total found
 
 pub returns-in-Some-clause-cuts : goal.returns-in-Some-clause-cuts
 returns-in-Some-clause-cuts g c =
@@ -53,16 +40,13 @@ returns-in-Some-clause-cuts g c =
     let ys : List (ℕ × Bor X) = c.nested_in_some_order.new.indexed.items in
     let xs : List X = map (λ (s : Bor X). s.now) c.args.statements.now in
     let found : AreBoundariesOf (λ (x y : Bor X). g.S.Statement.order x.now y.now)
-    (λ x. g.S.Statement.range x.now) ys c.in-Some.boundaries.items =
-    rw c.in-Some.is at c.in_ok-boundaries.ensures.found in
-    let is : c.in_ok-index.index ≡ last_ones c.in-Some.boundaries.items =
-    c.in_ok-index.ensures ∙ ap last_ones c.as_slice.ensures.value in
-    subst (StandAtCuts g.S.Statement.range xs) (sym is)
-    (cuts_seen (λ (x : Bor X). x.now) g.S.Statement.order g.S.Statement.range xs ys
-    (last_ones c.in-Some.boundaries.items)
+    (λ x. g.S.Statement.range x.now) ys c.in-Some.index =
+    rw c.in-Some.is at c.in_ok-index.ensures.found in
+    cuts_seen (λ (x : Bor X). x.now) g.S.Statement.order g.S.Statement.range xs ys
+    c.in-Some.index
     (subst (λ (zs : List (ℕ × X)). IsPermutation zs (map seen ys)) c.in_ok-ranked.ensures
     (IsPermutation-map seen c.in_ok-ranked.ranked.items ys c.nested_in_some_order.ensures.moved))
-    (λ k. stands_last c.in-Some.boundaries.items k ∙ found.stand k))
+    found.stand
 
 pub returns-in-Some-clause-kept : goal.returns-in-Some-clause-kept
 returns-in-Some-clause-kept g c =
@@ -71,7 +55,7 @@ returns-in-Some-clause-kept g c =
     let ys : List (ℕ × Bor X) = c.nested_in_some_order.new.indexed.items in
     let xs : List X = map (λ (s : Bor X). s.now) c.args.statements.now in
     let kept : All (λ (y : ℕ × Bor X). g.S.Statement.kept y.1.now) ys =
-    rw c.in-Some.is at c.in_ok-boundaries.ensures.kept in
+    rw c.in-Some.is at c.in_ok-index.ensures.kept in
     all_kept g.S.Statement.order g.met.S.Statement.total g.S.Statement.range xs (map seen ys)
     (subst (λ (zs : List (ℕ × X)). IsPermutation zs (map seen ys)) c.in_ok-ranked.ensures
     (IsPermutation-map seen c.in_ok-ranked.ranked.items ys c.nested_in_some_order.ensures.moved))
@@ -79,14 +63,14 @@ returns-in-Some-clause-kept g c =
     (each_seen seen (λ x. g.S.Statement.kept x.1) ys
     (recursion_from_All (λ (y : ℕ × Bor X). g.S.Statement.kept y.1.now) ys kept))
 
-pub in_columns-requires-2 : goal.in_columns-requires-2
-in_columns-requires-2 g c =
-    let out : c.as_slice-6.result.now
-    ≡ map (with_index c.as_slice-5.result.now) c.in_ok-boundaries-2.boundaries.items =
-    c.as_slice-6.ensures.value ∙ c.put_indexes.ensures in
+pub in_columns-requires : goal.in_columns-requires
+in_columns-requires g c =
+    let out : c.as_slice-5.result.now
+    ≡ map (with_index c.as_slice-4.result.now) c.in_ok-boundaries.boundaries.items =
+    c.as_slice-5.ensures.value ∙ c.put_indexes.ensures in
     subst (λ (bs : List Boundary). IsNonDecreasingBy (λ (b : Boundary). b.at) bs) (sym out)
-    (ordered_indexes c.as_slice-5.result.now c.in_ok-boundaries-2.boundaries.items
-    c.in_ok-boundaries-2.ensures.tell.ordered)
+    (ordered_indexes c.as_slice-4.result.now c.in_ok-boundaries.boundaries.items
+    c.in_ok-boundaries.ensures.tell.ordered)
 
 pub returns-clause-told : goal.returns-clause-told
 returns-clause-told g c =
@@ -108,29 +92,29 @@ returns-clause-told g c =
     (IsPermutation-trans c.in_ok-ranked.ranked.items c.nested_in_some_order.new.indexed.items ys
     c.nested_in_some_order.ensures.moved c.sort_unstable_by.ensures.permutation)) in
     let range : ℕ × X → Ends = λ x. g.S.Statement.range x.1 in
-    let ranges : c.as_slice-3.result.now ≡ map range (map seen ys) =
-    c.as_slice-3.ensures.value ∙ c.in_ok-ranges.ensures.ranges
-    ∙ ap (map (λ (y : ℕ × Bor X). range (seen y))) c.as_slice-2.ensures.value
+    let ranges : c.as_slice-2.result.now ≡ map range (map seen ys) =
+    c.as_slice-2.ensures.value ∙ c.in_ok-ranges.ensures.ranges
+    ∙ ap (map (λ (y : ℕ × Bor X). range (seen y))) c.as_slice.ensures.value
     ∙ sym (map_map seen range ys) in
     let index : ℕ × X → ℕ = λ x. x.0 in
-    let indexes : c.as_slice-5.result.now ≡ map index (map seen ys) =
-    c.as_slice-5.ensures.value ∙ c.in_ok-indexes.ensures
-    ∙ ap (map (λ (y : ℕ × Bor X). index (seen y))) c.as_slice-4.ensures.value
+    let indexes : c.as_slice-4.result.now ≡ map index (map seen ys) =
+    c.as_slice-4.ensures.value ∙ c.in_ok-indexes.ensures
+    ∙ ap (map (λ (y : ℕ × Bor X). index (seen y))) c.as_slice-3.ensures.value
     ∙ sym (map_map seen index ys) in
     let out : c.put_indexes.new.boundaries.items
-    ≡ map (with_index (map index (map seen ys))) c.in_ok-boundaries-2.boundaries.items =
+    ≡ map (with_index (map index (map seen ys))) c.in_ok-boundaries.boundaries.items =
     c.put_indexes.ensures ∙ ap (λ (ps : List ℕ).
-    map (with_index ps) c.in_ok-boundaries-2.boundaries.items) indexes in
+    map (with_index ps) c.in_ok-boundaries.boundaries.items) indexes in
     let is : c.in_ok-index-2.index ≡ last_ones c.put_indexes.new.boundaries.items =
-    c.in_ok-index-2.ensures ∙ ap last_ones c.as_slice-6.ensures.value in
+    c.in_ok-index-2.ensures ∙ ap last_ones c.as_slice-5.ensures.value in
     subst (TellsFirst g.S.Statement.order g.S.Statement.range xs)
     (sym (is ∙ ap last_ones out))
     (tells_last g.S.Statement.order g.S.Statement.range xs _
     (tells_first g.S.Statement.order g.met.S.Statement.total g.S.Statement.range xs (map seen ys)
-    same c.in_ok-boundaries-2.boundaries.items
+    same c.in_ok-boundaries.boundaries.items
     (sorted_seen seen (λ x y. is_lt (index_cmp g.S.Statement.order x y)) ys sorted)
-    (subst (λ (rs : List Ends). AreBoundaries rs c.in_ok-boundaries-2.boundaries.items) ranges
-    c.in_ok-boundaries-2.ensures.tell)))
+    (subst (λ (rs : List Ends). AreBoundaries rs c.in_ok-boundaries.boundaries.items) ranges
+    c.in_ok-boundaries.ensures.tell)))
 
 pub returns-clause-cuts : goal.returns-clause-cuts
 returns-clause-cuts g c =
@@ -144,18 +128,18 @@ returns-clause-cuts g c =
     (IsPermutation-map seen c.in_ok-ranked.ranked.items ys
     (IsPermutation-trans c.in_ok-ranked.ranked.items c.nested_in_some_order.new.indexed.items ys
     c.nested_in_some_order.ensures.moved c.sort_unstable_by.ensures.permutation)) in
-    let ranges : c.as_slice-3.result.now ≡ map range ys =
-    c.as_slice-3.ensures.value ∙ c.in_ok-ranges.ensures.ranges
-    ∙ ap (map range) c.as_slice-2.ensures.value in
+    let ranges : c.as_slice-2.result.now ≡ map range ys =
+    c.as_slice-2.ensures.value ∙ c.in_ok-ranges.ensures.ranges
+    ∙ ap (map range) c.as_slice.ensures.value in
     let is : c.in_ok-index-2.index ≡ last_ones c.put_indexes.new.boundaries.items =
-    c.in_ok-index-2.ensures ∙ ap last_ones c.as_slice-6.ensures.value in
+    c.in_ok-index-2.ensures ∙ ap last_ones c.as_slice-5.ensures.value in
     subst (StandAtCuts g.S.Statement.range xs) (sym is)
     (cuts_seen (λ (x : Bor X). x.now) g.S.Statement.order g.S.Statement.range xs ys
     (last_ones c.put_indexes.new.boundaries.items) same
     (λ k. stands_last c.put_indexes.new.boundaries.items k
     ∙ ap (λ (bs : List Boundary). stands_at bs k) c.put_indexes.ensures
-    ∙ stands_indexes c.as_slice-5.result.now c.in_ok-boundaries-2.boundaries.items k
-    ∙ c.in_ok-boundaries-2.ensures.stand k
+    ∙ stands_indexes c.as_slice-4.result.now c.in_ok-boundaries.boundaries.items k
+    ∙ c.in_ok-boundaries.ensures.stand k
     ∙ ap (λ (rs : List Ends). is_edge rs k && ltb k (2 ^ 128)) ranges))
 
 pub returns-clause-kept : goal.returns-clause-kept
@@ -171,7 +155,7 @@ returns-clause-kept g c =
     c.nested_in_some_order.ensures.moved c.sort_unstable_by.ensures.permutation)) in
     let all : All (λ (y : ℕ × Bor X). g.S.Statement.kept y.1.now) ys =
     subst (λ (zs : List (ℕ × Bor X)). All (λ y. g.S.Statement.kept y.1.now) zs)
-    c.as_slice-2.ensures.value c.in_ok-ranges.ensures.kept in
+    c.as_slice.ensures.value c.in_ok-ranges.ensures.kept in
     all_kept g.S.Statement.order g.met.S.Statement.total g.S.Statement.range xs (map seen ys) same
     g.S.Statement.kept
     (each_seen seen (λ x. g.S.Statement.kept x.1) ys
