@@ -67,10 +67,10 @@ LONGEST_STATS 268435456 nro_stats/src/read.rt
 MOST 2097152 nro_stats/src/read.rt
 LONGEST_FEED 67108864 feed_csv/src/read.rt
 MOST 2097152 feed_csv/src/read.rt
-LONG_PART 4194304 feed_csv/src/parts.rt
 LONGEST_OVERRIDES 67108864 override_rows/src/read.rt
 MOST 2097152 override_rows/src/read.rt
 LEAST_PART 262144 line_parts/src/part.rt
+LONG_PART 4194304 line_parts/src/rounds.rt
 MOST_FIELDS 8 csv_lines/src/bare.rt
 MOST_TAILS 16384 csv_lines/src/tails.rt
 LONGEST 1024 geo_terms/src/places/fields.rt

@@ -10,17 +10,13 @@ use fan_work::{Forks, Work, map_pieces};
 use geo_addr::Memory;
 use geo_outside::Gate;
 use geo_terms::{Feed, SourceFault};
-use line_parts::{LEAST_PART, LinePart, first_parts, part_size, parts_of};
+use line_parts::{LEAST_PART, LONG_PART, LinePart, first_parts, part_size, parts_of};
 use std::alloc::Global;
 use std::marker::Sync;
 use std::thread::Threads;
 
 /// The least bytes of a part before others: a feed of at most so many is one part.
 pub const FEED_PART: usize = LEAST_PART;
-
-/// The least bytes of a part where each piece has several. The C library gives back the room for
-/// the entries and the faults of so long a part when they have been put to the others.
-const LONG_PART: usize = 4_194_304;
 
 /// For each so many bytes of a part room for one entry is taken ahead; hardly a line is shorter.
 const LEAST_LINE: usize = 8;
@@ -95,7 +91,7 @@ fn read_parts<R: Threads + Sync, G: Gate>(
     ensures entries { IfOk result (λ all. all.entries.items ≡ accepted bytes.items) }
     ensures faults { IfOk result (λ all. all.faults.items ≡ refused bytes.items) }
 {
-    let size = part_size(bytes.len(), forks.pieces as usize, LONG_PART);
+    let size = part_size(bytes.len(), forks.pieces as usize);
     let parts = parts_of(forks.alloc, bytes.as_slice(), size)?;
     let (entries, faults) = (most_entries(bytes.len()), most_faults(bytes.len()));
     let mut all = gathered_with_room(forks.alloc, entries, faults)?;

@@ -63,8 +63,8 @@ impl FirstIndex {
     }
 
     // Puts a boundary behind those that there are, in place of the last one where that stands at
-    // the same address. For one more caller, or one more of `pass`, the hint would be dropped, and a
-    // statement would take twice the instructions.
+    // the same address. With one more caller it was no longer inlined, nor with one more of `pass`,
+    // and a statement took twice the instructions.
     #[inline(always)]
     pub(crate) fn put(&mut self, at: u128, first: Option<usize>) -> Result<(), Memory>
         ensures { OnOk result (IsPut at first self.old self.new) }

@@ -9,4 +9,4 @@ mod rounds;
 pub use cut::parts_of;
 pub use lines::PartLines;
 pub use part::{LEAST_PART, LinePart};
-pub use rounds::{first_parts, part_size};
+pub use rounds::{LONG_PART, first_parts, part_size};

@@ -4,15 +4,18 @@ ghost use Rattle.line_parts.specs.declared.part.TheConstants.{LEAST_PART};
 
 use crate::part::{LEAST_PART, LinePart};
 
+/// The least bytes of a part where each piece has several. The C library gives back the room for
+/// what so long a part says when that has been put to the rest.
+pub const LONG_PART: usize = 4_194_304;
+
 /// After how many bytes a part of a file of `size` bytes ends, so that each piece has as many parts
-/// as the others, of `long` bytes or more where it has several.
-pub fn part_size(size: usize, pieces: usize, long: usize) -> usize
-    requires pieces { 0 < pieces }
-    requires long { 0 < long }
+/// as the others, of `LONG_PART` bytes or more where it has several.
+pub fn part_size(size: usize, pieces: usize) -> usize
+    requires { 0 < pieces }
     ensures { LEAST_PART ≤ result }
 {
     let share = size / pieces;
-    let rounds = (share / long).max(1);
+    let rounds = (share / LONG_PART).max(1);
     (share / rounds).max(LEAST_PART)
 }
 

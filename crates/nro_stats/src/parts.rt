@@ -16,10 +16,6 @@ use std::alloc::Global;
 use std::marker::Sync;
 use std::thread::Threads;
 
-/// The least bytes of a part where each piece has several. The C library gives back the room for
-/// the rows of so long a part when they have been put to the others.
-const LONG_PART: usize = 4_194_304;
-
 /// For each so many bytes of a part room for one row is taken ahead; no line of one is shorter.
 const LEAST_LINE: usize = 8;
 
@@ -49,9 +45,9 @@ impl<'a, 'b> Work<LinePart<'b>, Gathered> for PartReading<'a> {
 
 /// Reads a statistics file as `read_stats` does, by parts of it side by side.
 ///
-/// A file of at most `LEAST_PART` bytes is read on the calling thread, as each is where there is one
-/// piece. A long file has more parts than there are pieces, so that what is found in a part is soon
-/// put to the rest. Whether it has too many delegations is asked once all are read.
+/// A file of at most `LEAST_PART` bytes is read on the calling thread, and so is each where there is
+/// one piece. A long file has more parts than there are pieces, so that what is found in a part is
+/// soon put to the rest. Whether it has too many delegations is asked once all are read.
 pub fn read_stats_by_parts<R: Threads + Sync, G: Gate>(
     forks: &Forks<R, G>,
     slot: &str,
@@ -89,7 +85,7 @@ fn found_by_parts<R: Threads + Sync, G: Gate>(
     ensures rows { IfOk result (λ all. all.rows.items ≡ rows slot.now bytes.now) }
     ensures notes { IfOk result (λ all. all.notes.items ≡ notes bytes.now) }
 {
-    let size = part_size(bytes.len(), forks.pieces as usize, LONG_PART);
+    let size = part_size(bytes.len(), forks.pieces as usize);
     let parts = parts_of(forks.alloc, bytes, size)?;
     let mut all = gathered_with_room(forks.alloc, usual_rows(bytes.len()))?;
     read_left(forks, slot, parts.as_slice(), &mut all)?;

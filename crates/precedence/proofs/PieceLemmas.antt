@@ -81,7 +81,8 @@ pieces_steady s chunk points out range exact tiles uncut k d below a within =
         let in_chunk = bounds chunk.first (chunk.last + 1) out k tiles below in
         let high : a ≤ (get_or out k d).last = within.1 in
         let has : Contains points c =
-        (exact c).1 (cut, (omega (arith, in_chunk.0, above), omega (arith, in_chunk.1, upto, high))) in
+        (exact c).1
+        (cut, (omega (arith, in_chunk.0, above), omega (arith, in_chunk.1, upto, high))) in
         let past = uncut c has k d below above in omega (arith, past, high, upto)
 
 -- a piece has each address of the chunk

@@ -31,8 +31,8 @@ pub record AreChunks (s : InForce) (touched chunks : List Ends) : Type 0 where
   pub begun : All (λ r. (r.first ≡ 0) ⊎ IsMark s touched r.first) chunks
 
 -- ascending ranges that have the touched addresses of a chunk, but those that are spared, and no
--- others; of all of each the same is said; and each begins where a ground does in the chunk, or at a
--- cut point of the sources
+-- others; of all of each the same is said; and each begins where a ground does in the chunk, or at
+-- a cut point of the sources
 pub record AreSegmentsIn (s : InForce) (touched : List Ends) (spared : ℕ → Type 0) (chunk : Ends)
     (out : List Ends) : Type 0 where
   pub ranges : All IsRange out

@@ -133,7 +133,8 @@ silent_in_both s mapped six of_mapped of_six none_mapped none_six a is =
     by true y six_is mapped_is =
         none_six a (subst (λ (r : Ends). IsWithin r a) (sym of_six) (six_within a six_is))
     by false true six_is mapped_is =
-        none_mapped a (subst (λ (r : Ends). IsWithin r a) (sym of_mapped) (mapped_within a mapped_is))
+        none_mapped a
+        (subst (λ (r : Ends). IsWithin r a) (sym of_mapped) (mapped_within a mapped_is))
     by false false six_is mapped_is =
         absurd (let e : true ≡ false = sym is ∙ own_is_none a six_is mapped_is in cc)
 

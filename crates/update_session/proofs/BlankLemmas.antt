@@ -1,7 +1,7 @@
--- What is chosen where nothing was said before: of the pieces of a chunk those of which something is
--- said are its segments, and what is left out is spared.
-use Rattle.std.proofs.Common.{◌≡◌, ◌∙◌, ℕ, zero, suc, ◌+◌, ◌^◌, ◌<◌, ◌≤◌, ◌⊎◌, ◌&&◌, ◌||◌, Bool, true}
-use Rattle.std.proofs.Common.{false, cond, leb, max, List, [], ◌∷◌, Contains, get_or, length, map}
+-- What is chosen where nothing was said before: of the pieces of a chunk those of which something
+-- is said are its segments, and what is left out is spared.
+use Rattle.std.proofs.Common.{◌≡◌, ◌∙◌, ℕ, zero, suc, ◌+◌, ◌^◌, ◌<◌, ◌≤◌, ◌⊎◌, ◌&&◌, ◌||◌, Bool}
+use Rattle.std.proofs.Common.{true, false, cond, leb, max, List, [], ◌∷◌, Contains, get_or, length, map}
 use Rattle.std.proofs.Common.{Option, Some, None, ap, arith, inl, inr, refl, subst, sym}
 use Rattle.std.specs.List.{All, AllAdjacentBelow, AllByRecursion, AllZip, Any, filter}
 use Rattle.std.specs.Prelude.{IsTrue, is_some}
@@ -200,9 +200,11 @@ segments_of_pieces s touched chunk pieces space all are = record {
         All-filter wanted (λ (r : Ends). (r.first ≡ chunk.first)
         ⊎ IsCut (statement_ranges s) r.first) pieces are.begun
 
-    inside : (a : ℕ) → Any (λ r. IsWithin r a) out → IsTrue (is_touched touched a) × IsWithin chunk a
+    inside : (a : ℕ) → Any (λ r. IsWithin r a) out
+        → IsTrue (is_touched touched a) × IsWithin chunk a
     inside a (k, r, below, is, within) =
-        let here : IsWithin (get_or out k r) a = subst (λ (x : Ends). IsWithin x a) (sym is) within in
+        let here : IsWithin (get_or out k r) a =
+        subst (λ (x : Ends). IsWithin x a) (sym is) within in
         let lies = in_chunk k r below in
         let low : (get_or out k r).first ≤ a = here.0 in
         let high : a ≤ (get_or out k r).last = here.1 in (
@@ -268,8 +270,8 @@ empty_leaf : (t : Tree ℕ) (bits : List Bool) → t ≡ leaf 0 → look t bits 
 empty_leaf t bits is = ap (λ (u : Tree ℕ). look u bits) is
 
 -- an address of which nothing is said has its answer
-pub answers_none : (s : InForce) (pairs : List Pair) (places : List PlaceParts) (root : Root) (a : ℕ)
-    → tree_of pairs root ≡ leaf 0 → spoken_at s a ≡ None
+pub answers_none : (s : InForce) (pairs : List Pair) (places : List PlaceParts) (root : Root)
+    (a : ℕ) → tree_of pairs root ≡ leaf 0 → spoken_at s a ≡ None
     → Answers pairs places root (spoken_at s a) a
 answers_none s pairs places root a empty none = record {
   leaf = 0;

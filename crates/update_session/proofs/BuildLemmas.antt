@@ -1,6 +1,6 @@
 -- What a root answers while chunks of segments are painted on it, and after all were.
-use Rattle.std.proofs.Common.{◌≡◌, ℕ, zero, suc, ◌+◌, ◌*◌, ◌^◌, ◌<◌, ◌≤◌, ◌⊎◌, Bool, true, false, cond}
-use Rattle.std.proofs.Common.{◌&&◌, leb, eqb, List, [], ◌∷◌, ◌++◌, length, map, get_or}
+use Rattle.std.proofs.Common.{◌≡◌, ℕ, zero, suc, ◌+◌, ◌*◌, ◌^◌, ◌<◌, ◌≤◌, ◌⊎◌, Bool, true, false}
+use Rattle.std.proofs.Common.{cond, ◌&&◌, leb, eqb, List, [], ◌∷◌, ◌++◌, length, map, get_or}
 use Rattle.std.proofs.Common.{Option, Some, None, inl, inr, refl, sym, ap, ◌∙◌, subst, arith}
 use Rattle.std.proofs.Common.{length-append, append_assoc, append-nil, MatchOption}
 use Rattle.std.specs.Prelude.{IsTrue, slice_get, flat_map}
@@ -197,8 +197,8 @@ pub painted_more : (s : InForce) (touched : List Ends) (blank : Bool) (chunk : E
     → StandFor more (map (λ p. p.leaf) made) (said_in one)
     → ((a : ℕ) → a < 2 ^ 128 → leaf_at new painted a ≡ over (leaf_in parts a) (leaf_at mid root a))
     → IsPaintedSoFar s (flat_map segments_of (before ++ one ∷ [])) old first new more painted
-painted_more s touched blank chunk before one made parts old mid new places more n first root painted
-    so_far chosen grown same made_ranges made_stand lookups =
+painted_more s touched blank chunk before one made parts old mid new places more n first root
+    painted so_far chosen grown same made_ranges made_stand lookups =
     subst (λ (rs : List Ends). IsPaintedSoFar s rs old first new more painted) (sym longer)
     (record {
       within = λ a below any. inside a below any (leaf_in parts a) refl (tells a);

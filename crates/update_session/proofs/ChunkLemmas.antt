@@ -367,8 +367,8 @@ next_in ready s touched blank chosen before now after given one same_sources are
     let i = length before in
     let same : before ≡ take i chosen =
     sym (map-id before) ∙ YieldsList-so_far yields before now so_far in
-    let this = subst (λ (c : Chosen). (chunk : Ends) × IsChosenIn s touched blank chunk c) (sym turn.1)
-    (are.each i one turn.0) in
+    let this = subst (λ (c : Chosen). (chunk : Ends) × IsChosenIn s touched blank chunk c)
+    (sym turn.1) (are.each i one turn.0) in
     record {
       chunk = this.0;
       is = this.1;

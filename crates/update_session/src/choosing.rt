@@ -3,7 +3,8 @@ ghost use Rattle.std.specs.Prelude.{◌≡◌, ◌++◌, ◌∷◌, ◌||◌, []
 ghost use Rattle.std.specs.Prelude.{List, OnOk, Option};
 ghost use Rattle.std.specs.Option.{option_copied};
 ghost use Rattle.geo_terms.specs.PlaceForm.{PlaceParts};
-ghost use Rattle.update_session.specs.Build.{AreChosen, IsAllTouched, IsChosen, StandFor, is_wanted};
+ghost use Rattle.update_session.specs.Build.{AreChosen, IsAllTouched, IsChosen, StandFor};
+ghost use Rattle.update_session.specs.Build.{is_wanted};
 ghost use Rattle.update_session.specs.Kept.{GrowsBy};
 
 use crate::numbering::leaf_of;

@@ -3,7 +3,7 @@ use Rattle.std.specs.List.{All}
 use Rattle.precedence.specs.Chunks.{Tiles}
 use Rattle.precedence.proofs.chunks.pieces_at.Given as goal
 
--- the pieces so far reach up to where the next one begins, behind which the points lie that are left
+-- the pieces so far reach up to where the next one begins; no point that is left lies before that
 abbrev pub invariant-loop-point : goal.invariant-loop-point
 invariant-loop-point l = record {
   tiles : Tiles l.fn.chunk.first l.pieces.items l.first;

@@ -42,8 +42,8 @@ parts_of-requires g c =
     let yields = YieldsList-from_vec {s = c.into_iter-one-iterator.result}
     c.in_ok-chosen.chosen.items (search rules) (search rules) in
     let next = next_in c.make_ready.new.self c.args.sources.now c.args.touched.now
-    c.in_ok-blank.blank c.in_ok-chosen.chosen.items c.loop-one.yielded c.loop-one.one-iterator c.next.new.self
-    c.next.result c.in-Some.one c.make_ready.ensures c.in_ok-chosen.ensures yields
+    c.in_ok-blank.blank c.in_ok-chosen.chosen.items c.loop-one.yielded c.loop-one.one-iterator
+    c.next.new.self c.next.result c.in-Some.one c.make_ready.ensures c.in_ok-chosen.ensures yields
     c.loop-one.yielded_by c.in-Some.is c.next.ensures.steps in
     IsKnown-from_chosen c.args.sources.now c.in-Some.one next.is.chosen
 
@@ -52,8 +52,8 @@ paint-requires-clause-ascending g c =
     let yields = YieldsList-from_vec {s = c.into_iter-one-iterator.result}
     c.in_ok-chosen.chosen.items (search rules) (search rules) in
     let next = next_in c.make_ready.new.self c.args.sources.now c.args.touched.now
-    c.in_ok-blank.blank c.in_ok-chosen.chosen.items c.loop-one.yielded c.loop-one.one-iterator c.next.new.self
-    c.next.result c.in-Some.one c.make_ready.ensures c.in_ok-chosen.ensures yields
+    c.in_ok-blank.blank c.in_ok-chosen.chosen.items c.loop-one.yielded c.loop-one.one-iterator
+    c.next.new.self c.next.result c.in-Some.one c.make_ready.ensures c.in_ok-chosen.ensures yields
     c.loop-one.yielded_by c.in-Some.is c.next.ensures.steps in
     IsAscending-from_segments c.in-Some.one.segments.items c.as_slice.result.now
     next.is.cut.ranges next.is.cut.apart
@@ -64,8 +64,8 @@ loop-one-preserved g c =
     let yields = YieldsList-from_vec {s = c.into_iter-one-iterator.result}
     c.in_ok-chosen.chosen.items (search rules) (search rules) in
     let next = next_in c.make_ready.new.self c.args.sources.now c.args.touched.now
-    c.in_ok-blank.blank c.in_ok-chosen.chosen.items c.loop-one.yielded c.loop-one.one-iterator c.next.new.self
-    c.next.result c.in-Some.one c.make_ready.ensures c.in_ok-chosen.ensures yields
+    c.in_ok-blank.blank c.in_ok-chosen.chosen.items c.loop-one.yielded c.loop-one.one-iterator
+    c.next.new.self c.next.result c.in-Some.one c.make_ready.ensures c.in_ok-chosen.ensures yields
     c.loop-one.yielded_by c.in-Some.is c.next.ensures.steps in
     let one = c.in-Some.one in
     let before = c.loop-one.yielded in
@@ -103,8 +103,8 @@ returns-in_err-parts-clause-few_ticks g c =
     let yields = YieldsList-from_vec {s = c.into_iter-one-iterator.result}
     c.in_ok-chosen.chosen.items (search rules) (search rules) in
     let next = next_in c.make_ready.new.self c.args.sources.now c.args.touched.now
-    c.in_ok-blank.blank c.in_ok-chosen.chosen.items c.loop-one.yielded c.loop-one.one-iterator c.next.new.self
-    c.next.result c.in-Some.one c.make_ready.ensures c.in_ok-chosen.ensures yields
+    c.in_ok-blank.blank c.in_ok-chosen.chosen.items c.loop-one.yielded c.loop-one.one-iterator
+    c.next.new.self c.next.result c.in-Some.one c.make_ready.ensures c.in_ok-chosen.ensures yields
     c.loop-one.yielded_by c.in-Some.is c.next.ensures.steps in
     omega (
       arith,
@@ -119,8 +119,8 @@ returns-in_err-parts-clause-places g c =
     let yields = YieldsList-from_vec {s = c.into_iter-one-iterator.result}
     c.in_ok-chosen.chosen.items (search rules) (search rules) in
     let next = next_in c.make_ready.new.self c.args.sources.now c.args.touched.now
-    c.in_ok-blank.blank c.in_ok-chosen.chosen.items c.loop-one.yielded c.loop-one.one-iterator c.next.new.self
-    c.next.result c.in-Some.one c.make_ready.ensures c.in_ok-chosen.ensures yields
+    c.in_ok-blank.blank c.in_ok-chosen.chosen.items c.loop-one.yielded c.loop-one.one-iterator
+    c.next.new.self c.next.result c.in-Some.one c.make_ready.ensures c.in_ok-chosen.ensures yields
     c.loop-one.yielded_by c.in-Some.is c.next.ensures.steps in
     few_places_of c.args.sources.now c.args.touched.now _ _ _
     (some_touched c.args.touched.now c.is_empty.result c.is_empty.ensures.1
@@ -133,8 +133,8 @@ returns-in_err-painted-clause-few_ticks g c =
     let yields = YieldsList-from_vec {s = c.into_iter-one-iterator.result}
     c.in_ok-chosen.chosen.items (search rules) (search rules) in
     let next = next_in c.make_ready.new.self c.args.sources.now c.args.touched.now
-    c.in_ok-blank.blank c.in_ok-chosen.chosen.items c.loop-one.yielded c.loop-one.one-iterator c.next.new.self
-    c.next.result c.in-Some.one c.make_ready.ensures c.in_ok-chosen.ensures yields
+    c.in_ok-blank.blank c.in_ok-chosen.chosen.items c.loop-one.yielded c.loop-one.one-iterator
+    c.next.new.self c.next.result c.in-Some.one c.make_ready.ensures c.in_ok-chosen.ensures yields
     c.loop-one.yielded_by c.in-Some.is c.next.ensures.steps in
     let as_many : length c.as_slice.result.now ≡ length c.in-Some.one.segments.items =
     sym (length-map c.as_slice.result.now (λ (p : Part). p.range))
@@ -160,8 +160,8 @@ returns-in_err-painted-clause-places g c =
     let yields = YieldsList-from_vec {s = c.into_iter-one-iterator.result}
     c.in_ok-chosen.chosen.items (search rules) (search rules) in
     let next = next_in c.make_ready.new.self c.args.sources.now c.args.touched.now
-    c.in_ok-blank.blank c.in_ok-chosen.chosen.items c.loop-one.yielded c.loop-one.one-iterator c.next.new.self
-    c.next.result c.in-Some.one c.make_ready.ensures c.in_ok-chosen.ensures yields
+    c.in_ok-blank.blank c.in_ok-chosen.chosen.items c.loop-one.yielded c.loop-one.one-iterator
+    c.next.new.self c.next.result c.in-Some.one c.make_ready.ensures c.in_ok-chosen.ensures yields
     c.loop-one.yielded_by c.in-Some.is c.next.ensures.steps in
     few_places_of c.args.sources.now c.args.touched.now _ _ _
     (some_touched c.args.touched.now c.is_empty.result c.is_empty.ensures.1
@@ -174,9 +174,9 @@ returns-clause-few_ticks g c =
     let yields = YieldsList-from_vec {s = c.into_iter-one-iterator.result}
     c.in_ok-chosen.chosen.items (search rules) (search rules) in
     let are = all_in c.make_ready.new.self c.args.sources.now c.args.touched.now
-    c.in_ok-blank.blank c.in_ok-chosen.chosen.items c.loop-one.yielded c.loop-one.one-iterator c.next.new.self
-    c.next.result c.make_ready.ensures c.in_ok-chosen.ensures yields c.loop-one.yielded_by
-    c.in-None.is c.next.ensures.steps in
+    c.in_ok-blank.blank c.in_ok-chosen.chosen.items c.loop-one.yielded c.loop-one.one-iterator
+    c.next.new.self c.next.result c.make_ready.ensures c.in_ok-chosen.ensures yields
+    c.loop-one.yielded_by c.in-None.is c.next.ensures.steps in
     omega (
       arith,
       within_bound c.args.sources.now c.args.touched.now _
@@ -191,9 +191,9 @@ returns-clause-places g c =
     let yields = YieldsList-from_vec {s = c.into_iter-one-iterator.result}
     c.in_ok-chosen.chosen.items (search rules) (search rules) in
     let are = all_in c.make_ready.new.self c.args.sources.now c.args.touched.now
-    c.in_ok-blank.blank c.in_ok-chosen.chosen.items c.loop-one.yielded c.loop-one.one-iterator c.next.new.self
-    c.next.result c.make_ready.ensures c.in_ok-chosen.ensures yields c.loop-one.yielded_by
-    c.in-None.is c.next.ensures.steps in
+    c.in_ok-blank.blank c.in_ok-chosen.chosen.items c.loop-one.yielded c.loop-one.one-iterator
+    c.next.new.self c.next.result c.make_ready.ensures c.in_ok-chosen.ensures yields
+    c.loop-one.yielded_by c.in-None.is c.next.ensures.steps in
     few_places_of c.args.sources.now c.args.touched.now _ _ _
     (some_touched c.args.touched.now c.is_empty.result c.is_empty.ensures.1
     c.if-is_empty.false) are.places
@@ -204,9 +204,9 @@ returns-clause-answers g c =
     let yields = YieldsList-from_vec {s = c.into_iter-one-iterator.result}
     c.in_ok-chosen.chosen.items (search rules) (search rules) in
     let are = all_in c.make_ready.new.self c.args.sources.now c.args.touched.now
-    c.in_ok-blank.blank c.in_ok-chosen.chosen.items c.loop-one.yielded c.loop-one.one-iterator c.next.new.self
-    c.next.result c.make_ready.ensures c.in_ok-chosen.ensures yields c.loop-one.yielded_by
-    c.in-None.is c.next.ensures.steps in
+    c.in_ok-blank.blank c.in_ok-chosen.chosen.items c.loop-one.yielded c.loop-one.one-iterator
+    c.next.new.self c.next.result c.make_ready.ensures c.in_ok-chosen.ensures yields
+    c.loop-one.yielded_by c.in-None.is c.next.ensures.steps in
     let s = c.args.sources.now in
     AnswersAll-made s c.loop-one.store c.with_aliases.new.store c.loop-one.places
     c.loop-one.painted c.with_aliases.result

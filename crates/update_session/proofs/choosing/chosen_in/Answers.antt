@@ -1,6 +1,7 @@
 -- One segment more, where it is wanted, and what is said of it.
 use Rattle.std.proofs.Common.{◌≡◌, ◌∙◌, ◌+◌, ◌++◌, ◌∷◌, [], List, Option, ap, arith, cond, filter}
-use Rattle.std.proofs.Common.{append-nil, length, length-append, map, not, refl, subst, sym, take, ◌||◌}
+use Rattle.std.proofs.Common.{append-nil, length, length-append, map, not, refl, subst, sym, take}
+use Rattle.std.proofs.Common.{◌||◌}
 use Rattle.std.specs.Prelude.{is_some}
 use Rattle.std.proofs.lemmas.List.{map-append}
 use Rattle.std.proofs.lemmas.List.Elements.{filter_more}
@@ -11,7 +12,8 @@ use Rattle.update_session.specs.Build.{StandFor, is_wanted}
 use Rattle.update_session.proofs.BuildLemmas.{GrowsBy-trans}
 use Rattle.update_session.proofs.NumberingLemmas.{take_whole}
 use Rattle.update_session.proofs.choosing.chosen_in.Goals as goal
-use Rattle.update_session.proofs.choosing.chosen_in.Goals.{then-is_wanted+in_ok-push, else-is_wanted}
+use Rattle.update_session.proofs.choosing.chosen_in.Goals.{then-is_wanted+in_ok-push}
+use Rattle.update_session.proofs.choosing.chosen_in.Goals.{else-is_wanted}
 
 pub loop-segment-init : goal.loop-segment-init
 loop-segment-init c =
