@@ -1,7 +1,8 @@
 -- What is chosen where nothing was said before: of the pieces of a chunk those of which something
 -- is said are its segments, and what is left out is spared.
 use Rattle.std.proofs.Common.{◌≡◌, ◌∙◌, ℕ, zero, suc, ◌+◌, ◌^◌, ◌<◌, ◌≤◌, ◌⊎◌, ◌&&◌, ◌||◌, Bool}
-use Rattle.std.proofs.Common.{true, false, cond, leb, max, List, [], ◌∷◌, Contains, get_or, length, map}
+use Rattle.std.proofs.Common.{true, false, cond, leb, max, List, [], ◌∷◌, Contains, get_or, length}
+use Rattle.std.proofs.Common.{map}
 use Rattle.std.proofs.Common.{Option, Some, None, ap, arith, inl, inr, refl, subst, sym}
 use Rattle.std.specs.List.{All, AllAdjacentBelow, AllByRecursion, AllZip, Any, filter}
 use Rattle.std.specs.Prelude.{IsTrue, is_some}

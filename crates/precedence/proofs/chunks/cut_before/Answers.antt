@@ -11,5 +11,6 @@ returns-in_ok-push-clause-tiles c low so_far =
     let end : c.args.point - 1 + 1 ≡ c.args.point = omega (arith, c.if-first-point.true) in
     subst (λ (n : ℕ). Tiles low c.push.new.self.items n) end
     (subst (λ (rs : List Ends). Tiles low rs (c.args.point - 1 + 1))
-    (sym c.in_ok-push.ensures.items) (Tiles-push low c.args.first c.args.pieces.now.items last so_far refl
+    (sym c.in_ok-push.ensures.items)
+    (Tiles-push low c.args.first c.args.pieces.now.items last so_far refl
     (omega (arith, c.if-first-point.true))))
