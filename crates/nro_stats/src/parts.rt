@@ -46,8 +46,8 @@ impl<'a, 'b> Work<LinePart<'b>, Gathered> for PartReading<'a> {
 /// Reads a statistics file as `read_stats` does, by parts of it side by side.
 ///
 /// A file of at most `LEAST_PART` bytes is read on the calling thread, and so is each where there
-/// is one piece. A long file has more parts than there are pieces, so that what is found in a part is
-/// soon put to the rest. Whether it has too many delegations is asked once all are read.
+/// is one piece. A long file has more parts than there are pieces, so that what is found in a part
+/// is soon put to the rest. Whether it has too many delegations is asked once all are read.
 pub fn read_stats_by_parts<R: Threads + Sync, G: Gate>(
     forks: &Forks<R, G>,
     slot: &str,
