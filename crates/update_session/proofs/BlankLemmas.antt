@@ -1,8 +1,7 @@
 -- What is chosen where nothing was said before: of the pieces of a chunk those of which something
 -- is said are its segments, and what is left out is spared.
 use Rattle.std.proofs.Common.{◌≡◌, ◌∙◌, ℕ, zero, suc, ◌+◌, ◌^◌, ◌<◌, ◌≤◌, ◌⊎◌, ◌&&◌, ◌||◌, Bool}
-use Rattle.std.proofs.Common.{true, false, cond, leb, max, List, [], ◌∷◌, Contains, get_or, length}
-use Rattle.std.proofs.Common.{map}
+use Rattle.std.proofs.Common.{true, false, cond, leb, List, [], ◌∷◌, Contains, get_or, length}
 use Rattle.std.proofs.Common.{Option, Some, None, ap, arith, inl, inr, refl, subst, sym}
 use Rattle.std.specs.List.{All, AllAdjacentBelow, AllByRecursion, AllZip, Any, filter}
 use Rattle.std.specs.Prelude.{IsTrue, is_some}
@@ -24,7 +23,7 @@ use Rattle.precedence.specs.Chunks.{ArePieces, AreSegmentsIn, Tiles, none_spared
 use Rattle.source_changes.specs.Touched.{is_touched}
 use Rattle.trie_core.specs.declared.node.Pair.{Pair}
 use Rattle.trie_core.specs.declared.node.Root.{Root}
-use Rattle.trie_core.specs.Store.{leaf_at, tree_of}
+use Rattle.trie_core.specs.Store.{tree_of}
 use Rattle.trie_core.specs.Tree.{Tree, leaf, look}
 use Rattle.update_session.specs.declared.choosing.Chosen.{Chosen}
 use Rattle.update_session.specs.Build.{IsAllTouched, IsChosenIn, IsSpared, is_wanted}

@@ -53,7 +53,7 @@ impl<'a, 'b> Work<Range, Chosen> for Choosing<'a, 'b> {
         } else {
             self.sources.segments_in(self.touched, *item)?
         };
-        let chosen = chosen_in(self.alloc, self.sources, segments.as_slice(), self.blank)?;
+        let chosen = chosen_in(self.alloc, self.sources, segments, self.blank)?;
         Ok(chosen)
     }
 }
@@ -88,26 +88,37 @@ pub(crate) fn choose<R: Threads + Sync, G: Gate>(
     Ok(chosen)
 }
 
-// What the sources say of those of these segments that are wanted.
+// What the sources say of those of these segments that are wanted, which stay in the room of all.
 fn chosen_in(
     alloc: Global,
     sources: &Sources,
-    segments: &[Range],
+    segments: Vec<Range>,
     blank: bool,
 ) -> Result<Chosen, Memory>
-    ensures segments { IfOk result
-        (λ chosen. chosen.segments.items ≡ filter (is_wanted sources.now blank) segments.now) }
+    ensures segments { IfOk result (λ chosen.
+        chosen.segments.items ≡ filter (is_wanted sources.now blank) segments.items) }
     ensures chosen { IfOk result (IsChosen sources.now) }
 {
-    let mut chosen = Chosen::with_room(alloc, segments.len())?;
+    let mut segments = segments;
+    let mut places = Places::new(alloc);
+    let mut leaves = Vec::with_capacity(alloc, segments.len())?;
     let mut near = Near::default();
-    for segment in segments {
-        let said = sources.choice_near(*segment, &mut near);
+    let mut kept = 0;
+    for at in 0..segments.len() {
+        let segment = segments[at];
+        let said = sources.choice_near(segment, &mut near);
         if is_wanted(blank, said) {
-            chosen.push(*segment, said)?;
+            note(&mut places, &mut leaves, said)?;
+            segments[kept] = segment;
+            kept += 1;
         }
     }
-    Ok(chosen)
+    segments.truncate(kept);
+    Ok(Chosen {
+        segments,
+        places,
+        leaves,
+    })
 }
 
 // Whether a segment is wanted of which this is said.
@@ -117,36 +128,17 @@ fn is_wanted(blank: bool, said: Option<&Place>) -> bool
     !blank || said.is_some()
 }
 
-impl Chosen {
-    // No segments, with room for so many.
-    fn with_room(alloc: Global, len: usize) -> Result<Chosen, Memory>
-        ensures segments { IfOk result (λ chosen. chosen.segments.items ≡ []) }
-        ensures places { IfOk result (λ chosen. chosen.places ≡ []) }
-        ensures leaves { IfOk result (λ chosen. chosen.leaves.items ≡ []) }
-    {
-        Ok(Chosen {
-            segments: Vec::with_capacity(alloc, len)?,
-            places: Places::new(alloc),
-            leaves: Vec::with_capacity(alloc, len)?,
-        })
-    }
-
-    // Puts a segment behind the others, and what is said of it.
-    fn push(&mut self, segment: Range, said: Option<&Place>) -> Result<(), Memory>
-        ensures segments { OnOk result
-            (self.new.segments.items ≡ self.old.segments.items ++ segment ∷ []) }
-        ensures stands { OnOk result ((before : List (Option PlaceParts))
-            → StandFor self.old.places self.old.leaves.items before
-            → StandFor self.new.places self.new.leaves.items
-            (before ++ option_copied said.entry ∷ [])) }
-        ensures places { OnOk result (GrowsBy self.old.places self.new.places 1) }
-    {
-        // A table of a chunk is full only where no memory holds the chunk's segments.
-        let Ok(leaf) = leaf_of(&mut self.places, said) else {
-            return Err(Memory);
-        };
-        self.segments.push(segment)?;
-        self.leaves.push(leaf)?;
-        Ok(())
-    }
+// Puts the number of what is said of one segment more behind the others.
+fn note(places: &mut Places, leaves: &mut Vec<u32>, said: Option<&Place>) -> Result<(), Memory>
+    ensures stands { OnOk result ((before : List (Option PlaceParts))
+        → StandFor places.old leaves.old.items before
+        → StandFor places.new leaves.new.items (before ++ option_copied said.entry ∷ [])) }
+    ensures places { OnOk result (GrowsBy places.old places.new 1) }
+{
+    // A table of a chunk is full only where no memory holds the chunk's segments.
+    let Ok(leaf) = leaf_of(places, said) else {
+        return Err(Memory);
+    };
+    leaves.push(leaf)?;
+    Ok(())
 }

@@ -1,7 +1,6 @@
 -- The segments are those of the touched grounds, or the pieces of which something is said.
-use Rattle.std.proofs.Common.{◌≡◌, ◌∙◌, true, false, ap, filter, sym, subst}
+use Rattle.std.proofs.Common.{◌≡◌, ◌∙◌, true, false, sym, subst}
 use Rattle.precedence.specs.Chunks.{ArePieces, AreSegmentsIn, none_spared}
-use Rattle.update_session.specs.Build.{is_wanted}
 use Rattle.update_session.proofs.BlankLemmas.{segments_kept}
 use Rattle.update_session.proofs.choosing.ChoosingWorkRangeChosen.done.Goals as goal
 use Rattle.update_session.proofs.choosing.ChoosingWorkRangeChosen.done.Goals.{then-self+in_ok-segments}
@@ -15,8 +14,7 @@ returns c all =
     let out = c.in_ok-chosen.chosen.segments.items in
     record {
       cut = segments_kept s work.touched.now work.blank c.args.item.now given out
-          (c.in_ok-chosen.ensures.segments
-          ∙ ap (filter (is_wanted s work.blank)) c.as_slice.ensures.value) all
+          c.in_ok-chosen.ensures.segments all
           (λ yes. elim c.if-self.branch [
             | then-self+in_ok-segments w ↦ (
               subst (λ v. ArePieces s c.args.item.now v.items) (sym w.segments-is)
