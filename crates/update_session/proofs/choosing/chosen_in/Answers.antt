@@ -14,7 +14,8 @@ use Rattle.precedence.proofs.SharedLemmas.{drop_step}
 use Rattle.update_session.specs.Build.{StandFor, is_wanted}
 use Rattle.update_session.proofs.BuildLemmas.{GrowsBy-trans}
 use Rattle.update_session.proofs.choosing.chosen_in.Goals as goal
-use Rattle.update_session.proofs.choosing.chosen_in.Goals.{then-is_wanted+in_ok-note, else-is_wanted}
+use Rattle.update_session.proofs.choosing.chosen_in.Goals.{else-is_wanted}
+use Rattle.update_session.proofs.choosing.chosen_in.Goals.{then-is_wanted+in_ok-note}
 
 pub loop-at-preserved : goal.loop-at-preserved
 loop-at-preserved c =
