@@ -52,7 +52,7 @@ impl FirstIndex {
         }
     }
 
-    // Room for the boundaries of so many statements; what of it is not filled is never touched.
+    // Room for the boundaries of so many statements; `fit` gives back what of it is not filled.
     pub(crate) fn with_room(alloc: Global, statements: usize) -> Result<FirstIndex, Memory>
         ensures { IfOk result (λ index. index ≡ []) }
     {
@@ -76,6 +76,14 @@ impl FirstIndex {
         }
         set_last(&mut self.codes, code);
         Ok(())
+    }
+
+    // Gives back the room that was not filled.
+    pub(crate) fn fit(&mut self)
+        ensures { self.new ≡ self.old }
+    {
+        self.points.shrink_to_fit();
+        self.codes.shrink_to_fit();
     }
 
     /// The index of these statements.

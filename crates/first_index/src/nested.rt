@@ -38,6 +38,7 @@ pub fn nested_of<S: Statement>(
         low = first;
     }
     close(&mut index, &mut opened, None)?;
+    index.fit();
     Ok(Some(index))
 }
 

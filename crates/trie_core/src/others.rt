@@ -110,11 +110,7 @@ impl Others {
             self.room -= 1;
             return Ok(());
         }
-        let more = self
-            .slots
-            .len()
-            .saturating_mul(3)
-            .saturating_add(FIRST_SLOTS);
+        let more = self.slots.len() + FIRST_SLOTS;
         let Some(len) = self.slots.len().checked_add(more) else {
             return Err(Memory);
         };

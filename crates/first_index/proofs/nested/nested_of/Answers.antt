@@ -44,10 +44,11 @@ returns-clause-found g c =
     let passed = c.loop-statement.invariant.passed in
     let done = c.in_ok-close.ensures (take i xs) c.loop-statement.low passed.bound (omega arith)
     passed in
-    subst (λ (cs : List (ℕ × Bor X)). AreBoundariesOf order range cs c.close.new.index)
+    subst (λ (bs : List Boundary). AreBoundariesOf order range xs bs) (sym c.fit.ensures)
+    (subst (λ (cs : List (ℕ × Bor X)). AreBoundariesOf order range cs c.close.new.index)
     (take_all i xs c.loop-statement-test.false)
     (all_passed order range (take i xs) c.loop-statement.low c.close.new.index
-    c.close.new.opened.items done.0 done.1)
+    c.close.new.opened.items done.0 done.1))
 
 -- before the first statement
 none_passed : {X : Type 0} (order : X → X → Ordering) (range : X → Ends) (bs : List Boundary)
