@@ -299,21 +299,11 @@ elif strace -o trace true 2> told; then
     calls=$(sed -n '/geofeed new/,$p' trace | grep -v '"/proc/' | sed -E 's/\(.*//' | tr '\n' ' ')
     [[ "$calls" == 'openat fchmod fsync rename openat fsync '* ]] || fail "a put calls $calls"
     grep -q 'O_EXCL.*, 0600)' trace || fail "a private file's successor is made with another mode"
-    # The blocks that main takes and lets go, where addresses are ample and where they are not:
-    # 33,488,896 bytes that are mapped, the probe, and sixteen of the first size in a row.
-    strace -o trace -e trace=mmap,brk "$program" --version > printed
-    blocks=$(sed -n 's/^brk(0x\([0-9a-f]*\)) .*/\1/p' trace \
-        | while read -r end; do echo $((16#$end)); done | awk '
-            NR > 1 && $1 - last > 33000000 { many++ }
-            { last = $1 }
-            END { print many + 0 }')
-    grep -q '^mmap(NULL, 33492992, .*) = 0x' trace \
-        && grep -q '^mmap(NULL, 2147487744, .*) = 0x' trace && [ "$blocks" -eq 16 ] \
-        || fail "main takes $blocks blocks of 16: $(cat trace)"
-    (ulimit -v 1500000 && exec strace -o trace -e trace=mmap,brk "$program" --version > printed)
-    grep -q '^mmap(NULL, 2147487744, .*) = -1 ENOMEM' trace \
-        || fail "main does not ask for addresses"
-    [ "$(grep -c '^brk(0x' trace)" -le 3 ] || fail "main takes blocks where addresses are not ample"
+    # The block that main takes and lets go: 33,488,896 bytes that are mapped, and no other.
+    strace -o trace -e trace=mmap,munmap "$program" --version > printed
+    [ "$(grep -c '^mmap(NULL, 33492992, .*) = 0x' trace)" -eq 1 ] \
+        && [ "$(grep -c '^munmap(0x.*, 33492992)' trace)" -eq 1 ] \
+        || fail "main takes other blocks: $(cat trace)"
     for call in fchmod fsync rename; do
         strace -o trace -e "trace=$call" -e "inject=$call:error=EIO:when=1" \
             "$program" build job > printed 2> told

@@ -91,8 +91,7 @@ LONGEST_NAME 255 job_lines/src/names.rt
 LONGEST_WORD 64 job_lines/src/names.rt
 MOST_PIECES 64 job_lines/src/form.rt
 LONGEST_FILE 1073741824 file_lookup/src/lookup.rt
-LARGEST_KEPT 33488896 geofeed/src/main.rt
-AMPLE 2147483648 geofeed/src/main.rt'
+LARGEST_KEPT 33488896 geofeed/src/main.rt'
 
 # numbers FILES..: each number in them as VALUE FILE LINE, where 1,024, 1_024, 1 << 10 and 2 ^ 10
 # are one.
@@ -124,7 +123,7 @@ while read -r name value file; do
     numbers "crates/$file" | grep -qxF "$value crates/$file ${line:-0}" \
         || fail "crates/$file does not say that $name is $value"
 done <<< "$limits"
-counted 30 "$rows" limits
+counted 29 "$rows" limits
 # The format's own limits of records, which mmdb_tree has, are powers of two as some of these are.
 mapfile -t told < <(files '*.rt' '*.antt' | grep -E '^crates/[a-z_]+/(src|specs)/' \
     | grep -v '/test_\|/mmdb_tree/')

@@ -27,7 +27,7 @@ use std::env::Env;
 use std::fs::{File, Files};
 use std::io::{Eprint, ErrorKind, Print};
 use std::marker::{Brand, Sync};
-use std::mem::{drop, forget};
+use std::mem::drop;
 use std::process::ExitCode;
 use std::sync::ledger::{Blank, Ledger};
 use std::thread::Threads;
@@ -59,16 +59,6 @@ docs/stops.md and geofeed(1) have them all.
 /// A little less than the 32 MiB up to which the C library learns from a block that is let go.
 const LARGEST_KEPT: usize = 33_488_896;
 
-/// How many such blocks stand side by side, so that lists up to all of them are made from what they
-/// leave: half a GiB of addresses, and no page of memory until it is written.
-const BLOCKS: usize = 16;
-
-/// The bytes of a block that stays behind them, so that what they leave is not given back.
-const BEHIND: usize = 65_536;
-
-/// The bytes of addresses that have to be there, so that the blocks take none that others need.
-const AMPLE: usize = 2_147_483_648;
-
 fn main(rt: HostRuntime) -> ExitCode {
     keep_memory(rt.alloc());
     let status = match words_of(&rt) {
@@ -85,28 +75,11 @@ fn main(rt: HostRuntime) -> ExitCode {
     ExitCode::from(status as u8)
 }
 
-// Takes a large block and lets it go unused: from then on the C library gives blocks of that size
-// from memory that the program let go before, where it would ask the system for new pages. Then
-// takes several side by side and lets them go together, where addresses are ample: so it does for
-// larger ones.
+// Takes a large block and lets it go unused: from then on the C library gives blocks of up to that
+// size from memory that the program let go before, where it would ask the system for new pages.
 fn keep_memory(alloc: Global) {
-    let first: Result<Vec<u8>, AllocError> = Vec::with_capacity(alloc, LARGEST_KEPT);
-    drop(first);
-    let ample: Result<Vec<u8>, AllocError> = Vec::with_capacity(alloc, AMPLE);
-    if ample.is_err() {
-        return;
-    }
-    drop(ample);
-    let blocks: Result<Vec<Vec<u8>>, AllocError> = Vec::with_capacity(alloc, BLOCKS);
-    if let Ok(mut blocks) = blocks {
-        for _ in 0..BLOCKS {
-            if let Ok(block) = Vec::with_capacity(alloc, LARGEST_KEPT) {
-                let _ = blocks.push(block);
-            }
-        }
-        let behind: Result<Vec<u8>, AllocError> = Vec::with_capacity(alloc, BEHIND);
-        forget(behind);
-    }
+    let block: Result<Vec<u8>, AllocError> = Vec::with_capacity(alloc, LARGEST_KEPT);
+    drop(block);
 }
 
 // The words after the program's name.
