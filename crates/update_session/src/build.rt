@@ -72,8 +72,8 @@ pub(crate) fn repaint<R: Threads + Sync, G: Gate, L: Ledger>(
     with_aliases(store, painted, steps)
 }
 
-// Whether the root is that of no record, and nothing is said of addresses that carry IPv4 ones: then
-// all that is said is touched, and what is not said has no record in the root.
+// Whether the root is that of no record, and nothing is said of addresses that carry IPv4 ones:
+// then all that is said is touched, and what is not said has no record in the root.
 fn is_blank(store: &Store, root: Root, sources: &Sources) -> Result<bool, Memory>
     ensures root { IfOk result (λ blank. IsTrue blank → tree_of store.now root ≡ leaf 0) }
     ensures silent { IfOk result (λ blank. IsTrue blank
