@@ -44,7 +44,7 @@ cat > hosts <<'END'
 127.0.0.1 localhost loop.example
 ::1 loop6.example
 9.9.9.9 geo.example both.example
-9.9.9.9 rebind.example
+9.9.9.9   rebind.example
 127.0.0.1 both.example
 9.9.9.11 two.example
 9.9.9.9 two.example

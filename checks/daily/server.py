@@ -68,11 +68,13 @@ class Handler(http.server.BaseHTTPRequestHandler):
         self.head(301, Location='/'.join(words), Content_Length=0)
 
     def answer_rebind(self):
-        """From now on the name is that of this host."""
-        with open(hosts[0], encoding='utf-8') as text:
-            lines = text.read().replace('9.9.9.9 rebind.example', '127.0.0.1 rebind.example')
-        with open(hosts[0], 'w', encoding='utf-8') as text:
-            text.write(lines)
+        """From now on the name is that of this host. The file is written over in place, by as many
+        bytes: whoever reads it meanwhile finds every other name."""
+        before, after = b'9.9.9.9   rebind.example', b'127.0.0.1 rebind.example'
+        with open(hosts[0], 'r+b', buffering=0) as text:
+            place = text.read().find(before)
+            if place >= 0:
+                os.pwrite(text.fileno(), after, place)
         self.head(302, Location='https://rebind.example/secret', Content_Length=0)
 
     def answer_endless(self):
