@@ -15,7 +15,7 @@ use geo_addr::{Memory, Text};
 use geo_outside::Gate;
 use geo_terms::{Dump, Feed, SourceFault, Stats};
 use mmdb_file::Meta;
-use nro_stats::read_stats_by_parts;
+use nro_stats::read_stats;
 use std::alloc::Global;
 use std::marker::Sync;
 use std::thread::Threads;
@@ -101,7 +101,7 @@ fn the_dump(alloc: Global) -> Result<Dump, Memory>
 fn the_stats<R: Threads + Sync, G: Gate>(forks: &Forks<R, G>) -> Result<Stats, Memory>
     ensures { IfOk result (λ stats. stats ≡ the_stats) }
 {
-    match read_stats_by_parts(forks, SLOT, STATS.as_bytes()) {
+    match read_stats(forks.alloc, SLOT, STATS.as_bytes()) {
         Ok(stats) => Ok(stats),
         Err(fault) => Err(memory_of(fault)),
     }

@@ -34,7 +34,7 @@ pub record HasRead (slot : List ℕ) (told : Option Told) (name : List ℕ) (rea
   pub fine : (fed ≡ 0) ⊎ (refusal (so_far slot text) ≡ None)
   pub first : (w : Told) → told ≡ Some w → AreFirst (map.get w.held name) text
 
-none_first : (held : Option (List ℕ)) → AreFirst held []
+pub none_first : (held : Option (List ℕ)) → AreFirst held []
 none_first None = refl
 none_first (Some file) = refl
 

@@ -6,3 +6,4 @@ pub mod FeedLemmas
 pub mod MarkLemmas
 pub mod MoveLemmas
 pub mod RunLemmas
+pub mod StatsLemmas

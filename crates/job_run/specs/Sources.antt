@@ -4,7 +4,7 @@ use Rattle.std.specs.Prelude.{◌≡◌, ℕ, ◌+◌, Bool, true, nat_lt, List,
 use Rattle.std.specs.Prelude.{Result, Ok, Err, is_some, option_map, option_and_then, if◌then◌else◌}
 use Rattle.feed_csv.specs.File.{accepted as feed_lines, feed, longest as longest_feed}
 use Rattle.feed_csv.specs.File.{most as most_entries}
-use Rattle.geo_terms.specs.SourceForm.{DumpParts}
+use Rattle.geo_terms.specs.SourceForm.{DumpParts, StatsParts}
 use Rattle.geo_terms.specs.Sources.{InForce}
 use Rattle.geo_terms.specs.declared.source.SourceFault.{SourceFault}
 use Rattle.feed_refs.specs.Dumps.{dump, longest as longest_dump}
@@ -65,6 +65,13 @@ no_feed held = unusable longest_feed most_entries entries_of held
 
 abbrev pub no_overrides : Option (List ℕ) → Option Cause
 no_overrides held = unusable longest_overrides most_rows settings_of held
+
+-- what a name holds is this statistics file
+pub record HoldsStats (slot : List ℕ) (held : Option (List ℕ)) (found : StatsParts) : Type 0 where
+  pub bytes : List ℕ
+  pub there : held ≡ Some bytes
+  pub is : found ≡ stats slot bytes
+  pub usable : no_stats slot held ≡ None
 
 -- the change that a dump is, where there is one
 abbrev pub dump_change : Result DumpParts SourceFault → Option Change

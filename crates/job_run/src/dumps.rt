@@ -63,7 +63,7 @@ pub(crate) fn read_dump<F: Folder>(
 }
 
 /// Reads the piece of a file that begins at an offset; 0 bytes are the end.
-fn read_piece<F: Folder>(
+pub(crate) fn read_piece<F: Folder>(
     folder: &mut F,
     name: &str,
     from: u64,
@@ -140,7 +140,7 @@ fn whole_dump(reader: DumpReader) -> Result<Dump, Stop>
 }
 
 /// Room for one read.
-fn empty_piece(alloc: Global) -> Result<Vec<u8>, Memory>
+pub(crate) fn empty_piece(alloc: Global) -> Result<Vec<u8>, Memory>
     ensures { IfOk result (λ v. vec_len v ≡ PIECE) }
 {
     let piece = vec![in alloc; 0; PIECE]?;

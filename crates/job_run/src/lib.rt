@@ -15,6 +15,7 @@ mod reading;
 mod reporting;
 mod scope;
 mod setting;
+mod statistics;
 mod stop;
 
 pub use acts::name_of;

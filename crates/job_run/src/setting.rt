@@ -6,22 +6,21 @@ ghost use Rattle.geo_outside.specs.Count.{Rose};
 ghost use Rattle.geo_outside.specs.Files.{Told};
 ghost use Rattle.geo_outside.specs.declared.whole.TheConstants.{PIECE};
 ghost use Rattle.feed_refs.specs.declared.limits.TheConstants.{LONGEST_DUMP};
-ghost use Rattle.nro_stats.specs.File.{stats};
 ghost use Rattle.nro_stats.specs.declared.read.TheConstants.{LONGEST_STATS};
 ghost use Rattle.override_rows.specs.File.{overrides};
 ghost use Rattle.override_rows.specs.declared.read.TheConstants.{LONGEST_OVERRIDES};
 ghost use Rattle.job_run.specs.Dumps.{IsReadNoFurther};
-ghost use Rattle.job_run.specs.Sources.{IsSet, no_overrides, no_source, no_stats};
+ghost use Rattle.job_run.specs.Sources.{IsSet, no_overrides, no_source};
 ghost use Rattle.job_run.specs.Stops.{IsHindered};
 
 use crate::dumps::read_dump;
 use crate::reading::read_file;
+use crate::statistics::read_statistics;
 use crate::stop::{Cause, Stop};
 use fan_work::Forks;
 use geo_outside::{Folder, Gate};
-use geo_terms::{Overrides, SourceFault, Stats};
+use geo_terms::{Overrides, SourceFault};
 use job_lines::Act;
-use nro_stats::{LONGEST_STATS, read_stats_by_parts};
 use override_rows::{LONGEST_OVERRIDES, read_overrides};
 use std::alloc::Global;
 use std::marker::Sync;
@@ -95,36 +94,12 @@ pub(crate) fn set_stats<R: Threads + Sync, F: Folder, G: Gate>(
     ensures misses { F.misses folder.old ≤ F.misses folder.new }
     ensures given { F.given folder.new ≤ F.given folder.old + (LONGEST_STATS + PIECE) }
 {
-    let bytes = match read_file(forks.alloc, folder, name, LONGEST_STATS as u64) {
-        Ok(bytes) => bytes,
+    let stats = match read_statistics(forks, folder, slot, name) {
+        Ok(stats) => stats,
         Err(why) => return Err(why),
     };
-    let stats = stats_of(forks, slot, bytes.as_slice())?;
-    drop(bytes);
     session.set_stats(stats)?;
     Ok(())
-}
-
-/// The statistics file that these bytes are.
-fn stats_of<R: Threads + Sync, G: Gate>(
-    forks: &Forks<R, G>,
-    slot: &str,
-    bytes: &[u8],
-) -> Result<Stats, Stop>
-    ensures stats { IfOk result (λ found. found ≡ stats slot.now bytes.now) }
-    ensures few { OnOk result (no_stats slot.now (Some bytes.now) ≡ None) }
-    ensures unset { IfErr result (λ why. IsHindered why
-        (λ cause. no_stats slot.now (Some bytes.now) ≡ Some cause)) }
-    ensures read { (result ≢ Err Stop.ReadFailed) × (result ≢ Err (Stop.Blocked Cause.Missing)) }
-    ensures reads { (result ≢ Err Stop.PutFailed) × (result ≢ Err Stop.SinkFailed)
-        × (result ≢ Err (Stop.Blocked Cause.Words)) }
-{
-    match read_stats_by_parts(forks, slot, bytes) {
-        Ok(found) => Ok(found),
-        Err(SourceFault::TooLong) => Err(Stop::Blocked(Cause::TooLong)),
-        Err(SourceFault::TooMany) => Err(Stop::Blocked(Cause::TooMany)),
-        Err(SourceFault::Memory) => Err(Stop::Memory),
-    }
 }
 
 /// Sets the overrides to what the file of this name holds.

@@ -1,3 +1,4 @@
 pub mod GatherLemmas
 mod CutLemmas
 mod PartLemmas
+mod WholeLemmas

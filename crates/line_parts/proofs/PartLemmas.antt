@@ -20,6 +20,7 @@ use Rattle.geo_addr.specs.Lines.{pieces, without_mark}
 use Rattle.std.proofs.lemmas.Grind.{flat_map-append}
 use Rattle.line_parts.specs.Parts.{EndsBehind, EndsWithFeed, behind, feeds, lines_in}
 use Rattle.line_parts.specs.declared.part.LinePart.{LinePart}
+use Rattle.line_parts.proofs.GatherLemmas.{behind_none, behind_twice}
 
 -- a first piece before others is a line
 first_of_two : (piece : List ℕ) (others : List (List ℕ)) → 0 < length others
@@ -138,17 +139,6 @@ numbers_behind k n [] = refl
 numbers_behind k n (x ∷ xs) =
     let e : k + n + 1 ≡ k + (n + 1) = omega arith in
     ap (λ t. (k + n, x) ∷ t) (ap (λ m. enumerate_from m xs) e ∙ numbers_behind k (n + 1) xs)
-
-behind_twice : (j k : ℕ) (ls : List (ℕ × List ℕ)) → behind j (behind k ls) ≡ behind (j + k) ls
-behind_twice j k [] = refl
-behind_twice j k (l ∷ ls) =
-    let e : j + (k + l.0) ≡ j + k + l.0 = omega arith in
-    ap₂ (λ m t. (m, l.1) ∷ t) e (behind_twice j k ls)
-
-pub behind_none : (ls : List (ℕ × List ℕ)) → behind 0 ls ≡ ls
-behind_none [] = refl
-behind_none (l ∷ ls) =
-    let e : 0 + l.0 ≡ l.0 = omega arith in ap₂ (λ m t. (m, l.1) ∷ t) e (behind_none ls)
 
 -- the lines before the line feed at the end, and those behind it
 split_lines : (line after : List ℕ)

@@ -1,6 +1,6 @@
 -- The lines of a part of a file.
 use Rattle.std.specs.Prelude.{◌≡◌, ℕ, ◌+◌, ◌≤◌, ◌<◌, ◌==◌, ◌⊎◌, List, [], ◌∷◌, ◌++◌, drop, map}
-use Rattle.std.specs.Prelude.{length, nat_eq, take, if◌then◌else◌}
+use Rattle.std.specs.Prelude.{length, nat_eq, take, true, if◌then◌else◌}
 use Rattle.std.specs.List.{count_by, starts_with}
 use Rattle.geo_addr.specs.Lines.{byte_order_mark, numbered_lines}
 use Rattle.line_parts.specs.declared.part.LinePart.{LinePart}
@@ -50,3 +50,10 @@ AreCut size text (p ∷ ps) left =
 pub record EndsWithFeed (text : List ℕ) : Type 0 where
   pub line : List ℕ
   pub is : text ≡ line ++ 10 ∷ []
+
+-- behind the last line feed of a text of which more may follow, a byte order mark may stand
+pub record EndsNearMark (text : List ℕ) : Type 0 where
+  pub before : List ℕ
+  pub after : List ℕ
+  pub is : text ≡ before ++ 10 ∷ after
+  pub near : (length after < 3) ⊎ (starts_with nat_eq after byte_order_mark ≡ true)

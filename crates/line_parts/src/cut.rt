@@ -21,9 +21,26 @@ pub fn parts_of(alloc: Global, file: &[u8], size: usize) -> Result<Vec<LinePart<
     ensures cut { IfOk result (λ parts. AreCut size file.now parts.items []) }
     ensures short { IfOk result (λ parts. All (λ p. EndsBehind size p.text.now) parts.items) }
 {
+    let lines = LinePart {
+        before: 0,
+        text: file,
+    };
+    cut_part(alloc, lines, size)
+}
+
+/// Cuts some lines of a file where `parts_of` would, had it no others.
+pub fn cut_part(
+    alloc: Global,
+    lines: LinePart<'_>,
+    size: usize,
+) -> Result<Vec<LinePart<'_>>, Memory>
+    ensures lines { IfOk result (λ parts. flat_map lines_in parts.items ≡ lines_in lines.entry) }
+    ensures cut { IfOk result (λ parts. AreCut size lines.entry.text.now parts.items []) }
+    ensures short { IfOk result (λ parts. All (λ p. EndsBehind size p.text.now) parts.items) }
+{
     let mut parts = Vec::new(alloc);
-    let mut before = 0;
-    let mut left = file;
+    let mut before = lines.before;
+    let mut left = lines.text;
     while !left.is_empty() {
         let (text, after) = cut_behind(left, size);
         let part = part_behind(before, text);
@@ -69,7 +86,7 @@ fn cut_behind(text: &[u8], size: usize) -> (&[u8], &[u8])
 }
 
 // Whether a text begins with a byte order mark.
-fn has_mark(text: &[u8]) -> bool
+pub(crate) fn has_mark(text: &[u8]) -> bool
     ensures without { result ≡ false → without_mark text.now ≡ text.now }
     ensures with { result ≡ true → text.now ≡ byte_order_mark ++ without_mark text.now }
     ensures exact { result ≡ starts_with nat_eq text.now byte_order_mark }
@@ -80,8 +97,8 @@ fn has_mark(text: &[u8]) -> bool
 /// How many bytes are looked at together.
 const TOGETHER: usize = 64;
 
-// How many line feeds a text has.
-fn count_feeds(text: &[u8]) -> u64
+/// How many line feeds a text has.
+pub fn count_feeds(text: &[u8]) -> u64
     ensures { result ≡ feeds text.now }
 {
     let mut count = 0;

@@ -4,8 +4,9 @@
 mod outcome;
 mod parts;
 mod read;
+mod reader;
 mod record;
 mod resource;
 
-pub use parts::read_stats_by_parts;
 pub use read::{LONGEST_STATS, MOST as MOST_DELEGATIONS, read_stats};
+pub use reader::StatsReader;

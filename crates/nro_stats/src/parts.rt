@@ -1,17 +1,14 @@
-//! A statistics file, read by parts side by side.
-ghost use Rattle.std.specs.Prelude.{◌≡◌, ◌<◌, ◌≤◌, ◌↔◌, ◌++◌, IfOk, OnOk, length};
+//! Lines of a statistics file, read by parts side by side.
+ghost use Rattle.std.specs.Prelude.{◌≡◌, ◌++◌, OnOk};
 ghost use Rattle.std.specs.List.{flat_map};
-ghost use Rattle.nro_stats.specs.File.{longest, most, notes, rows, stats};
-ghost use Rattle.nro_stats.specs.Parts.{found_notes, found_rows, notes_of, rows_of};
+ghost use Rattle.nro_stats.specs.Parts.{found_notes, found_rows, notes_in, notes_of, rows_in};
+ghost use Rattle.nro_stats.specs.Parts.{rows_of};
 
-use crate::read::{
-    Gathered, LONGEST_STATS, MOST, gathered_with_room, read_lines, read_stats, usual_rows,
-};
+use crate::read::{Gathered, MOST, read_lines, usual_rows};
 use fan_work::{Forks, Work, map_pieces};
-use geo_addr::{List, Memory, Text};
+use geo_addr::{Memory, Text};
 use geo_outside::Gate;
-use geo_terms::{SourceFault, Stats};
-use line_parts::{LEAST_PART, LinePart, first_parts, part_size, parts_of};
+use line_parts::{LEAST_PART, LinePart, cut_part, part_size};
 use std::alloc::Global;
 use std::marker::Sync;
 use std::thread::Threads;
@@ -24,6 +21,8 @@ const LEAST_LINE: usize = 8;
 struct PartReading<'a> {
     alloc: Global,
     slot: &'a str,
+    // Whether it stands beside no other part.
+    is_alone: bool,
 }
 
 impl<'a, 'b> Work<LinePart<'b>, Gathered> for PartReading<'a> {
@@ -34,8 +33,7 @@ impl<'a, 'b> Work<LinePart<'b>, Gathered> for PartReading<'a> {
     fn done(&self, item: &LinePart<'b>) -> Result<Gathered, Memory> {
         // A text of its own, since all copies of a text are counted in one cell.
         let slot = Text::of(self.alloc, self.slot)?;
-        // Room that is not used costs nothing, and a list that grows leaves what it had.
-        let rows = (item.text.len() / LEAST_LINE).min(MOST);
+        let rows = room_for(item.text.len(), self.is_alone);
         match read_lines(self.alloc, &slot, *item, rows, usize::MAX) {
             Ok(found) => Ok(found),
             Err(_) => Err(Memory),
@@ -43,77 +41,57 @@ impl<'a, 'b> Work<LinePart<'b>, Gathered> for PartReading<'a> {
     }
 }
 
-/// Reads a statistics file as `read_stats` does, by parts of it side by side.
+// For how many rows of so many bytes there is room ahead. Beside other parts it is for all that
+// there can be: a list that grows leaves what it had, and room that is not used costs nothing.
+fn room_for(size: usize, is_alone: bool) -> usize {
+    if is_alone {
+        usual_rows(size)
+    } else {
+        (size / LEAST_LINE).min(MOST)
+    }
+}
+
+/// Puts what some lines of a file say to what those before them say.
 ///
-/// A file of at most `LEAST_PART` bytes is read on the calling thread, and so is each where there
-/// is one piece. A long file has more parts than there are pieces, so that what is found in a part
-/// is soon put to the rest. Whether it has too many delegations is asked once all are read.
-pub fn read_stats_by_parts<R: Threads + Sync, G: Gate>(
+/// Few bytes are read on the calling thread, and so are all where there is one piece.
+pub(crate) fn read_side_by_side<R: Threads + Sync, G: Gate>(
     forks: &Forks<R, G>,
     slot: &str,
-    bytes: &[u8],
-) -> Result<Stats, SourceFault>
-    ensures read { IfOk result (λ found. found ≡ stats slot.now bytes.now) }
-    ensures within { IfOk result (λ found. length found.rows ≤ most) }
-    ensures too_long { (result ≡ Err SourceFault.TooLong) ↔ (longest < length bytes.now) }
-    ensures too_many { result ≡ Err SourceFault.TooMany → most < length (rows slot.now bytes.now) }
-{
-    if bytes.len() <= LEAST_PART || forks.pieces == 1 {
-        return read_stats(forks.alloc, slot, bytes);
-    }
-    if bytes.len() > LONGEST_STATS {
-        return Err(SourceFault::TooLong);
-    }
-    let all = found_by_parts(forks, slot, bytes)?;
-    if all.rows.len() > MOST {
-        return Err(SourceFault::TooMany);
-    }
-    let slot = Text::of(forks.alloc, slot)?;
-    Ok(Stats {
-        slot,
-        rows: List::of(all.rows),
-        notes: List::of(all.notes),
-    })
-}
-
-// What the parts of a file say, read side by side.
-fn found_by_parts<R: Threads + Sync, G: Gate>(
-    forks: &Forks<R, G>,
-    slot: &str,
-    bytes: &[u8],
-) -> Result<Gathered, Memory>
-    ensures rows { IfOk result (λ all. all.rows.items ≡ rows slot.now bytes.now) }
-    ensures notes { IfOk result (λ all. all.notes.items ≡ notes bytes.now) }
-{
-    let size = part_size(bytes.len(), forks.pieces as usize);
-    let parts = parts_of(forks.alloc, bytes, size)?;
-    let mut all = gathered_with_room(forks.alloc, usual_rows(bytes.len()))?;
-    read_left(forks, slot, parts.as_slice(), &mut all)?;
-    Ok(all)
-}
-
-// Puts what is found in the parts that are left to what was found in those before.
-fn read_left<R: Threads + Sync, G: Gate>(
-    forks: &Forks<R, G>,
-    slot: &str,
-    left: &[LinePart],
+    lines: LinePart,
     all: &mut Gathered,
 ) -> Result<(), Memory>
     ensures rows { OnOk result
-        (all.new.rows.items ≡ all.old.rows.items ++ rows_of slot.now left.now) }
-    ensures notes { OnOk result (all.new.notes.items ≡ all.old.notes.items ++ notes_of left.now) }
+        (all.new.rows.items ≡ all.old.rows.items ++ rows_in slot.now lines.entry) }
+    ensures notes { OnOk result
+        (all.new.notes.items ≡ all.old.notes.items ++ notes_in lines.entry) }
 {
-    if left.is_empty() {
-        return Ok(());
+    all.rows.reserve(usual_rows(lines.text.len()))?;
+    if lines.text.len() <= LEAST_PART || forks.pieces == 1 {
+        return read_here(forks.alloc, slot, lines, all);
     }
-    let (some, rest) = first_parts(left, forks.pieces as usize);
-    read_some(forks, slot, some, all)?;
-    read_left(forks, slot, rest, all)?;
-    Ok(())
+    let size = part_size(lines.text.len(), forks.pieces as usize);
+    let parts = cut_part(forks.alloc, lines, size)?;
+    read_parts(forks, slot, parts.as_slice(), all)
+}
+
+// Puts what lines say, read on the calling thread, to what was found in those before.
+fn read_here(alloc: Global, slot: &str, lines: LinePart, all: &mut Gathered) -> Result<(), Memory>
+    ensures rows { OnOk result
+        (all.new.rows.items ≡ all.old.rows.items ++ rows_in slot.now lines.entry) }
+    ensures notes { OnOk result
+        (all.new.notes.items ≡ all.old.notes.items ++ notes_in lines.entry) }
+{
+    let work = PartReading {
+        alloc,
+        slot,
+        is_alone: true,
+    };
+    let found = work.done(&lines)?;
+    put(found, all)
 }
 
 // Puts what is found in parts, each read by a piece, to what was found in those before.
-fn read_some<R: Threads + Sync, G: Gate>(
+fn read_parts<R: Threads + Sync, G: Gate>(
     forks: &Forks<R, G>,
     slot: &str,
     parts: &[LinePart],
@@ -126,6 +104,7 @@ fn read_some<R: Threads + Sync, G: Gate>(
     let work = PartReading {
         alloc: forks.alloc,
         slot,
+        is_alone: false,
     };
     let found = map_pieces(
         forks.rt,

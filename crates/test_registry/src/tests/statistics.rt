@@ -5,7 +5,7 @@ use first_index::plain::{AllSources, spoken_at};
 use geo_addr::Addr;
 use geo_outside::OpenGate;
 use geo_terms::{Delegation, LineNote, Stats};
-use nro_stats::{read_stats, read_stats_by_parts};
+use nro_stats::{StatsReader, read_stats};
 use std::alloc::Global;
 use std::marker::Sync;
 use std::mem::drop;
@@ -258,6 +258,18 @@ fn count_of_notes(notes: &[LineNote]) -> (usize, u64) {
     }
 }
 
+// Gives a reader a file in two pieces, the first of which ends within a line.
+fn feed_both<R: Threads + Sync>(
+    forks: &Forks<R, OpenGate>,
+    reader: &mut StatsReader,
+    file: &[u8],
+) -> Result<(), Fail> {
+    let (first, rest) = file.split_at(file.len() - file.len() / 17);
+    reader.feed(forks, first)?;
+    reader.feed(forks, rest)?;
+    Ok(())
+}
+
 fn read_by_parts<R: Threads + Sync>(rt: &R, alloc: Global, file: &[u8]) -> Result<Stats, Fail> {
     let forks = Forks {
         rt,
@@ -265,15 +277,22 @@ fn read_by_parts<R: Threads + Sync>(rt: &R, alloc: Global, file: &[u8]) -> Resul
         gate: &OpenGate,
         pieces: 4,
     };
-    Ok(read_stats_by_parts(&forks, "x", file)?)
+    let mut reader = StatsReader::new(alloc, "x")?;
+    match feed_both(&forks, &mut reader, file) {
+        Ok(()) => Ok(reader.finish(&forks)?),
+        Err(why) => {
+            drop(reader);
+            Err(why)
+        }
+    }
 }
 
-// Of 20,000 times two lines, which is cut into parts, the counts of delegations and of notes.
+// Of 40,000 times two lines, which are read in rounds, the counts of delegations and of notes.
 fn counts_by_parts<R: Threads + Sync>(
     rt: &R,
     alloc: Global,
 ) -> Result<((usize, u64), (usize, u64)), Fail> {
-    let file = made_lines(alloc, 20_000)?;
+    let file = made_lines(alloc, 40_000)?;
     let read = read_by_parts(rt, alloc, file.as_slice());
     drop(file);
     let stats = read?;
@@ -284,9 +303,9 @@ fn counts_by_parts<R: Threads + Sync>(
 }
 
 #[test]
-fn a_file_by_parts(rt: HostRuntime) -> Result<(), Fail> {
+fn a_file_in_pieces(rt: HostRuntime) -> Result<(), Fail> {
     let (rows, notes) = counts_by_parts(&rt, rt.alloc())?;
-    assert_eq!(rt; rows, (20_000, 39_999));
-    assert_eq!(rt; notes, (20_000, 40_000));
+    assert_eq!(rt; rows, (40_000, 79_999));
+    assert_eq!(rt; notes, (40_000, 80_000));
     Ok(())
 }

@@ -1,7 +1,7 @@
 -- What was found in the parts is what they say.
 use Rattle.std.proofs.Common.{◌++◌, ◌∙◌, ap}
 use Rattle.nro_stats.proofs.PartLemmas.{notes_by_parts, rows_by_parts}
-use Rattle.nro_stats.proofs.parts.read_some.Goals as goal
+use Rattle.nro_stats.proofs.parts.read_parts.Goals as goal
 
 pub returns-clause-rows : goal.returns-clause-rows
 returns-clause-rows g c =
