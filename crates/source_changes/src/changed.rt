@@ -9,12 +9,14 @@ ghost use Rattle.source_changes.specs.Sorting.{range_cmp, whole_cmp};
 ghost use Rattle.source_changes.specs.Touched.{ground_of};
 
 use crate::compared::Compared;
+use crate::ground_list::GroundList;
 use geo_addr::{Memory, Range};
 use geo_terms::Statement;
 use std::alloc::Global;
 use std::cmp::Ordering;
 
 /// The grounds of the statements of two lists that have no partner in the other one, in any order.
+/// They are packed at once, since there may be as many as there are statements.
 ///
 /// What both lists begin with, what both end with, and what is the same at the same index between
 /// these is passed over first, so where a few lines of a long file changed nothing long is sorted.
@@ -22,12 +24,12 @@ pub fn changed_grounds<S: Compared>(
     alloc: Global,
     old: &[S],
     new: &[S],
-) -> Result<Vec<Range>, Memory>
+) -> Result<GroundList, Memory>
     ensures { IfOk result (λ grounds. IsPermutation
-        (map (λ x. ground_of (S.range x)) (changed S.same old.now new.now)) grounds.items) }
+        (map (λ x. ground_of (S.range x)) (changed S.same old.now new.now)) grounds) }
 {
     let (old, new) = trimmed(old, new);
-    let mut grounds = Vec::new(alloc);
+    let mut grounds = GroundList::new(alloc);
     if old.is_empty() {
         push_all(&mut grounds, new)?;
         return Ok(grounds);
@@ -169,11 +171,11 @@ fn compare_borrowed<S: Compared>(x: &&S, y: &&S) -> Ordering
 
 // One pass over both lists in order: the grounds of those that stand in one of them alone.
 fn push_differing<S: Compared>(
-    grounds: &mut Vec<Range>,
+    grounds: &mut GroundList,
     old: &[&S],
     new: &[&S],
 ) -> Result<(), Memory>
-    ensures { OnOk result (grounds.new.items ≡ grounds.old.items
+    ensures { OnOk result (grounds.new ≡ grounds.old
         ++ map (λ x. ground_of (S.range x)) (differing (whole_cmp S.range S.rest)
         (map (λ s. s.now) old.entry.now) (map (λ s. s.now) new.entry.now))) }
 {
@@ -200,9 +202,9 @@ fn push_differing<S: Compared>(
     Ok(())
 }
 
-fn push_rest<S: Compared>(grounds: &mut Vec<Range>, statements: &[&S]) -> Result<(), Memory>
-    ensures { OnOk result (grounds.new.items
-        ≡ grounds.old.items ++ map (λ x. ground_of (S.range x.now)) statements.entry.now) }
+fn push_rest<S: Compared>(grounds: &mut GroundList, statements: &[&S]) -> Result<(), Memory>
+    ensures { OnOk result (grounds.new
+        ≡ grounds.old ++ map (λ x. ground_of (S.range x.now)) statements.entry.now) }
 {
     for statement in statements {
         grounds.push(ground_of(statement.range()))?;
@@ -210,9 +212,9 @@ fn push_rest<S: Compared>(grounds: &mut Vec<Range>, statements: &[&S]) -> Result
     Ok(())
 }
 
-fn push_all<S: Compared>(grounds: &mut Vec<Range>, statements: &[S]) -> Result<(), Memory>
+fn push_all<S: Compared>(grounds: &mut GroundList, statements: &[S]) -> Result<(), Memory>
     ensures { OnOk result
-        (grounds.new.items ≡ grounds.old.items ++ map (λ x. ground_of (S.range x)) statements.now) }
+        (grounds.new ≡ grounds.old ++ map (λ x. ground_of (S.range x)) statements.now) }
 {
     grounds.reserve(statements.len())?;
     for statement in statements {

@@ -56,15 +56,12 @@ impl GroundList {
         }
     }
 
-    /// The list of these grounds.
-    pub fn of(alloc: Global, grounds: &[Range]) -> Result<GroundList, Memory>
-        ensures { IfOk result (λ list. list ≡ grounds.now) }
+    /// Takes room ahead for so many more grounds of IPv4 addresses.
+    pub(crate) fn reserve(&mut self, more: usize) -> Result<(), Memory>
+        ensures { self.new ≡ self.old }
     {
-        let mut list = GroundList::new(alloc);
-        for ground in grounds {
-            list.push(*ground)?;
-        }
-        Ok(list)
+        self.packed.reserve(more)?;
+        Ok(())
     }
 
     /// Puts a ground behind the others.

@@ -70,8 +70,7 @@ pub(crate) fn add_changed<S: Compared>(
     ensures err { OnErr result (touched.new ≡ touched.old) }
 {
     let before = touched.len();
-    let grounds = changed_grounds(alloc, old, new)?;
-    let more = GroundList::of(alloc, grounds.as_slice())?;
+    let more = changed_grounds(alloc, old, new)?;
     touched.append(more)?;
     Ok(before)
 }

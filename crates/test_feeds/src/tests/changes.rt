@@ -3,7 +3,7 @@ use crate::tests::{feeds, overrides};
 use geo_addr::{Range, Text};
 use geo_terms::{Delegation, Reference, Stats};
 use nro_stats::read_stats;
-use source_changes::{Compared, changed_grounds, keep_all};
+use source_changes::{Compared, GroundList, changed_grounds, keep_all};
 use std::alloc::Global;
 use std::test::Fail;
 
@@ -79,9 +79,13 @@ fn references(alloc: Global, rows: &[Row]) -> Result<Vec<Reference>, Fail> {
 // The first and the last address of grounds, and how many there are of these.
 type Grounds = (u128, u128, usize);
 
-fn count_of(grounds: &[Range], wanted: &Grounds) -> usize {
+fn count_of(grounds: &GroundList, wanted: &Grounds) -> usize {
     let mut count = 0usize;
-    for ground in grounds {
+    let mut left = grounds.all();
+    for _ in 0..grounds.len() {
+        let Some(ground) = left.take() else {
+            return count;
+        };
         if ground.first == wanted.0 && ground.last == wanted.1 {
             count = count.wrapping_add(1);
         }
@@ -90,7 +94,7 @@ fn count_of(grounds: &[Range], wanted: &Grounds) -> usize {
 }
 
 // Whether these are the grounds, and no others.
-fn are_those(grounds: &[Range], wanted: &[Grounds]) -> bool {
+fn are_those(grounds: &GroundList, wanted: &[Grounds]) -> bool {
     let mut left = grounds.len();
     for row in wanted {
         if count_of(grounds, row) != row.2 {
@@ -109,7 +113,7 @@ fn differ<S: Compared>(
     wanted: &[Grounds],
 ) -> Result<bool, Fail> {
     let grounds = changed_grounds(alloc, old, new)?;
-    Ok(are_those(grounds.as_slice(), wanted))
+    Ok(are_those(&grounds, wanted))
 }
 
 type PartnerRow = (&'static [Row], &'static [Row], &'static [Grounds]);

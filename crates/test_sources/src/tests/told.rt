@@ -149,7 +149,8 @@ const WHOLE: Range = Range {
 /// The ends of the segments of a range, and what is said on each.
 pub fn segments(alloc: Global, sources: &Sources, range: &str) -> Option<String> {
     let range = parse_span(range.as_bytes()).ok()?;
-    let touched = GroundList::of(alloc, &[range]).ok()?;
+    let mut touched = GroundList::new(alloc);
+    touched.push(range).ok()?;
     let segments = sources.segments_in(&touched, WHOLE).ok()?;
     let mut text = String::new(alloc);
     push_segments(alloc, sources, segments.as_slice(), &mut text)?;

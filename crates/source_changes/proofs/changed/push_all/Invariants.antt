@@ -4,5 +4,5 @@ use Rattle.source_changes.proofs.changed.push_all.Given as goal
 
 abbrev pub invariant-loop-statement : goal.invariant-loop-statement
 invariant-loop-statement g l =
-    l.grounds.items ≡ l.fn.grounds.items ++ map (λ x. ground_of (g.S.Statement.range x))
+    l.grounds ≡ l.fn.grounds ++ map (λ x. ground_of (g.S.Statement.range x))
     (take l.statement-index l.statements)

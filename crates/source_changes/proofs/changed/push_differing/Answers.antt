@@ -15,10 +15,10 @@ returns g c =
     ] in
     rest_is (whole_cmp g.S.Statement.range g.S.Compared.rest)
     (λ x. ground_of (g.S.Statement.range x)) c.args.old.now c.args.new.now c.loop-i.i c.loop-i.j
-    c.loop-i.grounds.items c.push_rest.new.grounds.items c.push_rest-2.new.grounds.items _ ended
-    (c.in_ok-push_rest.ensures ∙ ap (λ rs. c.loop-i.grounds.items ++ map (λ (r : Bor g.row.S.Denot).
+    c.loop-i.grounds c.push_rest.new.grounds c.push_rest-2.new.grounds _ ended
+    (c.in_ok-push_rest.ensures ∙ ap (λ rs. c.loop-i.grounds ++ map (λ (r : Bor g.row.S.Denot).
     ground_of (g.S.Statement.range r.now)) rs) (rest_all c.loop-i.i c.args.old.now))
-    (c.in_ok-push_rest-2.ensures ∙ ap (λ rs. c.push_rest.new.grounds.items
+    (c.in_ok-push_rest-2.ensures ∙ ap (λ rs. c.push_rest.new.grounds
     ++ map (λ (r : Bor g.row.S.Denot). ground_of (g.S.Statement.range r.now)) rs)
     (rest_all c.loop-i.j c.args.new.now))
     c.loop-i.invariant.found

@@ -10,10 +10,10 @@ invariant-loop-i g l = record {
   in_old : l.i ≤ length l.old;
   in_new : l.j ≤ length l.new;
   found :
-      l.grounds.items ++ map (λ x. ground_of (g.S.Statement.range x))
+      l.grounds ++ map (λ x. ground_of (g.S.Statement.range x))
       (left (whole_cmp g.S.Statement.range g.S.Compared.rest)
       (λ x. ground_of (g.S.Statement.range x)) l.old l.new l.i l.j)
-      ≡ l.fn.grounds.items ++ map (λ x. ground_of (g.S.Statement.range x)) (differing (whole_cmp
+      ≡ l.fn.grounds ++ map (λ x. ground_of (g.S.Statement.range x)) (differing (whole_cmp
       g.S.Statement.range g.S.Compared.rest) (map (λ s. s.now) l.old) (map (λ s. s.now) l.new));
 }
 
