@@ -185,32 +185,19 @@ fn nested_in_some_order<S: Statement>(
     if found.is_some() {
         return Ok(found);
     }
-    put_outer_first(alloc, indexed)?;
+    put_outer_first(indexed)?;
     nested_of(alloc, indexed.as_slice())
 }
 
 // Puts statements in the order in which their grounds begin, the largest first of those that begin
-// at one address.
-fn put_outer_first<S: Statement>(
-    alloc: Global,
-    indexed: &mut Vec<(usize, &S)>,
-) -> Result<(), Memory>
+// at one address. A list of few runs that ascend is sorted by joining them, any other in place.
+fn put_outer_first<S: Statement>(indexed: &mut Vec<(usize, &S)>) -> Result<(), Memory>
     ensures { IsPermutation indexed.old.items indexed.new.items }
 {
-    let mut keyed = keyed(alloc, indexed.as_slice())?;
-    sort_outer_first(&mut keyed)?;
-    *indexed = unkeyed(alloc, keyed.as_slice())?;
-    Ok(())
-}
-
-// A file of few runs that ascend is sorted by joining them, and any other in place.
-fn sort_outer_first<S: Statement>(keyed: &mut Vec<(u128, (usize, &S))>) -> Result<(), Memory>
-    ensures { IsPermutation keyed.old.items keyed.new.items }
-{
-    if falls(keyed.as_slice()) < keyed.len() / RUN {
-        keyed.sort_by(|x, y| outer_first(x, y))?;
+    if falls(indexed.as_slice()) < indexed.len() / RUN {
+        indexed.sort_by(|x, y| outer_first(x, y))?;
     } else {
-        keyed.sort_unstable_by(|x, y| outer_first(x, y));
+        indexed.sort_unstable_by(|x, y| outer_first(x, y));
     }
     Ok(())
 }
@@ -219,47 +206,21 @@ fn sort_outer_first<S: Statement>(keyed: &mut Vec<(u128, (usize, &S))>) -> Resul
 const RUN: usize = 32;
 
 // How often a ground begins before the one in front of it.
-fn falls<S>(keyed: &[(u128, (usize, &S))]) -> usize {
+fn falls<S: Statement>(indexed: &[(usize, &S)]) -> usize {
     let mut count: usize = 0;
-    for at in 1..keyed.len() {
-        if keyed[at].0 < keyed[at - 1].0 {
+    for at in 1..indexed.len() {
+        if outer_first(&indexed[at], &indexed[at - 1]).is_lt() {
             count = count.saturating_add(1);
         }
     }
     count
 }
 
-// Statements, each beside where its ground begins, so that the sort reads few of them.
-fn keyed<'a, S: Statement>(
-    alloc: Global,
-    indexed: &[(usize, &'a S)],
-) -> Result<Vec<(u128, (usize, &'a S))>, Memory>
-    ensures { IfOk result (λ keyed. map (λ x. x.1) keyed.items ≡ indexed.entry.now) }
-{
-    let mut keyed = Vec::with_capacity(alloc, indexed.len())?;
-    for statement in indexed {
-        keyed.push((statement.1.range().ground_first(), *statement))?;
-    }
-    Ok(keyed)
-}
-
-fn unkeyed<'a, S>(
-    alloc: Global,
-    keyed: &[(u128, (usize, &'a S))],
-) -> Result<Vec<(usize, &'a S)>, Memory>
-    ensures { IfOk result (λ indexed. indexed.items ≡ map (λ x. x.1) keyed.entry.now) }
-{
-    let indexed = keyed
-        .iter()
-        .map(|(_, statement)| *statement)
-        .collect(alloc)?;
-    Ok(indexed)
-}
-
 // Grounds ascend, and of those that begin at one address the largest comes first.
-fn outer_first<S: Statement>(x: &(u128, (usize, &S)), y: &(u128, (usize, &S))) -> Ordering {
-    match x.0.cmp(&y.0) {
-        Ordering::Equal => y.1.1.range().last.cmp(&x.1.1.range().last),
+fn outer_first<S: Statement>(x: &(usize, &S), y: &(usize, &S)) -> Ordering {
+    let (x, y) = (x.1.range(), y.1.range());
+    match x.ground_first().cmp(&y.ground_first()) {
+        Ordering::Equal => y.last.cmp(&x.last),
         apart => apart,
     }
 }
