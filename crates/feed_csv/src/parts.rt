@@ -18,8 +18,9 @@ use std::thread::Threads;
 /// The least bytes of a part before others: a feed of at most so many is one part.
 pub const FEED_PART: usize = LEAST_PART;
 
-/// For each so many bytes of a part room for one entry is taken ahead; hardly a line is shorter.
-const LEAST_LINE: usize = 8;
+/// For each so many bytes of a part room for one entry is taken ahead; most lines are longer. Room
+/// for more would be so large that the C library asks the system for it anew at each part.
+const LEAST_LINE: usize = 20;
 
 /// Work that reads the lines of a part of a feed.
 #[derive(Drop)]
