@@ -4,7 +4,7 @@ ghost use Rattle.csv_lines.specs.Tails.{IsTail};
 
 use crate::tails::{LineCut, mark_of};
 use geo_addr::Memory;
-use geo_terms::Place;
+use geo_terms::{Place, same_bytes};
 use std::alloc::Global;
 use std::marker::Model;
 use std::mem;
@@ -55,7 +55,7 @@ impl OwnTail {
     fn place_of(&self, cut: &LineCut) -> Option<&Place>
         ensures { IfSome result (λ place. IsTail cut.now.tail place.now) }
     {
-        if self.text.as_slice() == cut.tail {
+        if same_bytes(self.text.as_slice(), cut.tail) {
             Some(&self.place)
         } else {
             None

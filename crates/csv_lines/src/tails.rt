@@ -5,7 +5,7 @@ ghost use Rattle.csv_lines.specs.Tails.{IsCut, IsTail, SaysBare, is_word};
 
 use crate::known::{KnownTails, OwnTail};
 use geo_addr::{Memory, trim_blanks};
-use geo_terms::{Place, mixed};
+use geo_terms::{Place, mixed, same_bytes};
 use std::alloc::Global;
 use std::collections::BTreeMap;
 use std::marker::Model;
@@ -101,7 +101,7 @@ impl<'a> Tail<'a> {
     fn place_of(&self, cut: &LineCut) -> Option<&Place>
         ensures { IfSome result (λ place. IsTail cut.now.tail place.now) }
     {
-        if self.text == cut.tail {
+        if same_bytes(self.text, cut.tail) {
             Some(&self.place)
         } else {
             None

@@ -8,6 +8,7 @@ mod note;
 mod order;
 mod place;
 mod places;
+mod same;
 mod source;
 mod statement;
 
@@ -18,5 +19,6 @@ pub use place::{Place, PlaceFault, Said};
 pub use places::fields::{country_place, place_in, place_of};
 pub use places::texts::{Texts, mixed};
 pub use places::{Places, PlacesFault};
+pub use same::same_bytes;
 pub use source::{Dump, Feed, Overrides, SourceFault, Stats};
 pub use statement::{Delegation, Entry, Override, Reference};

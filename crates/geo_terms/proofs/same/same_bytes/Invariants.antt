@@ -1,7 +1,7 @@
 use Rattle.std.proofs.Common.{◌≡◌, length}
 use Rattle.geo_terms.proofs.SameLemmas.{AreBytes}
 use Rattle.geo_terms.specs.PlaceForm.{same_text}
-use Rattle.geo_terms.proofs.place.joined.same_bytes.Given as goal
+use Rattle.geo_terms.proofs.same.same_bytes.Given as goal
 
 abbrev pub invariant-loop-one : goal.invariant-loop-one
 invariant-loop-one l =

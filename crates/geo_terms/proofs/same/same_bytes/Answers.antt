@@ -1,7 +1,7 @@
 -- The same number is the same eight bytes.
 use Rattle.geo_terms.proofs.SameLemmas.{later_bytes, same_past_word}
 use Rattle.std.proofs.Common.{◌∙◌}
-use Rattle.geo_terms.proofs.place.joined.same_bytes.Goals as goal
+use Rattle.geo_terms.proofs.same.same_bytes.Goals as goal
 
 pub loop-one-preserved : goal.loop-one-preserved
 loop-one-preserved c =
