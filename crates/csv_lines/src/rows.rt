@@ -70,6 +70,8 @@ pub fn reader_of(alloc: Global, handed: &[u8]) -> Option<Reader<&[u8]>>
     }
 }
 
+// Were it inlined, its tables would be cleared for each file, also for those without a quote.
+#[inline(never)]
 fn new_reader(alloc: Global, handed: &[u8]) -> Reader<&[u8]>
     ensures { (left : List ℕ) → handed.now ≡ 10 ∷ left → Stands (λ s. Some s.now) result left }
 {
