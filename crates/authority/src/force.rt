@@ -67,6 +67,7 @@ impl Authority {
     ghost use Rattle.geo_terms.specs.SlotOrder.{AreInOrder};
     ghost use Rattle.source_changes.specs.Changes.{DropDump, DropFeed, SetDump, SetFeed, after};
     ghost use Rattle.source_changes.specs.Changes.{named};
+    ghost use Rattle.source_changes.specs.Placing.{all_placed};
     ghost use Rattle.authority.specs.Held.{AreSpeakers, IsHeard, slot_of, url_of};
     ghost use Rattle.authority.specs.declared.fault.DropFault.{DropFault};
 
@@ -144,6 +145,21 @@ impl Authority {
         let old = shelf::put(&mut self.feeds, feed)?;
         self.voices = None;
         Ok(feed_alone(old))
+    }
+
+    /// Sets feeds that are ready and stand in the order of their URLs, each of which replaces the
+    /// one with the same URL.
+    ///
+    /// After `Memory` the given feeds are dropped.
+    pub fn set_ready_feeds(&mut self, feeds: Vec<ReadyFeed>) -> Result<(), Memory>
+        requires { AreInOrder url_of feeds.items }
+        ensures sources { OnOk result (self.new
+            ≡ record self.old { feeds = all_placed url_of feeds.items self.old.feeds }) }
+        ensures err { OnErr result (self.new ≡ self.old) }
+    {
+        shelf::put_all(&mut self.feeds, feeds)?;
+        self.voices = None;
+        Ok(())
     }
 
     /// Takes the feed of a URL out of force, and hands it back. It takes no memory.

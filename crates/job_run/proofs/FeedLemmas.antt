@@ -15,7 +15,7 @@ use Rattle.geo_outside.specs.Files.{Told}
 use Rattle.geo_terms.specs.SourceForm.{FeedParts}
 use Rattle.source_changes.specs.Changes.{SetFeed}
 use Rattle.update_session.specs.Kept.{Held as Session}
-use Rattle.update_session.specs.Calls.{HasChanged}
+use Rattle.update_session.specs.Calls.{HaveChanged}
 use Rattle.update_session.specs.Standing.{Standing, Stands, StandingStays, changed}
 use Rattle.update_session.specs.State.{State}
 use Rattle.job_lines.specs.declared.act.Act.{Act}
@@ -254,18 +254,14 @@ within_group steps helds why at some long (inl refused) = let p =
     slice_get_within helds at refused.item refused.named in omega (arith, p, long)
 within_group steps helds why at some long (inr out) = let p = out.1 in omega (arith, p, some)
 
--- feeds that are set one after another
-pub with_feeds-push : (fs : List FeedParts) (found : FeedParts) (w : Standing)
-    → with_feeds (fs ++ found ∷ []) w ≡ changed (SetFeed found) (with_feeds fs w)
-with_feeds-push [] found w = refl
-with_feeds-push (f ∷ fs) found w = with_feeds-push fs found (changed (SetFeed f) w)
-
-pub one_more_set : (stays : StandingStays) (fs : List FeedParts) (found : FeedParts) (w : Standing)
-    (old new : Session) → Stands old (with_feeds fs w) → HasChanged (SetFeed found) old new
-    → Stands new (with_feeds (fs ++ found ∷ []) w)
-one_more_set stays fs found w old new stands has =
-    subst (Stands new) (sym (with_feeds-push fs found w))
-    (stays.changes (SetFeed found) old new (with_feeds fs w) stands has)
+-- feeds that were set one after another
+pub all_were_set : StandingStays → (fs : List FeedParts) (w : Standing) (old new : Session)
+    → Stands old w → HaveChanged (map SetFeed fs) old new → Stands new (with_feeds fs w)
+all_were_set stays [] w old new stands same = subst (λ s. Stands s w) (sym same) stands
+all_were_set stays (f ∷ fs) w old new stands has =
+    let (mid, one, rest) = has in
+    all_were_set stays fs (changed (SetFeed f) w) mid new
+    (stays.changes (SetFeed f) old mid w stands one) rest
 
 -- moves that change nothing
 module _ (world : World) where

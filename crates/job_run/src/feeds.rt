@@ -444,8 +444,6 @@ fn set_all(feeds: Vec<ReadyFeed>, session: &mut Session) -> Result<(), Memory>
         → OnOk result (Stands session.new (with_feeds feeds.items w)) }
 {
     standing_stays();
-    for feed in feeds {
-        session.set_ready_feed(feed)?;
-    }
+    session.set_ready_feeds(feeds)?;
     Ok(())
 }

@@ -74,6 +74,7 @@ impl Sources {
     ghost use Rattle.source_changes.specs.Changes.{SetDump, SetFeed, SetOverrides, SetStats};
     ghost use Rattle.source_changes.specs.Changes.{after, named};
     ghost use Rattle.source_changes.specs.CutPoints.{AreCutsOf, whole};
+    ghost use Rattle.source_changes.specs.Placing.{all_placed};
     ghost use Rattle.cut_segments.specs.CutPoints.{AreCutsInside};
     ghost use Rattle.precedence.specs.Chunks.{AreChunks, ArePieces, AreSegmentsIn, none_spared};
     ghost use Rattle.precedence.specs.CutPoints.{IsConstantBetween};
@@ -142,6 +143,19 @@ impl Sources {
         ensures err { OnErr result (self.new ≡ self.old) }
     {
         self.authority.set_ready_feed(feed)
+    }
+
+    /// Puts feeds that are ready and stand in the order of their URLs over those with the same
+    /// URLs.
+    ///
+    /// After `Memory` the given feeds are dropped.
+    pub fn set_ready_feeds(&mut self, feeds: Vec<ReadyFeed>) -> Result<(), Memory>
+        requires { AreInOrder url_of feeds.items }
+        ensures sources { OnOk result (self.new
+            ≡ record self.old { feeds = all_placed url_of feeds.items self.old.feeds }) }
+        ensures err { OnErr result (self.new ≡ self.old) }
+    {
+        self.authority.set_ready_feeds(feeds)
     }
 
     /// Takes the feed of a URL out of force, and hands it back. It takes no memory.

@@ -7,6 +7,7 @@ pub mod Merges
 pub mod Orders
 pub mod PackingLemmas
 pub mod PassingLemmas
+pub mod PlacingLemmas
 pub mod Paired
 pub mod Partners
 pub mod Several
@@ -15,4 +16,5 @@ pub mod Statements
 pub mod Stays
 pub mod Swaps
 pub mod Ties
+pub mod Together
 pub mod Views

@@ -6,6 +6,7 @@ pub mod Laws
 pub mod Merging
 pub mod Packing
 pub mod Passing
+pub mod Placing
 pub mod SameStatement
 pub mod Sorting
 pub mod Touched

@@ -1,5 +1,6 @@
 //! Named things of one kind in the order of their names.
-ghost use Rattle.std.specs.Prelude.{◌≡◌, ◌<◌, ℕ, List, find, length, IfOk, IsTrue, Ok, OnOk, OnErr};
+ghost use Rattle.std.specs.Prelude.{◌≡◌, ◌<◌, ◌≤◌, ℕ, List, drop, find, length, take};
+ghost use Rattle.std.specs.Prelude.{IfOk, IsTrue, Ok, OnOk, OnErr};
 ghost use Rattle.std.specs.Prelude.{None, Some, option_and_then, remove, slice_get, slice_set};
 ghost use Rattle.std.specs.Arc.{arc_value};
 ghost use Rattle.std.specs.List.Sorted.{IsBinarySearchResult, IsSearchInRange};
@@ -7,6 +8,7 @@ ghost use Rattle.std.specs.Option.{option_copied};
 ghost use Rattle.geo_terms.specs.PlaceForm.{same_text};
 ghost use Rattle.geo_terms.specs.Precedence.{text_cmp};
 ghost use Rattle.geo_terms.specs.SlotOrder.{AreInOrder, placed, removed};
+ghost use Rattle.source_changes.specs.Placing.{AreApart, HaveTurned, IsPutOver, all_placed};
 
 use geo_addr::Memory;
 use geo_terms::{Dump, Stats};
@@ -111,6 +113,25 @@ pub fn put<T: Named + Drop>(shelf: &mut Vec<T>, thing: T) -> Result<Option<T>, M
     }
 }
 
+/// Puts things among the others, each in place of the one of its name. Those behind where one
+/// belongs move once for all of them.
+///
+/// After `Memory` they are dropped.
+pub fn put_all<T: Named + Drop>(shelf: &mut Vec<T>, things: Vec<T>) -> Result<(), Memory>
+    requires shelf { AreInOrder T.name shelf.old.items }
+    requires things { AreInOrder T.name things.items }
+    ensures new { OnOk result (shelf.new.items ≡ all_placed T.name things.items shelf.old.items) }
+    ensures order { AreInOrder T.name shelf.new.items }
+    ensures err { OnErr result (shelf.new.items ≡ shelf.old.items) }
+{
+    let count = shelf.len();
+    let mut things = things;
+    shelf.append(&mut things)?;
+    put_over(shelf, count);
+    put_between(shelf, count);
+    Ok(())
+}
+
 /// Takes the thing of a name out, and hands it back. It takes no memory.
 pub fn take<T: Named + Drop>(shelf: &mut Vec<T>, name: &str) -> Option<T>
     requires { AreInOrder T.name shelf.old.items }
@@ -126,6 +147,58 @@ pub fn take<T: Named + Drop>(shelf: &mut Vec<T>, name: &str) -> Option<T>
         }
         Err(_) => None,
     }
+}
+
+// Puts those behind so many things over the ones of their names among these. The others stay
+// behind.
+fn put_over<T: Named + Drop>(shelf: &mut Vec<T>, count: usize)
+    requires count { count ≤ length shelf.old.items }
+    requires shelf { AreInOrder T.name (take count shelf.old.items) }
+    requires things { AreInOrder T.name (drop count shelf.old.items) }
+    ensures { IsPutOver T.name count shelf.old.items shelf.new.items }
+{
+    let mut at = shelf.len();
+    while count < at {
+        at -= 1;
+        if let Ok(index) = search(&shelf[..count], shelf[at].name()) {
+            let thing = take_at(shelf, at);
+            replace_at(shelf, index, thing);
+        }
+    }
+}
+
+// Puts those behind so many things between these, the last one first. Those that are still to be
+// put stand behind the things that they are put between.
+fn put_between<T: Named + Drop>(shelf: &mut Vec<T>, count: usize)
+    requires count { count ≤ length shelf.old.items }
+    requires shelf { AreInOrder T.name (take count shelf.old.items) }
+    requires things { AreInOrder T.name (drop count shelf.old.items) }
+    requires apart { AreApart T.name (take count shelf.old.items) (drop count shelf.old.items) }
+    ensures { shelf.new.items
+        ≡ all_placed T.name (drop count shelf.old.items) (take count shelf.old.items) }
+{
+    let mut count = count;
+    let mut end = shelf.len();
+    while count < end {
+        match search(&shelf[..count], shelf[end - 1].name()) {
+            Ok(_) => unreachable!(),
+            Err(index) => {
+                turn(shelf, index, count, end);
+                end -= count - index + 1;
+                count = index;
+            }
+        }
+    }
+}
+
+// Lets what stands from `first` and from `middle` on change places.
+fn turn<T>(shelf: &mut Vec<T>, first: usize, middle: usize, end: usize)
+    requires first { first ≤ middle }
+    requires middle { middle ≤ end }
+    requires end { end ≤ length shelf.old.items }
+    ensures { HaveTurned shelf.old.items shelf.new.items first middle end }
+{
+    shelf[first..end].rotate_right(end - middle);
 }
 
 fn replace_at<T: Drop>(shelf: &mut Vec<T>, index: usize, thing: T) -> T

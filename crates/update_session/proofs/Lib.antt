@@ -8,5 +8,6 @@ pub mod KeptLemmas
 pub mod MarkLemmas
 pub mod NumberingLemmas
 pub mod StandingLemmas
+pub mod TogetherLemmas
 pub mod TouchLemmas
 pub mod WriteLemmas

@@ -33,6 +33,17 @@ pub record HasChanged (change : Change) (old new : Held) : Type 0 where
   pub root : new.root ≡ old.root
   pub marks : new.marks ≡ old.marks
 
+-- after several such calls, one after another
+abbrev pub HaveChanged : List Change → (old new : Held) → Type 0
+HaveChanged [] old new = new ≡ old
+HaveChanged (c ∷ cs) old new = (mid : Held) × HasChanged c old mid × HaveChanged cs mid new
+
+-- the grounds that several calls touch: those of one call after those of another
+abbrev pub Touch : List Change → InForce → List Ends → Type 0
+Touch [] s more = more ≡ []
+Touch (c ∷ cs) s more = (first : List Ends) × (rest : List Ends) × (more ≡ first ++ rest)
+    × IsPermutation (changes c s) first × Touch cs (after c s) rest
+
 -- after an emit, whatever its answer: nodes and places were kept,
 -- and no more have come than the touch allows
 pub record HasGrown (old new : Held) : Type 0 where

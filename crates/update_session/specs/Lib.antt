@@ -5,4 +5,5 @@ pub mod Kept
 pub mod Marks
 pub mod Standing
 pub mod State
+pub mod Together
 pub mod Touch

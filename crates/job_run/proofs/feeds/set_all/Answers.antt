@@ -1,8 +1,7 @@
-use Rattle.std.proofs.Common.{rules}
-use Rattle.job_run.proofs.FeedLemmas.{one_more_set}
+use Rattle.job_run.proofs.FeedLemmas.{all_were_set}
 use Rattle.job_run.proofs.feeds.set_all.Goals as goal
 
-pub loop-feed-preserved : goal.loop-feed-preserved
-loop-feed-preserved c w stands =
-    one_more_set c.standing_stays.ensures c.loop-feed.yielded c.in-Some.feed w c.loop-feed.session
-    c.set_ready_feed.new.self (c.loop-feed.invariant w stands) (search rules)
+pub returns : goal.returns
+returns c w stands =
+    all_were_set c.standing_stays.ensures c.args.feeds.items w c.args.session.now
+    c.set_ready_feeds.new.self stands c.in_ok-set_ready_feeds.ensures.ok
