@@ -18,4 +18,5 @@ pub mod Keeps
 pub mod Table
 pub mod PackedReads
 pub mod Appending
+pub mod Nested
 mod PackedVectors

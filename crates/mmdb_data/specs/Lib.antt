@@ -4,6 +4,7 @@ pub mod Spelling
 pub mod Reading
 pub mod View
 pub mod Packing
+pub mod Member
 pub mod FullValues
 pub mod Section
 pub mod Laws

@@ -8,8 +8,10 @@ mod full_values;
 mod kind;
 mod laws;
 mod leaves;
+mod member;
 mod packer;
 mod packing;
+mod packing_members;
 mod reader;
 mod reading;
 mod section;
@@ -23,6 +25,7 @@ pub use fault::{DataCause, DataFault};
 pub use laws::{
     keys_are_texts, packed_at_the_least_offset, packed_reads_back, pointers_read_back, reads_back,
 };
+pub use member::{Around, Member};
 pub use packer::Packer;
 pub use sizes::{LEVELS as MOST_LEVELS, fits};
 pub use value::Value;

@@ -2,12 +2,16 @@
 
 ghost use Rattle.std.specs.Prelude.{◌≡◌, ◌++◌, ℕ, List, length, All, OnOk, OnErr, IfOk, Ok};
 ghost use Rattle.mmdb_data.specs.ValueTree.{ValueTree, CanBeSpelled, CanBePacked, IsWithinLimits};
+ghost use Rattle.mmdb_data.specs.ValueTree.{map as map_tree};
+ghost use Rattle.mmdb_data.specs.Member.{member_list};
 ghost use Rattle.mmdb_data.specs.ValueTree.{IsTyped};
 ghost use Rattle.mmdb_data.specs.Reading.{reads};
 ghost use Rattle.mmdb_data.specs.View.{value_tree};
 ghost use Rattle.mmdb_data.specs.Packing.{nothing_packed, in_full, all_in_full};
 
+use crate::member::Member;
 use crate::packing::append_top;
+use crate::packing_members::append_map;
 use crate::section::Section;
 use crate::value::Value;
 use geo_addr::Memory;
@@ -65,6 +69,27 @@ impl Packer {
             Err(refused) => {
                 self.section.bytes.truncate(len);
                 self.section.full.truncate(count);
+                Err(refused)
+            }
+        }
+    }
+
+    /// Appends the map of these members, and answers the offset at which it stands.
+    ///
+    /// If memory runs out, the section is as it was.
+    pub fn put_map(&mut self, members: &[Member<'_>]) -> Result<u64, Memory>
+        requires { CanBeSpelled (map_tree (member_list members.now)) }
+        ensures packed { OnOk result
+            (self.new ≡ in_full (map_tree (member_list members.now)) self.old) }
+        ensures at { IfOk result (λ at. at ≡ length self.old.bytes) }
+        ensures refused { OnErr result (self.new ≡ self.old) }
+    {
+        let (len, notes) = (self.section.bytes.len(), self.section.full.len());
+        match append_map(&mut self.section, members) {
+            Ok(()) => Ok(len as u64),
+            Err(refused) => {
+                self.section.bytes.truncate(len);
+                self.section.full.truncate(notes);
                 Err(refused)
             }
         }

@@ -276,3 +276,20 @@ short_postal place is =
     let fits = and_parts (nat_le (length place.city) longest)
     (nat_le (length place.postal) longest) is.lengths in
     omega (arith, leb-true (length place.postal) longest fits.1)
+
+-- the value of a place of texts is read again
+pub readable_place : (place : PlaceParts) → IsPlace place → IsUtf8 place.country
+    → IsUtf8 place.region → IsUtf8 place.city → IsUtf8 place.postal
+    → CanBeReadBack (place_value place)
+readable_place place form country region city postal =
+    readable place (record {
+      country = (country, short_country place form);
+      region = (region, short_region place form);
+      city = (city, short_city place form);
+      postal = (postal, short_postal place form);
+    })
+
+pub parts_are : (place : PlaceParts) (country region city postal : List ℕ)
+    → country ≡ place.country → region ≡ place.region → city ≡ place.city → postal ≡ place.postal
+    → record { country = country; region = region; city = city; postal = postal } ≡ place
+parts_are place country region city postal a b c d = rw (a, b, c, d) refl

@@ -2,16 +2,15 @@
 ghost use Rattle.std.specs.Prelude.{◌≡◌, ◌++◌, [], ◌∷◌, length, IfOk, OnOk};
 ghost use Rattle.mmdb_data.specs.ValueTree.{CanBeReadBack};
 ghost use Rattle.mmdb_data.specs.Packing.{in_full};
-ghost use Rattle.mmdb_data.specs.View.{value_tree};
 ghost use Rattle.geo_terms.specs.Numbers.{place_at};
 ghost use Rattle.mmdb_file.specs.FileImage.{answer_value};
 ghost use Rattle.mmdb_file.specs.Section.{Holds, section_of};
 ghost use Rattle.mmdb_file.specs.Writing.{values_of};
 
-use crate::place::place_value;
+use crate::place_members::put_place;
 use geo_addr::Memory;
 use geo_terms::Places;
-use mmdb_data::{Packer, Value};
+use mmdb_data::Packer;
 use std::alloc::Global;
 
 /// A data section, and where each of its values begins.
@@ -49,21 +48,25 @@ fn add(alloc: Global, made: &mut Data, places: &Places, number: u32) -> Result<(
         (made.new.starts.items ≡ made.old.starts.items ++ length made.old.section.bytes ∷ []) }
     ensures readable { OnOk result (CanBeReadBack (answer_value (place_at places.now number))) }
 {
-    let value = value_of(alloc, places, number)?;
-    let start = made.section.put(&value);
-    drop(value);
-    let start = start?;
+    let start = put_answer(alloc, &mut made.section, places, number)?;
     made.starts.push(start)?;
     Ok(())
 }
 
-fn value_of(alloc: Global, places: &Places, number: u32) -> Result<Value, Memory>
-    ensures value { IfOk result
-        (λ value. value_tree value ≡ answer_value (place_at places.now number)) }
-    ensures readable { IfOk result (λ value. CanBeReadBack (value_tree value)) }
+/// Appends the value of the place of this number, and answers the offset at which it stands.
+fn put_answer(
+    alloc: Global,
+    section: &mut Packer,
+    places: &Places,
+    number: u32,
+) -> Result<u64, Memory>
+    ensures packed { OnOk result
+        (section.new ≡ in_full (answer_value (place_at places.now number)) section.old) }
+    ensures at { IfOk result (λ at. at ≡ length section.old.bytes) }
+    ensures readable { OnOk result (CanBeReadBack (answer_value (place_at places.now number))) }
 {
     match places.get(number) {
-        Some(place) => place_value(alloc, place),
-        None => Ok(Value::Map(Vec::new(alloc))),
+        Some(place) => put_place(alloc, section, place),
+        None => section.put_map(&[]),
     }
 }

@@ -10,6 +10,7 @@ mod metadata;
 mod nodes;
 mod numbers;
 mod place;
+mod place_members;
 mod writing;
 
 pub use adopted::Mmdb;

@@ -106,7 +106,7 @@ fn iso_code(alloc: Global, code: &str) -> Result<Value, Memory>
 }
 
 #[tactic(auto, unfolding(crate::specs::PlaceValue::subdivision))]
-fn subdivision(region: &str) -> &str
+pub(crate) fn subdivision(region: &str) -> &str
     ensures { result.now ≡ subdivision_of region.now }
 {
     match region.split_once('-') {

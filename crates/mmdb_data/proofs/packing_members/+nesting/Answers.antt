@@ -1,0 +1,40 @@
+use Rattle.std.proofs.Common.{sym, ◌∙◌}
+use Rattle.std.specs.List.{each_same}
+use Rattle.mmdb_data.specs.Member.{nested}
+use Rattle.mmdb_data.specs.Section.{packed_of}
+use Rattle.mmdb_data.proofs.Appending.{known_full, still_unknown, new_full, kept_either}
+use Rattle.mmdb_data.proofs.packing_members.+nesting.Goals as goal
+
+pub append_nested_full-returns-then-is_known-clause-appended
+    : goal.append_nested_full-returns-then-is_known-clause-appended
+append_nested_full-returns-then-is_known-clause-appended t c =
+    known_full c.append_nested_content.result (nested c.args.around.now c.args.text.now) _ _
+    (sym c.requires.1.1.1.1 ∙ c.if-is_known.true) c.append_nested_content.ensures.appended
+
+pub append_nested_full-note-requires : goal.append_nested_full-note-requires
+append_nested_full-note-requires t c =
+    still_unknown (nested c.args.around.now c.args.text.now) (packed_of c.args.section.now)
+    (packed_of c.append_nested_content-2.new.section) c.in_ok-spelled.spelled.items
+    (each_same c.args.section.now.piece.items c.in_ok-spelled.spelled.items
+    c.in_ok-spelled.ensures.cases.0 ∙ c.requires.1.1.1.0)
+    c.in_ok-append_nested_content.ensures.appended
+    (sym c.requires.1.1.1.1 ∙ c.if-is_known.false)
+
+pub append_nested_full-returns-clause-appended
+    : goal.append_nested_full-returns-clause-appended
+append_nested_full-returns-clause-appended t c =
+    new_full c.note.result (nested c.args.around.now c.args.text.now) (packed_of c.note.new.self)
+    (packed_of c.append_nested_content-2.new.section)
+    (packed_of c.args.section.now) c.in_ok-spelled.spelled.items c.len-at.result
+    (each_same c.args.section.now.piece.items c.in_ok-spelled.spelled.items
+    c.in_ok-spelled.ensures.cases.0 ∙ c.requires.1.1.1.0)
+    (c.len-at.ensures ∙ c.args.section.now.bytes.ok.0)
+    c.in_ok-append_nested_content.ensures.appended
+    c.note.ensures.noted
+
+pub append_nested_full-returns-clause-kept : goal.append_nested_full-returns-clause-kept
+append_nested_full-returns-clause-kept t c =
+    kept_either c.note.result (packed_of c.args.section.now)
+    (packed_of c.append_nested_content-2.new.section)
+    (packed_of c.note.new.self) c.in_ok-spelled.spelled.items c.len-at.result
+    c.in_ok-append_nested_content.ensures.kept c.note.ensures.noted c.note.ensures.refused

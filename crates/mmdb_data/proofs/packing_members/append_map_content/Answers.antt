@@ -1,0 +1,16 @@
+use Rattle.std.proofs.Common.{length, sym, arith}
+use Rattle.mmdb_data.specs.Member.{member_list}
+use Rattle.mmdb_data.specs.Section.{packed_of}
+use Rattle.mmdb_data.proofs.Appending.{map_packed}
+use Rattle.mmdb_data.proofs.Nested.{len-member_list}
+use Rattle.mmdb_data.proofs.packing_members.append_map_content.Goals as goal
+
+pub append_head-requires : goal.append_head-requires
+append_head-requires c = omega (arith, c.requires.0, len-member_list c.args.members.now)
+
+pub returns-clause-appended : goal.returns-clause-appended
+returns-clause-appended c =
+    map_packed c.append_member_list.result _ (packed_of c.append_head.new.self) _
+    (length c.args.members.now) (member_list c.args.members.now)
+    (sym (len-member_list c.args.members.now)) c.in_ok-append_head.ensures.appended
+    c.append_member_list.ensures.appended

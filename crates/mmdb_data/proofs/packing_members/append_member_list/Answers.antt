@@ -1,0 +1,21 @@
+use Rattle.mmdb_data.specs.Section.{packed_of}
+use Rattle.mmdb_data.proofs.Packs.{kept_trans}
+use Rattle.mmdb_data.proofs.Nested.{member_more}
+use Rattle.mmdb_data.proofs.packing_members.append_member_list.Goals as goal
+
+pub loop-member-preserved : goal.loop-member-preserved
+loop-member-preserved c =
+    let now = packed_of c.loop-member.section in
+    let keyed = packed_of c.append_key.new.self in
+    let new = packed_of c.append_nested.new.section in
+    let old = packed_of c.args.section.now in
+    let more = member_more c.args.members.now c.loop-member.member-index _ c.loop-member-test.true
+    now keyed new _ c.loop-member.invariant.appended c.loop-member.invariant.narrow
+    c.in_ok-append_key.ensures.appended c.in_ok-append_nested.ensures.appended in
+    record {
+      appended = more.0;
+      narrow = more.1;
+      kept =
+          kept_trans old now new c.loop-member.invariant.kept
+          (kept_trans now keyed new c.append_key.ensures.kept c.append_nested.ensures.kept);
+    }

@@ -1,0 +1,179 @@
+//! A map whose members borrow their texts, each part a pointer where one is shorter.
+
+ghost use Rattle.std.specs.Prelude.{◌≡◌, ◌++◌, OnOk, is_some};
+ghost use Rattle.mmdb_data.specs.ValueTree.{map as map_tree, IsNarrow, MembersAreNarrow};
+ghost use Rattle.mmdb_data.specs.Spelling.{spelling, members_spelling};
+ghost use Rattle.mmdb_data.specs.Member.{nested, member_list, around_in, HasNarrowKey};
+ghost use Rattle.mmdb_data.specs.Packing.{offset_of, part_by, content_in, members_in, in_full};
+ghost use Rattle.mmdb_data.specs.Packing.{IsKept};
+ghost use Rattle.mmdb_data.specs.Section.{packed_of};
+
+use crate::kind::Kind;
+use crate::member::{Around, Member, put_nested};
+use crate::section::{Section, shorter};
+use crate::writing::{put_head, put_sized};
+use geo_addr::Memory;
+
+/// The map in full, whether it stands already or not.
+pub(crate) fn append_map(section: &mut Section, members: &[Member<'_>]) -> Result<(), Memory>
+    requires { IsNarrow (map_tree (member_list members.now)) }
+    ensures appended { OnOk result (packed_of section.new
+        ≡ in_full (map_tree (member_list members.now)) (packed_of section.old)) }
+    ensures kept { IsKept (packed_of section.old) (packed_of section.new) }
+{
+    spell_map(section, members)?;
+    let is_known = section.found().is_some();
+    append_map_full(section, members, is_known)
+}
+
+fn spell_map(section: &mut Section, members: &[Member<'_>]) -> Result<(), Memory>
+    requires { IsNarrow (map_tree (member_list members.now)) }
+    ensures spelled { OnOk result
+        (section.new.piece.items ≡ spelling (map_tree (member_list members.now))) }
+    ensures same { packed_of section.new ≡ packed_of section.old }
+{
+    section.piece.clear();
+    put_map(&mut section.piece, members)
+}
+
+fn put_map(out: &mut Vec<u8>, members: &[Member<'_>]) -> Result<(), Memory>
+    requires { IsNarrow (map_tree (member_list members.now)) }
+    ensures { OnOk result (out.new.items
+        ≡ out.old.items ++ spelling (map_tree (member_list members.now))) }
+{
+    put_head(out, Kind::Map, members.len())?;
+    put_member_list(out, members)
+}
+
+fn put_member_list(out: &mut Vec<u8>, members: &[Member<'_>]) -> Result<(), Memory>
+    requires { MembersAreNarrow (member_list members.now) }
+    ensures { OnOk result (out.new.items
+        ≡ out.old.items ++ members_spelling (member_list members.now)) }
+{
+    for member in members {
+        put_sized(out, Kind::Text, member.key.as_bytes())?;
+        put_nested(out, member.around, member.text)?;
+    }
+    Ok(())
+}
+
+fn append_map_full(
+    section: &mut Section,
+    members: &[Member<'_>],
+    is_known: bool,
+) -> Result<(), Memory>
+    requires narrow { IsNarrow (map_tree (member_list members.now)) }
+    requires spelled { section.old.piece.items ≡ spelling (map_tree (member_list members.now)) }
+    requires known { is_known ≡ is_some
+        (offset_of (spelling (map_tree (member_list members.now))) (packed_of section.old)) }
+    ensures appended { OnOk result (packed_of section.new
+        ≡ in_full (map_tree (member_list members.now)) (packed_of section.old)) }
+    ensures kept { IsKept (packed_of section.old) (packed_of section.new) }
+{
+    if is_known {
+        return append_map_content(section, members);
+    }
+    let at = section.bytes.len() as u64;
+    let spelled = section.piece.clone()?;
+    append_map_content(section, members)?;
+    section.note(spelled, at)
+}
+
+fn append_map_content(section: &mut Section, members: &[Member<'_>]) -> Result<(), Memory>
+    requires { IsNarrow (map_tree (member_list members.now)) }
+    ensures appended { OnOk result (packed_of section.new
+        ≡ content_in (map_tree (member_list members.now)) (packed_of section.old)) }
+    ensures kept { IsKept (packed_of section.old) (packed_of section.new) }
+{
+    section.append_head(Kind::Map, members.len())?;
+    append_member_list(section, members)
+}
+
+fn append_member_list(section: &mut Section, members: &[Member<'_>]) -> Result<(), Memory>
+    requires { MembersAreNarrow (member_list members.now) }
+    ensures appended { OnOk result (packed_of section.new
+        ≡ members_in (member_list members.now) (packed_of section.old)) }
+    ensures kept { IsKept (packed_of section.old) (packed_of section.new) }
+{
+    for member in members {
+        section.append_key(member.key)?;
+        append_nested(section, member.around, member.text)?;
+    }
+    Ok(())
+}
+
+#[cycle(nesting)]
+fn append_nested(section: &mut Section, around: &[Around<'_>], text: &str) -> Result<(), Memory>
+    requires { IsNarrow (nested around.now text.now) }
+    ensures appended { OnOk result (packed_of section.new
+        ≡ part_by (spelling (nested around.now text.now)) (content_in (nested around.now text.now))
+        (packed_of section.old)) }
+    ensures kept { IsKept (packed_of section.old) (packed_of section.new) }
+{
+    section.piece.clear();
+    put_nested(&mut section.piece, around, text)?;
+    let found = section.found();
+    match shorter(found, &section.piece) {
+        Some(to) => section.append_pointer(to),
+        None => append_nested_full(section, around, text, found.is_some()),
+    }
+}
+
+#[cycle(nesting)]
+fn append_nested_full(
+    section: &mut Section,
+    around: &[Around<'_>],
+    text: &str,
+    is_known: bool,
+) -> Result<(), Memory>
+    requires narrow { IsNarrow (nested around.now text.now) }
+    requires spelled { section.old.piece.items ≡ spelling (nested around.now text.now) }
+    requires known { is_known
+        ≡ is_some (offset_of (spelling (nested around.now text.now)) (packed_of section.old)) }
+    ensures appended { OnOk result (packed_of section.new
+        ≡ in_full (nested around.now text.now) (packed_of section.old)) }
+    ensures kept { IsKept (packed_of section.old) (packed_of section.new) }
+{
+    if is_known {
+        return append_nested_content(section, around, text);
+    }
+    let at = section.bytes.len() as u64;
+    let spelled = section.piece.clone()?;
+    append_nested_content(section, around, text)?;
+    section.note(spelled, at)
+}
+
+#[cycle(nesting)]
+fn append_nested_content(
+    section: &mut Section,
+    around: &[Around<'_>],
+    text: &str,
+) -> Result<(), Memory>
+    requires narrow { IsNarrow (nested around.now text.now) }
+    requires spelled { section.old.piece.items ≡ spelling (nested around.now text.now) }
+    ensures appended { OnOk result (packed_of section.new
+        ≡ content_in (nested around.now text.now) (packed_of section.old)) }
+    ensures kept { IsKept (packed_of section.old) (packed_of section.new) }
+{
+    let [outer, rest @ ..] = around else {
+        return section.append();
+    };
+    append_around(section, outer)?;
+    append_nested(section, rest, text)
+}
+
+/// What stands before the value, its key a pointer where one is shorter.
+fn append_around(section: &mut Section, outer: &Around<'_>) -> Result<(), Memory>
+    requires { HasNarrowKey outer.now }
+    ensures appended { OnOk result
+        (packed_of section.new ≡ around_in outer.now (packed_of section.old)) }
+    ensures kept { IsKept (packed_of section.old) (packed_of section.new) }
+{
+    match outer {
+        Around::Map(key) => {
+            section.append_head(Kind::Map, 1)?;
+            section.append_key(key)
+        }
+        Around::List => section.append_head(Kind::List, 1),
+    }
+}
