@@ -410,7 +410,7 @@ module _ {X : Type 0} (name : X → List ℕ) where
 
     -- what a search for its name before it tells
     module _ (seen : List X) (m : List ℕ) (y : X) (same : seen ≡ take count now)
-      (called : m ≡ name y)
+        (called : m ≡ name y)
         (read : y ≡ get_or now at y) where
       is_left : seen ≡ so.left
       is_left = seen_left seen same
@@ -539,7 +539,7 @@ module _ {X : Type 0} (name : X → List ℕ) where
 
     -- it goes where a search for its name among those before it misses it
     module _ (seen : List X) (m : List ℕ) (z : X) (same : seen ≡ take count now)
-      (called : m ≡ name z)
+        (called : m ≡ name z)
         (read : z ≡ get_or now (end - 1) z) where
       seen_is : seen ≡ mid.left
       seen_is =
