@@ -205,7 +205,7 @@ fn put_outer_first<S: Statement>(indexed: &mut Vec<(usize, &S)>) -> Result<(), M
 // How many statements a run has at least on average where joining runs pays.
 const RUN: usize = 32;
 
-// How often a ground begins before the one in front of it.
+// How often a statement belongs before the one in front of it.
 fn falls<S: Statement>(indexed: &[(usize, &S)]) -> usize {
     let mut count: usize = 0;
     for at in 1..indexed.len() {

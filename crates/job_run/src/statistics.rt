@@ -21,7 +21,7 @@ use std::marker::Sync;
 use std::thread::Threads;
 
 /// Reads the statistics of a slot from the file of this name, up to its end or to the piece with
-/// which it has too many bytes: no more of it is held than what is read side by side.
+/// which it has too many bytes. Bytes whose lines were read are let go, which no clause says.
 pub(crate) fn read_statistics<R: Threads + Sync, F: Folder, G: Gate>(
     forks: &Forks<R, G>,
     folder: &mut F,
