@@ -1,8 +1,8 @@
 -- Lemmas on a walk through a store that passes over what it has seen.
 use Rattle.std.proofs.Common.{◌≡◌, ℕ, ◌<◌, ◌≤◌, inl, inr, Bool, true, false, nat_eq, List, [], ◌∷◌}
-use Rattle.std.proofs.Common.{◌++◌, filter, length, Contains, refl, sym, ◌∙◌, ap, subst, arith}
+use Rattle.std.proofs.Common.{◌++◌, ◌+◌, ◌-◌, filter, length, Contains, refl, sym, ◌∙◌, ap, subst, arith}
 use Rattle.std.proofs.Common.{rules}
-use Rattle.std.proofs.lemmas.List.{length-map, map-append}
+use Rattle.std.proofs.lemmas.List.{length-map, map-append, length_push}
 use Rattle.std.proofs.lemmas.List.Elements.{All-contains, All-push, filter-append}
 use Rattle.trie_core.specs.declared.node.NodeId.{NodeId}
 use Rattle.trie_core.specs.declared.node.Rec.{Rec}
@@ -13,13 +13,14 @@ use Rattle.trie_core.specs.Tree.{Tree, node, height, IsReduced, tree_eq}
 use Rattle.trie_core.specs.Laws.{IsEquality}
 use Rattle.trie_core.specs.Store.{meaning, node_number, IsOf, IsSound}
 use Rattle.trie_core.proofs.StoreLemmas.{IsReduced-meaning, same_from_meaning}
+use Rattle.trie_core.proofs.StoreLemmas.{pair_at, meaning_node}
 use Rattle.trie_core.proofs.TreeLemmas.{nat_equality}
 use Rattle.least_nodes.specs.Layout.{each_once, preorder, leaves, inner, is_place, place_order}
 use Rattle.least_nodes.specs.Laws.{IsFewest}
 use Rattle.least_nodes.specs.Order.{trees_of, AreOf, nodes_after, places_after, IsDoneBelow}
 use Rattle.least_nodes.specs.Order.{IsNoted, same_node}
-use Rattle.least_nodes.proofs.Elements.{In, In-left, In-append, In-map, In-from_map}
-use Rattle.least_nodes.proofs.Elements.{In-from_Contains, Contains-from_In, each_once-new}
+use Rattle.least_nodes.proofs.Elements.{In, In_last, In-left, In-append, In-map, In-from_map}
+use Rattle.least_nodes.proofs.Elements.{In-from_Contains, Contains-from_In, each_once-new, each_once-old}
 use Rattle.least_nodes.proofs.Elements.{each_once-known, each_once-append, In-each_once}
 use Rattle.least_nodes.proofs.Elements.{In-each_once-seen, In-each_once-new, In-filter}
 use Rattle.least_nodes.proofs.Elements.{In-from_filter, filter-each_once, IsDistinct-from_none}
@@ -66,6 +67,23 @@ nodes_after-new seen l r new =
     each_once-new (tree_eq nat_eq) tree_equality seen (node l r) (preorder l ++ preorder r) new
     ∙ each_once-append (tree_eq nat_eq) tree_equality (seen ++ node l r ∷ []) (preorder l)
     (preorder r)
+
+-- neither does one through a node that was
+nodes_after-old : (seen : List (Tree ℕ)) (l r : Tree ℕ) → In (node l r) seen
+    → nodes_after seen (node l r) ≡ nodes_after (nodes_after seen l) r
+nodes_after-old seen l r old =
+    each_once-old (tree_eq nat_eq) tree_equality seen (node l r) (preorder l ++ preorder r) old
+    ∙ each_once-append (tree_eq nat_eq) tree_equality seen (preorder l) (preorder r)
+
+-- whether a node is noted before its walk or by it
+nodes_after-noted : (seen : List (Tree ℕ)) (t l r : Tree ℕ) → t ≡ node l r → (In t seen → ⊥)
+    → nodes_after (seen ++ t ∷ []) t ≡ nodes_after seen t
+nodes_after-noted seen t l r is fresh =
+    let grown : List (Tree ℕ) = seen ++ node l r ∷ [] in
+    let same : nodes_after grown (node l r) ≡ nodes_after seen (node l r) =
+    nodes_after-old grown l r (In_last (node l r) seen)
+    ∙ sym (nodes_after-new seen l r (λ inside. fresh (subst (λ v. In v seen) (sym is) inside))) in
+    subst (λ v. nodes_after (seen ++ v ∷ []) v ≡ nodes_after seen v) (sym is) same
 
 places_after-node : (seen : List ℕ) (l r : Tree ℕ)
     → places_after seen (node l r) ≡ places_after (places_after seen l) r
@@ -131,6 +149,11 @@ IsDoneBelow-push n m nodes places t le high done u has low =
       ]
     ]
 
+-- and so need not one of lower nodes
+pub IsDoneBelow-lower : (n m : ℕ) (nodes : List (Tree ℕ)) (places : List ℕ) → m ≤ n
+    → IsDoneBelow n nodes places → IsDoneBelow m nodes places
+IsDoneBelow-lower n m nodes places le done u has low = done u has (omega (arith, le, low))
+
 -- before a walk nothing was seen
 pub IsDoneBelow-nil : (n : ℕ) → IsDoneBelow n [] []
 IsDoneBelow-nil n t has low = absurd (In-from_Contains (tree_eq nat_eq) tree_equality t [] has)
@@ -166,53 +189,84 @@ module _ (pairs : List Pair) where
       let same : id ≡ other.0 = cc in
       new (subst (Contains ids) (sym same) is)
 
-  -- what the walk of a node that was not seen comes to at each of its steps
-  pub record WalksOn (ids grown : List NodeId) (places : List ℕ) (t l r : Tree ℕ) : Type 0 where
-    pub left_lower : height l < height t
-    pub right_lower : height r < height t
+  -- a node that was not seen is noted: then its children may be walked, and the walk through them
+  -- comes to what the walk through the node comes to
+  pub record IsNotedNode (ids grown : List NodeId) (places : List ℕ) (t : Tree ℕ)
+      (id : NodeId) : Type 0 where
     pub known : AreOf pairs grown
-    pub left_done : IsDoneBelow (height l) (trees_of pairs grown) places
-    pub right_done : IsDoneBelow (height r) (nodes_after (trees_of pairs grown) l)
-        (places_after places l)
-    pub nodes_are : nodes_after (trees_of pairs ids) t
-        ≡ nodes_after (nodes_after (trees_of pairs grown) l) r
-    pub places_are : places_after places t ≡ places_after (places_after places l) r
+    pub noted : Contains grown id
+    pub done : IsDoneBelow (height (meaning pairs (Node id)) - 1) (trees_of pairs grown) places
+    pub nodes_are : nodes_after (trees_of pairs grown) (meaning pairs (Node id))
+        ≡ nodes_after (trees_of pairs ids) t
+    pub places_are : places_after places (meaning pairs (Node id)) ≡ places_after places t
+    pub long : length grown ≡ length ids + 1
 
-  pub WalksOn-from_noted : (ids grown : List NodeId) (places : List ℕ) (rec : Rec) (id : NodeId)
-      (l r : Tree ℕ) (is_new : Bool) → IsSound pairs → AreOf pairs ids → IsOf pairs rec
+  pub IsNotedNode-from_noted : (ids grown : List NodeId) (places : List ℕ) (rec : Rec)
+      (id : NodeId) (is_new : Bool) → IsSound pairs → AreOf pairs ids → IsOf pairs rec
       → IsDoneBelow (height (meaning pairs rec)) (trees_of pairs ids) places → rec ≡ Node id
-      → is_new ≡ true → IsNoted ids grown id is_new → meaning pairs (Node id) ≡ node l r
-      → WalksOn ids grown places (meaning pairs rec) l r
-  WalksOn-from_noted ids grown places rec id l r is_new sound known of done is new noted means =
-      let t : Tree ℕ = meaning pairs rec in
+      → is_new ≡ true → IsNoted ids grown id is_new
+      → IsNotedNode ids grown places (meaning pairs rec) id
+  IsNotedNode-from_noted ids grown places rec id is_new sound known of done is new noted =
+      let t : Tree ℕ = meaning pairs (Node id) in
       let seen : List (Tree ℕ) = trees_of pairs ids in
       let new-node = IsNoted-new ids grown id is_new new noted in
-      let tree : t ≡ node l r = ap (meaning pairs) is ∙ means in
-      let trees : trees_of pairs grown ≡ seen ++ node l r ∷ [] =
-      ap (trees_of pairs) new-node.1 ∙ trees_of-push ids id ∙ ap (λ v. seen ++ v ∷ []) means in
-      let done' : IsDoneBelow (height (node l r)) seen places =
-      subst (λ v. IsDoneBelow (height v) seen places) tree done in
-      let left : IsDoneBelow (height l) (trees_of pairs grown) places =
-      subst (λ ts. IsDoneBelow (height l) ts places) (sym trees) (IsDoneBelow-push
-      (height (node l r)) (height l) seen places (node l r) (omega arith) (omega arith) done') in
-      let right : IsDoneBelow (height r) (trees_of pairs grown) places =
-      subst (λ ts. IsDoneBelow (height r) ts places) (sym trees) (IsDoneBelow-push
-      (height (node l r)) (height r) seen places (node l r) (omega arith) (omega arith) done') in
+      let tree : meaning pairs rec ≡ t = ap (meaning pairs) is in
+      let trees : trees_of pairs grown ≡ seen ++ t ∷ [] =
+      ap (trees_of pairs) new-node.1 ∙ trees_of-push ids id in
       let node-of : IsOf pairs (Node id) = subst (IsOf pairs) is of in
-      let fresh : In (node l r) seen → ⊥ = λ inside.
-      tree_new sound ids id known node-of new-node.0 (subst (λ v. In v seen) (sym means) inside) in
+      let pair = pair_at pairs sound.earlier id node-of in
+      let means = meaning_node pairs sound.earlier id pair.0 pair.1 in
+      let done' : IsDoneBelow (height t) seen places =
+      subst (λ v. IsDoneBelow (height v) seen places) tree done in
+      let fresh : In t seen → ⊥ = tree_new sound ids id known node-of new-node.0 in
+      let after : nodes_after (seen ++ t ∷ []) t ≡ nodes_after seen t =
+      nodes_after-noted seen t _ _ means fresh in
       record {
-        left_lower = omega (arith, ap height tree);
-        right_lower = omega (arith, ap height tree);
         known =
             subst (AreOf pairs) (sym new-node.1)
             (All-push (λ (x : NodeId). IsOf pairs (Node x)) ids id known node-of);
-        left_done = left;
-        right_done = IsDoneBelow-after (height r) (trees_of pairs grown) places l right;
+        noted = subst (λ xs. Contains xs id) (sym new-node.1) (Contains-from_In
+            id_impl.eq-value.it id_equality id (ids ++ id ∷ []) (In_last id ids));
+        done = subst (λ ts. IsDoneBelow (height t - 1) ts places) (sym trees) (IsDoneBelow-push
+            (height t) (height t - 1) seen places t (omega arith) (omega (arith, ap height means)) done');
         nodes_are =
-            ap (nodes_after seen) tree ∙ nodes_after-new seen l r fresh
-            ∙ ap (λ ts. nodes_after (nodes_after ts l) r) (sym trees);
-        places_are = ap (places_after places) tree ∙ places_after-node places l r;
+            ap (λ ts. nodes_after ts t) trees ∙ after ∙ ap (nodes_after seen) (sym tree);
+        places_are = ap (places_after places) (sym tree);
+        long = ap length new-node.1 ∙ length_push ids id;
+      }
+
+  -- what the walk through the children of a noted node comes to at each of its steps
+  pub record WalksOn (ids : List NodeId) (places : List ℕ) (t l r : Tree ℕ) : Type 0 where
+    pub left_lower : height l < height t
+    pub right_lower : height r < height t
+    pub left_done : IsDoneBelow (height l) (trees_of pairs ids) places
+    pub right_done : IsDoneBelow (height r) (nodes_after (trees_of pairs ids) l)
+        (places_after places l)
+    pub nodes_are : nodes_after (trees_of pairs ids) t
+        ≡ nodes_after (nodes_after (trees_of pairs ids) l) r
+    pub places_are : places_after places t ≡ places_after (places_after places l) r
+
+  pub WalksOn-from_noted : (ids : List NodeId) (places : List ℕ) (id : NodeId) (l r : Tree ℕ)
+      → Contains ids id
+      → IsDoneBelow (height (meaning pairs (Node id)) - 1) (trees_of pairs ids) places
+      → meaning pairs (Node id) ≡ node l r → WalksOn ids places (meaning pairs (Node id)) l r
+  WalksOn-from_noted ids places id l r noted done means =
+      let t : Tree ℕ = meaning pairs (Node id) in
+      let seen : List (Tree ℕ) = trees_of pairs ids in
+      let has : In (node l r) seen =
+      subst (λ v. In v seen) means (In-from_Contains (tree_eq nat_eq) tree_equality t seen
+      (tree_seen ids id noted)) in
+      let low : height t ≡ height (node l r) = ap height means in
+      let right : IsDoneBelow (height r) seen places =
+      IsDoneBelow-lower (height t - 1) (height r) seen places (omega (arith, low)) done in
+      record {
+        left_lower = omega (arith, low);
+        right_lower = omega (arith, low);
+        left_done =
+            IsDoneBelow-lower (height t - 1) (height l) seen places (omega (arith, low)) done;
+        right_done = IsDoneBelow-after (height r) seen places l right;
+        nodes_are = ap (nodes_after seen) means ∙ nodes_after-old seen l r has;
+        places_are = ap (places_after places) means ∙ places_after-node places l r;
       }
 
 -- ---- a walk from the root

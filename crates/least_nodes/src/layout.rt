@@ -1,5 +1,5 @@
 //! The order in which the nodes and the places of a tree are written.
-ghost use Rattle.std.specs.Prelude.{◌≡◌, ◌≤◌, ◌+◌, ◌*◌, length, nat_eq, IfOk};
+ghost use Rattle.std.specs.Prelude.{◌≡◌, ◌≤◌, ◌+◌, ◌-◌, ◌*◌, length, nat_eq, Contains, IfOk, OnOk};
 ghost use Rattle.trie_core.specs.Tree.{height};
 ghost use Rattle.trie_core.specs.Store.{meaning, tree_of, IsOf, IsRootOf};
 ghost use Rattle.least_nodes.specs.Layout.{inner, place_order};
@@ -11,7 +11,7 @@ use crate::place_set::PlaceSet;
 use crate::seen::Seen;
 use geo_addr::Memory;
 use std::alloc::Global;
-use trie_core::{Rec, Root, Store};
+use trie_core::{NodeId, Rec, Root, Store};
 
 /// The different nodes under a root, and the numbers of the different places among their leaves,
 /// each in the order in which a walk first comes to them that takes a node before its children and
@@ -45,44 +45,64 @@ pub fn order(alloc: Global, store: &Store, root: Root) -> Result<Layout, Memory>
 {
     let rec = store.rec_of(root);
     let mut seen = Seen::new(alloc);
-    let calls = visit(store, rec, &mut seen)?;
+    visit(store, rec, &mut seen)?;
     Ok(Layout {
         nodes: seen.nodes,
         leaves: seen.places,
-        calls,
+        calls: seen.calls,
     })
 }
 
-// Walks through the tree of the record, passes over what was seen, and answers how many records it
-// was called on. No tree is higher than 128, so the recursion stays shallow.
-fn visit(store: &Store, rec: Rec, seen: &mut Seen) -> Result<u64, Memory>
+// Walks through the tree of the record, and passes over what was seen. No tree is higher than 128,
+// so the recursion stays shallow. Inlined, so that no leaf and no node that was seen costs a call.
+#[cycle(walk)]
+#[inline(always)]
+fn visit(store: &Store, rec: Rec, seen: &mut Seen) -> Result<(), Memory>
     requires of { IsOf store.now rec }
     requires known { AreOf store.now seen.old.nodes }
     requires done { IsDoneBelow (height (meaning store.now rec))
         (trees_of store.now seen.old.nodes) seen.old.places }
-    ensures known { IfOk result (λ _. AreOf store.now seen.new.nodes) }
-    ensures nodes { IfOk result (λ _. trees_of store.now seen.new.nodes
+    requires calls { seen.old.calls ≤ 2 * length seen.old.nodes }
+    ensures known { OnOk result (AreOf store.now seen.new.nodes) }
+    ensures nodes { OnOk result (trees_of store.now seen.new.nodes
         ≡ nodes_after (trees_of store.now seen.old.nodes) (meaning store.now rec)) }
-    ensures places { IfOk result (λ _. seen.new.places
+    ensures places { OnOk result (seen.new.places
         ≡ places_after seen.old.places (meaning store.now rec)) }
-    ensures calls { IfOk result (λ calls. calls + 2 * length seen.old.nodes
-        ≡ 2 * length seen.new.nodes + 1) }
+    ensures calls { OnOk result (seen.new.calls + 2 * length seen.old.nodes
+        ≡ seen.old.calls + 2 * length seen.new.nodes + 1) }
 {
+    // No two nodes of a store mean one tree, and a set has fewer than 2^32, so the sum fits.
+    let _ = (store.len(), seen.nodes.len());
+    seen.calls += 1;
     match rec {
-        Rec::Leaf(number) => {
-            seen.note_leaf(number)?;
-            Ok(1)
-        }
+        Rec::Leaf(number) => seen.note_leaf(number),
         Rec::Node(id) => {
             if !seen.note_node(id)? {
-                return Ok(1);
+                return Ok(());
             }
-            let (left, right) = store.children(id);
-            let calls = visit(store, left, seen)?;
-            let more = visit(store, right, seen)?;
-            // A set has fewer than 2^32 nodes, so the sum fits.
-            let _ = seen.nodes.len();
-            Ok(1 + calls + more)
+            visit_children(store, id, seen)
         }
     }
+}
+
+// Walks through the trees of the children of a node that was noted.
+#[cycle(walk)]
+fn visit_children(store: &Store, id: NodeId, seen: &mut Seen) -> Result<(), Memory>
+    requires of { IsOf store.now (Rec.Node id) }
+    requires known { AreOf store.now seen.old.nodes }
+    requires noted { Contains seen.old.nodes id }
+    requires done { IsDoneBelow (height (meaning store.now (Rec.Node id)) - 1)
+        (trees_of store.now seen.old.nodes) seen.old.places }
+    requires calls { seen.old.calls + 1 ≤ 2 * length seen.old.nodes }
+    ensures known { OnOk result (AreOf store.now seen.new.nodes) }
+    ensures nodes { OnOk result (trees_of store.now seen.new.nodes
+        ≡ nodes_after (trees_of store.now seen.old.nodes) (meaning store.now (Rec.Node id))) }
+    ensures places { OnOk result (seen.new.places
+        ≡ places_after seen.old.places (meaning store.now (Rec.Node id))) }
+    ensures calls { OnOk result (seen.new.calls + 2 * length seen.old.nodes
+        ≡ seen.old.calls + 2 * length seen.new.nodes + 2) }
+{
+    let (left, right) = store.children(id);
+    visit(store, left, seen)?;
+    visit(store, right, seen)
 }

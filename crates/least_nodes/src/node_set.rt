@@ -1,5 +1,5 @@
 //! A set of nodes in the order in which they came.
-ghost use Rattle.std.specs.Prelude.{◌≡◌, ◌<◌, ◌-◌, ◌^◌, ◌++◌, [], length, replicate};
+ghost use Rattle.std.specs.Prelude.{◌≡◌, ◌<◌, ◌≤◌, ◌-◌, ◌^◌, ◌++◌, [], length, replicate};
 ghost use Rattle.std.specs.Prelude.{IfOk, OnOk, OnErr};
 ghost use Rattle.std.specs.List.{position};
 ghost use Rattle.least_nodes.specs.Order.{same_node, IsNoted};
@@ -45,6 +45,7 @@ impl NodeSet {
     }
 
     /// Puts the node last, unless the set has it, and says whether it is new.
+    #[inline(always)]
     pub fn insert(&mut self, id: NodeId) -> Result<bool, Memory>
         ensures noted { IfOk result (IsNoted self.old self.new id) }
         ensures err { OnErr result (self.new ≡ self.old) }
@@ -87,15 +88,28 @@ impl NodeSet {
 }
 
 /// Puts zeros behind the list until it holds this number.
+#[inline(always)]
 pub(crate) fn make_room(next: &mut Vec<u32>, number: u32) -> Result<(), Memory>
     ensures zeros { next.new.items
         ≡ next.old.items ++ replicate (length next.new.items - length next.old.items) 0 }
     ensures within { OnOk result (number < length next.new.items) }
     ensures err { OnErr result (next.new.items ≡ next.old.items) }
 {
-    let len = number as usize + 1;
-    if next.len() < len {
-        next.resize(len, 0)?;
+    if (number as usize) < next.len() {
+        return Ok(());
     }
+    lengthen(next, number as usize + 1)
+}
+
+// Puts zeros behind the list until it is so long. Not inlined, since it is seldom called.
+#[inline(never)]
+fn lengthen(next: &mut Vec<u32>, len: usize) -> Result<(), Memory>
+    requires { length next.old.items ≤ len }
+    ensures zeros { next.new.items
+        ≡ next.old.items ++ replicate (length next.new.items - length next.old.items) 0 }
+    ensures within { OnOk result (length next.new.items ≡ len) }
+    ensures err { OnErr result (next.new.items ≡ next.old.items) }
+{
+    next.resize(len, 0)?;
     Ok(())
 }

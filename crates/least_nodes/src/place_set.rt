@@ -42,6 +42,7 @@ impl PlaceSet {
     }
 
     /// Puts the number last, unless the set has it.
+    #[inline(always)]
     pub fn insert(&mut self, number: u32) -> Result<(), Memory>
         ensures put { OnOk result (self.new ≡ each_once nat_eq self.old (number ∷ [])) }
         ensures err { OnErr result (self.new ≡ self.old) }

@@ -14,6 +14,8 @@ use trie_core::NodeId;
 pub(crate) struct Seen {
     pub(crate) nodes: NodeSet,
     pub(crate) places: PlaceSet,
+    /// How many records the walk was called on.
+    pub(crate) calls: u64,
 }
 
 impl Seen {
@@ -21,26 +23,32 @@ impl Seen {
     pub(crate) fn new(alloc: Global) -> Seen
         ensures nodes { result.nodes ≡ [] }
         ensures places { result.places ≡ [] }
+        ensures calls { result.calls ≡ 0 }
     {
         Seen {
             nodes: NodeSet::new(alloc),
             places: PlaceSet::new(alloc),
+            calls: 0,
         }
     }
 
     /// Notes a node, and says whether it is new.
+    #[inline(always)]
     pub(crate) fn note_node(&mut self, id: NodeId) -> Result<bool, Memory>
         ensures noted { IfOk result (IsNoted self.old.nodes self.new.nodes id) }
         ensures places { self.new.places ≡ self.old.places }
+        ensures calls { self.new.calls ≡ self.old.calls }
     {
         self.nodes.insert(id)
     }
 
     /// Notes the place that a leaf is. Leaf 0 is no place.
+    #[inline(always)]
     pub(crate) fn note_leaf(&mut self, number: u32) -> Result<(), Memory>
         ensures places { OnOk result
             (self.new.places ≡ places_after self.old.places (leaf number)) }
         ensures nodes { self.new.nodes ≡ self.old.nodes }
+        ensures calls { self.new.calls ≡ self.old.calls }
     {
         if number != 0 {
             self.places.insert(number)?;

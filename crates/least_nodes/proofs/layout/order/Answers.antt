@@ -6,7 +6,7 @@ pub returns-clause-nodes : goal.returns-clause-nodes
 returns-clause-nodes c =
     let rec = c.rec_of-rec.ensures in
     let new = c.new-seen.ensures in
-    let walk = c.in_ok-calls.ensures in
+    let walk = c.in_ok-visit.ensures in
     let whole =
     IsLayoutOf-from_walk c.args.store.now c.rec_of-rec.result (record_of c.args.root)
     c.new-seen.result.nodes c.visit.new.seen.nodes
@@ -18,7 +18,7 @@ pub returns-clause-of : goal.returns-clause-of
 returns-clause-of c =
     let rec = c.rec_of-rec.ensures in
     let new = c.new-seen.ensures in
-    let walk = c.in_ok-calls.ensures in
+    let walk = c.in_ok-visit.ensures in
     let whole =
     IsLayoutOf-from_walk c.args.store.now c.rec_of-rec.result (record_of c.args.root)
     c.new-seen.result.nodes c.visit.new.seen.nodes
@@ -30,7 +30,7 @@ pub returns-clause-leaves : goal.returns-clause-leaves
 returns-clause-leaves c =
     let rec = c.rec_of-rec.ensures in
     let new = c.new-seen.ensures in
-    let walk = c.in_ok-calls.ensures in
+    let walk = c.in_ok-visit.ensures in
     let whole =
     IsLayoutOf-from_walk c.args.store.now c.rec_of-rec.result (record_of c.args.root)
     c.new-seen.result.nodes c.visit.new.seen.nodes
@@ -42,7 +42,7 @@ pub returns-clause-least : goal.returns-clause-least
 returns-clause-least c =
     let rec = c.rec_of-rec.ensures in
     let new = c.new-seen.ensures in
-    let walk = c.in_ok-calls.ensures in
+    let walk = c.in_ok-visit.ensures in
     let whole =
     IsLayoutOf-from_walk c.args.store.now c.rec_of-rec.result (record_of c.args.root)
     c.new-seen.result.nodes c.visit.new.seen.nodes
@@ -54,7 +54,7 @@ pub returns-clause-few : goal.returns-clause-few
 returns-clause-few c =
     let rec = c.rec_of-rec.ensures in
     let new = c.new-seen.ensures in
-    let walk = c.in_ok-calls.ensures in
+    let walk = c.in_ok-visit.ensures in
     let whole =
     IsLayoutOf-from_walk c.args.store.now c.rec_of-rec.result (record_of c.args.root)
     c.new-seen.result.nodes c.visit.new.seen.nodes
