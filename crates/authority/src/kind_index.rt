@@ -3,10 +3,9 @@ ghost use Rattle.std.specs.Prelude.{◌≡◌, map, All, IfOk, OnOk};
 ghost use Rattle.std.specs.List.Sorted.{IsStrictlyIncreasing};
 ghost use Rattle.authority.specs.Kinds.{IsKindIndex};
 
-use first_index::FirstIndex;
+use first_index::{FirstIndex, Numbered};
 use geo_addr::Memory;
 use geo_terms::Statement;
-use source_changes::push_borrows;
 use std::alloc::Global;
 
 /// The first statement of a kind at each address, and with it the cut points of the kind's
@@ -23,16 +22,19 @@ impl KindIndex {
             (λ index. IsKindIndex S.order S.range statements.now index) }
         ensures kept { OnOk result (All S.kept statements.now) }
     {
-        let mut borrowed = Vec::new(alloc);
-        push_borrows(&mut borrowed, statements)?;
-        KindIndex::of_borrowed(alloc, borrowed.as_slice())
+        let mut numbered = Numbered::new(alloc);
+        numbered.push_all(statements)?;
+        KindIndex::of_numbered(alloc, numbered)
     }
 
     /// The index of these statements, which may lie in several lists.
-    pub fn of_borrowed<S: Statement>(alloc: Global, statements: &[&S]) -> Result<KindIndex, Memory>
+    pub fn of_numbered<S: Statement>(
+        alloc: Global,
+        statements: Numbered<S>,
+    ) -> Result<KindIndex, Memory>
         ensures index { IfOk result
-            (λ index. IsKindIndex S.order S.range (map (λ s. s.now) statements.entry.now) index) }
-        ensures kept { OnOk result (All S.kept (map (λ s. s.now) statements.entry.now)) }
+            (λ index. IsKindIndex S.order S.range statements.entry index) }
+        ensures kept { OnOk result (All S.kept statements.entry) }
     {
         let firsts = FirstIndex::of(alloc, statements)?;
         Ok(KindIndex { firsts })

@@ -5,7 +5,7 @@ pub mod FirstOf
 pub mod IndexLemmas
 pub mod NearLemmas
 pub mod NestedLemmas
+pub mod NumberedLemmas
 pub mod RankLemmas
 pub mod ShelfLemmas
 pub mod StandLemmas
-pub mod TakenLemmas

@@ -1,7 +1,6 @@
 //! The first of several statements that holds an address, by halving.
 ghost use Rattle.std.specs.Prelude.{◌≡◌, ◌++◌, ◌∷◌, [], ℕ, All, IfOk, IfSome, OnOk};
 ghost use Rattle.std.specs.Prelude.{None, map, option_and_then, slice_get};
-ghost use Rattle.std.specs.List.{enumerate_from};
 ghost use Rattle.std.specs.List.Sorted.{IsNonDecreasingBy, IsPermutation, IsStrictlyIncreasing};
 ghost use Rattle.first_index.specs.Boundaries.{told};
 ghost use Rattle.first_index.specs.Columns.{last_ones};
@@ -12,6 +11,7 @@ use crate::boundaries::{Boundary, boundaries_of};
 use crate::columns::{coded, is_past, put_column, set_last, stands_at, told};
 use crate::near::told_near;
 use crate::nested::{nested_of, order};
+use crate::numbered::Numbered;
 use geo_addr::{Addr, Memory, Range};
 use geo_terms::Statement;
 use std::alloc::Global;
@@ -92,14 +92,12 @@ impl FirstIndex {
     /// them, behind a sort by where grounds begin if they do not ascend. Else it is a sort by their
     /// order, and one pass over the ends of their grounds. For more than 2 ^ 32 - 1 statements
     /// there is no memory.
-    pub fn of<S: Statement>(alloc: Global, statements: &[&S]) -> Result<FirstIndex, Memory>
-        ensures told { IfOk result
-            (λ index. TellsFirst S.order S.range (map (λ s. s.now) statements.entry.now) index) }
-        ensures cuts { IfOk result
-            (λ index. StandAtCuts S.range (map (λ s. s.now) statements.entry.now) index) }
-        ensures kept { OnOk result (All S.kept (map (λ s. s.now) statements.entry.now)) }
+    pub fn of<S: Statement>(alloc: Global, statements: Numbered<S>) -> Result<FirstIndex, Memory>
+        ensures told { IfOk result (λ index. TellsFirst S.order S.range statements.entry index) }
+        ensures cuts { IfOk result (λ index. StandAtCuts S.range statements.entry index) }
+        ensures kept { OnOk result (All S.kept statements.entry) }
     {
-        let mut ranked = indexed(alloc, statements)?;
+        let mut ranked = statements.into_vec();
         if let Some(index) = nested_in_some_order(alloc, &mut ranked)? {
             return Ok(index);
         }
@@ -152,21 +150,6 @@ fn in_columns(alloc: Global, boundaries: &[Boundary]) -> Result<FirstIndex, Memo
         }
     }
     Ok(FirstIndex { points, codes })
-}
-
-// The statements with their indexes.
-fn indexed<'a, S: Statement>(
-    alloc: Global,
-    statements: &[&'a S],
-) -> Result<Vec<(usize, &'a S)>, Memory>
-    ensures { IfOk result (λ ranked. map (λ x. (x.0, x.1.now)) ranked.items
-        ≡ enumerate_from 0 (map (λ s. s.now) statements.entry.now)) }
-{
-    let mut ranked = Vec::with_capacity(alloc, statements.len())?;
-    for (index, statement) in statements.iter().enumerate() {
-        ranked.push((index, *statement))?;
-    }
-    Ok(ranked)
 }
 
 // The index of grounds that nest, in the order that the statements are put in; `None` where two

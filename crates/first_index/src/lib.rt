@@ -8,6 +8,8 @@ mod index;
 pub mod inetnums;
 mod near;
 mod nested;
+mod numbered;
 pub mod plain;
 
 pub use index::FirstIndex;
+pub use numbered::Numbered;

@@ -10,10 +10,9 @@ ghost use Rattle.geo_terms.specs.Precedence.{delegation_before, delegation_cmp};
 ghost use Rattle.precedence.specs.Delegations.{IsIndex, starts_from};
 
 use authority::KindIndex;
-use first_index::plain;
+use first_index::{Numbered, plain};
 use geo_addr::{Addr, Memory};
 use geo_terms::{Delegation, Stats};
-use source_changes::push_borrows;
 use std::alloc::Global;
 use std::sync::Arc;
 
@@ -46,9 +45,9 @@ fn index_of(
     ensures starts { OnOk result
         (starts.new.items ≡ starts.old.items ++ starts_from 0 (map arc_value files.now)) }
 {
-    let mut rows = Vec::new(alloc);
+    let mut rows = Numbered::new(alloc);
     push_files(&mut rows, starts, files)?;
-    KindIndex::of_borrowed(alloc, rows.as_slice())
+    KindIndex::of_numbered(alloc, rows)
 }
 
 /// The delegation at an index among those of all files, whose rows start at these indexes.
@@ -95,20 +94,20 @@ pub fn first_of_all(files: &[Arc<Stats>], at: Addr) -> Option<&Delegation>
     first
 }
 
-// Appends the delegations of all files, borrowed, and where those of each file start.
+// Appends the delegations of all files, and where those of each file start.
 fn push_files<'a>(
-    rows: &mut Vec<&'a Delegation>,
+    rows: &mut Numbered<'a, Delegation>,
     starts: &mut Vec<usize>,
     files: &'a [Arc<Stats>],
 ) -> Result<(), Memory>
-    ensures rows { OnOk result (map (λ d. d.now) rows.new.items ≡ map (λ d. d.now) rows.old.items
+    ensures rows { OnOk result (rows.new ≡ rows.old
         ++ flat_map (λ t. t.rows) (map arc_value files.entry.now)) }
     ensures starts { OnOk result (starts.new.items ≡ starts.old.items
-        ++ starts_from (length rows.old.items) (map arc_value files.entry.now)) }
+        ++ starts_from (length rows.old) (map arc_value files.entry.now)) }
 {
     for file in files {
         starts.push(rows.len())?;
-        push_borrows(rows, file.rows.as_slice())?;
+        rows.push_all(file.rows.as_slice())?;
     }
     Ok(())
 }

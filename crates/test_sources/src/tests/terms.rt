@@ -1,6 +1,6 @@
 //! Places from fields, numbers of places, shared texts, homes of addresses, and first statements.
 //! What is wanted was told from the fields, texts and ranges by hand.
-use first_index::FirstIndex;
+use first_index::{FirstIndex, Numbered};
 use geo_addr::{Addr, Range, parse_addr, parse_span};
 use geo_terms::{
     Override, Place, PlaceFault, Places, Said, Texts, country_place, home, is_alias, lies_in_alias,
@@ -334,8 +334,9 @@ fn push_statements(statements: &mut Vec<Override>, ranges: &[(u128, u128)]) -> O
 }
 
 fn index_of(alloc: Global, statements: &[Override]) -> Option<FirstIndex> {
-    let borrowed: Vec<&Override> = statements.iter().collect(alloc).ok()?;
-    FirstIndex::of(alloc, borrowed.as_slice()).ok()
+    let mut numbered = Numbered::new(alloc);
+    numbered.push_all(statements).ok()?;
+    FirstIndex::of(alloc, numbered).ok()
 }
 
 fn finds(index: &FirstIndex, firsts: &[(u128, Option<usize>)]) -> bool {

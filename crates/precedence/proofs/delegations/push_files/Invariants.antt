@@ -8,11 +8,11 @@ use Rattle.precedence.proofs.delegations.push_files.Given as goal
 abbrev pub invariant-loop-file : goal.invariant-loop-file
 invariant-loop-file l = record {
   rows :
-      map (λ d. d.now) l.rows.items
+      l.rows
       ++ flat_map (λ t. t.rows) (map arc_value (drop l.file-index l.files))
-      ≡ map (λ d. d.now) l.fn.rows.items ++ flat_map (λ t. t.rows) (map arc_value l.files);
+      ≡ l.fn.rows ++ flat_map (λ t. t.rows) (map arc_value l.files);
   starts :
       l.starts.items
-      ++ starts_from (length l.rows.items) (map arc_value (drop l.file-index l.files))
-      ≡ l.fn.starts.items ++ starts_from (length l.fn.rows.items) (map arc_value l.files);
+      ++ starts_from (length l.rows) (map arc_value (drop l.file-index l.files))
+      ≡ l.fn.starts.items ++ starts_from (length l.fn.rows) (map arc_value l.files);
 }

@@ -23,14 +23,14 @@ returns-in-Some-clause-told g c =
     let X = g.row.S.Denot in
     let seen : ℕ × Bor X → ℕ × X = λ x. (x.0, x.1.now) in
     let ys : List (ℕ × Bor X) = c.nested_in_some_order.new.indexed.items in
-    let xs : List X = map (λ (s : Bor X). s.now) c.args.statements.now in
+    let xs : List X = c.args.statements in
     let found : AreBoundariesOf (λ (x y : Bor X). g.S.Statement.order x.now y.now)
     (λ x. g.S.Statement.range x.now) ys c.in-Some.index =
     rw c.in-Some.is at c.in_ok-index.ensures.found in
     tells_seen (λ (x : Bor X). x.now) g.S.Statement.order g.S.Statement.range xs ys
     c.in-Some.index
-    (subst (λ (zs : List (ℕ × X)). IsPermutation zs (map seen ys)) c.in_ok-ranked.ensures
-    (IsPermutation-map seen c.in_ok-ranked.ranked.items ys c.nested_in_some_order.ensures.moved))
+    (subst (λ (zs : List (ℕ × X)). IsPermutation zs (map seen ys)) c.into_vec-ranked.ensures
+    (IsPermutation-map seen c.into_vec-ranked.result.items ys c.nested_in_some_order.ensures.moved))
     g.met.S.Statement.total found
 
 pub returns-in-Some-clause-cuts : goal.returns-in-Some-clause-cuts
@@ -38,14 +38,14 @@ returns-in-Some-clause-cuts g c =
     let X = g.row.S.Denot in
     let seen : ℕ × Bor X → ℕ × X = λ x. (x.0, x.1.now) in
     let ys : List (ℕ × Bor X) = c.nested_in_some_order.new.indexed.items in
-    let xs : List X = map (λ (s : Bor X). s.now) c.args.statements.now in
+    let xs : List X = c.args.statements in
     let found : AreBoundariesOf (λ (x y : Bor X). g.S.Statement.order x.now y.now)
     (λ x. g.S.Statement.range x.now) ys c.in-Some.index =
     rw c.in-Some.is at c.in_ok-index.ensures.found in
     cuts_seen (λ (x : Bor X). x.now) g.S.Statement.order g.S.Statement.range xs ys
     c.in-Some.index
-    (subst (λ (zs : List (ℕ × X)). IsPermutation zs (map seen ys)) c.in_ok-ranked.ensures
-    (IsPermutation-map seen c.in_ok-ranked.ranked.items ys c.nested_in_some_order.ensures.moved))
+    (subst (λ (zs : List (ℕ × X)). IsPermutation zs (map seen ys)) c.into_vec-ranked.ensures
+    (IsPermutation-map seen c.into_vec-ranked.result.items ys c.nested_in_some_order.ensures.moved))
     found.stand
 
 pub returns-in-Some-clause-kept : goal.returns-in-Some-clause-kept
@@ -53,12 +53,12 @@ returns-in-Some-clause-kept g c =
     let X = g.row.S.Denot in
     let seen : ℕ × Bor X → ℕ × X = λ x. (x.0, x.1.now) in
     let ys : List (ℕ × Bor X) = c.nested_in_some_order.new.indexed.items in
-    let xs : List X = map (λ (s : Bor X). s.now) c.args.statements.now in
+    let xs : List X = c.args.statements in
     let kept : All (λ (y : ℕ × Bor X). g.S.Statement.kept y.1.now) ys =
     rw c.in-Some.is at c.in_ok-index.ensures.kept in
     all_kept g.S.Statement.order g.met.S.Statement.total g.S.Statement.range xs (map seen ys)
-    (subst (λ (zs : List (ℕ × X)). IsPermutation zs (map seen ys)) c.in_ok-ranked.ensures
-    (IsPermutation-map seen c.in_ok-ranked.ranked.items ys c.nested_in_some_order.ensures.moved))
+    (subst (λ (zs : List (ℕ × X)). IsPermutation zs (map seen ys)) c.into_vec-ranked.ensures
+    (IsPermutation-map seen c.into_vec-ranked.result.items ys c.nested_in_some_order.ensures.moved))
     g.S.Statement.kept
     (each_seen seen (λ x. g.S.Statement.kept x.1) ys
     (recursion_from_All (λ (y : ℕ × Bor X). g.S.Statement.kept y.1.now) ys kept))
@@ -77,7 +77,7 @@ returns-clause-told g c =
     let X = g.row.S.Denot in
     let seen : ℕ × Bor X → ℕ × X = λ x. (x.0, x.1.now) in
     let ys : List (ℕ × Bor X) = c.sort_unstable_by.new.self.items in
-    let xs : List X = map (λ (s : Bor X). s.now) c.args.statements.now in
+    let xs : List X = c.args.statements in
     let sorted : IsSortedBy (λ (x y : ℕ × Bor X).
     is_lt (index_cmp g.S.Statement.order (seen x) (seen y))) ys =
     c.sort_unstable_by.ensures.sorted (λ x y.
@@ -87,9 +87,9 @@ returns-clause-told g c =
     (answers_always _ _ _ (λ f a r q k. let e : r ≡ index_cmp g.S.Statement.order (seen a.0.now)
     (seen a.1.0.now) = search rules in ap is_lt e)) in
     let same : IsPermutation (enumerate_from 0 xs) (map seen ys) =
-    subst (λ (zs : List (ℕ × X)). IsPermutation zs (map seen ys)) c.in_ok-ranked.ensures
-    (IsPermutation-map seen c.in_ok-ranked.ranked.items ys
-    (IsPermutation-trans c.in_ok-ranked.ranked.items c.nested_in_some_order.new.indexed.items ys
+    subst (λ (zs : List (ℕ × X)). IsPermutation zs (map seen ys)) c.into_vec-ranked.ensures
+    (IsPermutation-map seen c.into_vec-ranked.result.items ys
+    (IsPermutation-trans c.into_vec-ranked.result.items c.nested_in_some_order.new.indexed.items ys
     c.nested_in_some_order.ensures.moved c.sort_unstable_by.ensures.permutation)) in
     let range : ℕ × X → Ends = λ x. g.S.Statement.range x.1 in
     let ranges : c.as_slice-2.result.now ≡ map range (map seen ys) =
@@ -121,12 +121,12 @@ returns-clause-cuts g c =
     let X = g.row.S.Denot in
     let seen : ℕ × Bor X → ℕ × X = λ x. (x.0, x.1.now) in
     let ys : List (ℕ × Bor X) = c.sort_unstable_by.new.self.items in
-    let xs : List X = map (λ (s : Bor X). s.now) c.args.statements.now in
+    let xs : List X = c.args.statements in
     let range : ℕ × Bor X → Ends = λ y. g.S.Statement.range y.1.now in
     let same : IsPermutation (enumerate_from 0 xs) (map seen ys) =
-    subst (λ (zs : List (ℕ × X)). IsPermutation zs (map seen ys)) c.in_ok-ranked.ensures
-    (IsPermutation-map seen c.in_ok-ranked.ranked.items ys
-    (IsPermutation-trans c.in_ok-ranked.ranked.items c.nested_in_some_order.new.indexed.items ys
+    subst (λ (zs : List (ℕ × X)). IsPermutation zs (map seen ys)) c.into_vec-ranked.ensures
+    (IsPermutation-map seen c.into_vec-ranked.result.items ys
+    (IsPermutation-trans c.into_vec-ranked.result.items c.nested_in_some_order.new.indexed.items ys
     c.nested_in_some_order.ensures.moved c.sort_unstable_by.ensures.permutation)) in
     let ranges : c.as_slice-2.result.now ≡ map range ys =
     c.as_slice-2.ensures.value ∙ c.in_ok-ranges.ensures.ranges
@@ -147,11 +147,11 @@ returns-clause-kept g c =
     let X = g.row.S.Denot in
     let seen : ℕ × Bor X → ℕ × X = λ x. (x.0, x.1.now) in
     let ys : List (ℕ × Bor X) = c.sort_unstable_by.new.self.items in
-    let xs : List X = map (λ (s : Bor X). s.now) c.args.statements.now in
+    let xs : List X = c.args.statements in
     let same : IsPermutation (enumerate_from 0 xs) (map seen ys) =
-    subst (λ (zs : List (ℕ × X)). IsPermutation zs (map seen ys)) c.in_ok-ranked.ensures
-    (IsPermutation-map seen c.in_ok-ranked.ranked.items ys
-    (IsPermutation-trans c.in_ok-ranked.ranked.items c.nested_in_some_order.new.indexed.items ys
+    subst (λ (zs : List (ℕ × X)). IsPermutation zs (map seen ys)) c.into_vec-ranked.ensures
+    (IsPermutation-map seen c.into_vec-ranked.result.items ys
+    (IsPermutation-trans c.into_vec-ranked.result.items c.nested_in_some_order.new.indexed.items ys
     c.nested_in_some_order.ensures.moved c.sort_unstable_by.ensures.permutation)) in
     let all : All (λ (y : ℕ × Bor X). g.S.Statement.kept y.1.now) ys =
     subst (λ (zs : List (ℕ × Bor X)). All (λ y. g.S.Statement.kept y.1.now) zs)

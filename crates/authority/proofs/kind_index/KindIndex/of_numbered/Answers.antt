@@ -1,4 +1,4 @@
-use Rattle.authority.proofs.kind_index.KindIndex.of_borrowed.Goals as goal
+use Rattle.authority.proofs.kind_index.KindIndex.of_numbered.Goals as goal
 
 pub returns-clause-index : goal.returns-clause-index
 returns-clause-index g c = record {
