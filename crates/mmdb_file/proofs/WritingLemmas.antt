@@ -1,7 +1,7 @@
 -- The steps of the writer.
 use Rattle.std.proofs.Common.{◌≡◌, ℕ, zero, suc, ◌+◌, ◌*◌, ◌<◌, ◌≤◌, not, Bool, true, false, List}
 use Rattle.std.proofs.Common.{[], ◌∷◌, ◌++◌, length, take, drop, get_or, Some, None, refl, sym, ap}
-use Rattle.std.proofs.Common.{◌∙◌, arith, append_assoc, append-nil, length-append, length-take, inl}
+use Rattle.std.proofs.Common.{◌∙◌, arith, append_assoc, length-append, inl}
 use Rattle.std.proofs.Common.{inr, subst, All, add-one, cond, true≢false, ◌||◌}
 use Rattle.std.proofs.Common.{map as map_list}
 use Rattle.mmdb_data.specs.ValueTree.{ValueTree, map, most, CanBeSpelled}
@@ -10,11 +10,11 @@ use Rattle.std.specs.List.{position, position_or_len, list_any}
 use Rattle.std.proofs.lemmas.Bool.{cases_lt, lt-ltb, false_from_ne_true}
 use Rattle.std.proofs.lemmas.List.Folds.{list_any_at}
 use Rattle.std.proofs.lemmas.List.Quantifiers.{position-Some}
-use Rattle.std.proofs.lemmas.List.{take_more, take_at, take_all}
+use Rattle.std.proofs.lemmas.List.{take_more, take_all}
 use Rattle.std.proofs.lemmas.List.Elements.{All-push}
 use Rattle.std.proofs.Math.Seq.{drop-cons}
 use Rattle.std.proofs.lemmas.List.Sums.{prefix_len-le-length}
-use Rattle.std.proofs.Math.Nat.{add-mul, mul-le-mul_right}
+use Rattle.std.proofs.Math.Nat.{add-mul}
 use Rattle.std.proofs.lemmas.Option.{get_or_from_slice_get}
 use Rattle.std.specs.Prelude.{slice_get, slice_index, nat_eq, max, if◌then◌else◌, ◌^◌}
 use Rattle.std.specs.Prelude.{replicate}
@@ -22,7 +22,8 @@ use Rattle.trie_core.specs.declared.node.NodeId.{NodeId}
 use Rattle.trie_core.specs.declared.node.Pair.{Pair}
 use Rattle.trie_core.specs.declared.node.Rec.{Rec}
 use Rattle.trie_core.specs.declared.node.Rec.TheVariants.{Leaf, Node}
-use Rattle.mmdb_file.specs.Writing.{node_numbers, record_number, nodes_from, same_id}
+use Rattle.mmdb_file.specs.Writing.{node_numbers, number_of, record_number, nodes_from, same_id}
+use Rattle.mmdb_file.specs.declared.numbers.Numbers.{Numbers}
 use Rattle.mmdb_data.specs.Spelling.{spelling}
 use Rattle.mmdb_file.specs.FileImage.{file_of}
 use Rattle.mmdb_file.specs.Marker.{marker}
@@ -80,13 +81,6 @@ some_found p (x ∷ xs) i some =
       ],
     )
 
-pub tree_bytes-append : (bits : Bits) (xs ys : List (ℕ × ℕ))
-    → tree_bytes bits (xs ++ ys) ≡ tree_bytes bits xs ++ tree_bytes bits ys
-tree_bytes-append bits [] ys = refl
-tree_bytes-append bits (x ∷ xs) ys =
-    ap (λ t. node_bytes bits x.0 x.1 ++ t) (tree_bytes-append bits xs ys)
-    ∙ sym (append_assoc (node_bytes bits x.0 x.1) (tree_bytes bits xs) (tree_bytes bits ys))
-
 pub length-tree_bytes : (bits : Bits) (nodes : List (ℕ × ℕ))
     → length (tree_bytes bits nodes) ≡ length nodes * width bits
 length-tree_bytes bits [] = omega arith
@@ -97,37 +91,6 @@ length-tree_bytes bits (x ∷ xs) = omega (
   length-tree_bytes bits xs,
   add-mul (length xs) 1 (width bits),
 )
-
-pub put_more : (bits : Bits) (nodes : List (ℕ × ℕ)) (tree new : List ℕ) (n : ℕ)
-    → n < length nodes → length nodes * width bits ≡ length tree
-    → take (n * width bits) tree ≡ tree_bytes bits (take n nodes)
-    → new ≡ take (n * width bits) tree ++ (node_bytes bits (get_or nodes n (0, 0)).0
-    (get_or nodes n (0, 0)).1 ++ drop (n * width bits + width bits) tree)
-    → take ((n + 1) * width bits) new ≡ tree_bytes bits (take (n + 1) nodes)
-put_more bits nodes tree new n inside room done is =
-    let node : ℕ × ℕ = get_or nodes n (0, 0) in
-    let bytes : List ℕ = node_bytes bits node.0 node.1 in
-    let front : List ℕ = take (n * width bits) tree in
-    let more : take (n + 1) nodes ≡ take n nodes ++ node ∷ [] = take_more nodes n (0, 0) inside in
-    let below : (n + 1) * width bits ≤ length nodes * width bits =
-    mul-le-mul_right (width bits) (omega arith) in
-    let adds : (n + 1) * width bits ≡ n * width bits + 1 * width bits = add-mul n 1 (width bits) in
-    let long : length (front ++ bytes) ≡ (n + 1) * width bits = omega (
-      arith,
-      length-append front bytes,
-      length-take (n * width bits) tree,
-      length-node_bytes bits node.0 node.1,
-    ) in
-    let whole : new ≡ (front ++ bytes) ++ drop (n * width bits + width bits) tree =
-    is ∙ sym (append_assoc front bytes (drop (n * width bits + width bits) tree)) in
-    let taken : take ((n + 1) * width bits)
-    ((front ++ bytes) ++ drop (n * width bits + width bits) tree) ≡ front ++ bytes =
-    take_at (front ++ bytes) (drop (n * width bits + width bits) tree)
-    ((n + 1) * width bits) long in
-    let last : tree_bytes bits (node ∷ []) ≡ bytes = append-nil bytes in
-    ap (take ((n + 1) * width bits)) whole ∙ taken ∙ ap (λ f. f ++ bytes) done
-    ∙ sym (ap (tree_bytes bits) more ∙ tree_bytes-append bits (take n nodes) (node ∷ [])
-    ∙ ap (λ b. tree_bytes bits (take n nodes) ++ b) last)
 
 -- one more value in the data section
 module _ (value : ℕ → ValueTree) (numbers : List ℕ) (i : ℕ) (inside : i < length numbers) where
@@ -167,18 +130,21 @@ pub All_whole : {X : Type 0} (P : X → Type 0) (xs : List X) (i : ℕ) → leng
     → All P (take i xs) → All P xs
 All_whole P xs i past all = subst (All P) (take_all i xs past) all
 
--- one more element of a list that a loop maps
-pub map_step : {X Y : Type 0} (f : X → Y) (xs : List X) (i : ℕ) (d : X) (made new total : List Y)
-    (y : Y) → i < length xs → made ++ map_list f (drop i xs) ≡ total → new ≡ made ++ y ∷ []
-    → y ≡ f (get_or xs i d) → new ++ map_list f (drop (i + 1) xs) ≡ total
-map_step f xs i d made new total y inside before is here =
-    let rest : map_list f (drop i xs) ≡ f (get_or xs i d) ∷ map_list f (drop (i + 1) xs) =
+-- one more node of a tree that a loop appends
+pub bytes_step : {X : Type 0} (bits : Bits) (f : X → ℕ × ℕ) (xs : List X) (i : ℕ) (d : X)
+    (made new total : List ℕ) (left right : ℕ) → i < length xs
+    → made ++ tree_bytes bits (map_list f (drop i xs)) ≡ total
+    → new ≡ made ++ node_bytes bits left right → (left, right) ≡ f (get_or xs i d)
+    → new ++ tree_bytes bits (map_list f (drop (i + 1) xs)) ≡ total
+bytes_step bits f xs i d made new total left right inside before is here =
+    let later : List (ℕ × ℕ) = map_list f (drop (i + 1) xs) in
+    let rest : map_list f (drop i xs) ≡ f (get_or xs i d) ∷ later =
     ap (map_list f)
     (drop-cons xs i d inside ∙ ap (λ n. get_or xs i d ∷ drop n xs) (sym (add-one i))) in
-    ap (λ z. z ++ map_list f (drop (i + 1) xs)) is
-    ∙ append_assoc made (y ∷ []) (map_list f (drop (i + 1) xs))
-    ∙ ap (λ v. made ++ v ∷ map_list f (drop (i + 1) xs)) here
-    ∙ sym (ap (λ v. made ++ v) rest) ∙ before
+    ap (λ z. z ++ tree_bytes bits later) is
+    ∙ append_assoc made (node_bytes bits left right) (tree_bytes bits later)
+    ∙ ap (λ (v : ℕ × ℕ). made ++ tree_bytes bits (v ∷ later)) here
+    ∙ sym (ap (λ v. made ++ tree_bytes bits v) rest) ∙ before
 
 -- the numbers of a node, by its children
 pub node_by_children : (pairs : List Pair) (number : Rec → ℕ) (id : NodeId) (left right : Rec)
@@ -281,15 +247,17 @@ metadata_spelled epoch name nodes size value old new is put =
 
 -- the parts of a file in order
 pub file_parts : (bits : Bits) (nodes : List (ℕ × ℕ)) (section : List ℕ) (epoch : ℕ)
-    (name tree more whole : List ℕ) → tree ≡ tree_bytes bits nodes
-    → more ≡ ((tree ++ replicate 16 0) ++ section) ++ marker
-    → whole ≡ more ++ metadata epoch name (length nodes) (record_size bits)
+    (name tree whole : List ℕ) (count : ℕ) → tree ≡ tree_bytes bits nodes → count ≡ length nodes
+    → whole ≡ (((tree ++ replicate 16 0) ++ section) ++ marker)
+    ++ metadata epoch name count (record_size bits)
     → whole ≡ file_of bits nodes section epoch name
 unfolding file_of
-file_parts bits nodes section epoch name tree more whole is_tree is_more is_whole =
+file_parts bits nodes section epoch name tree whole count is_tree counted is_whole =
     let told : List ℕ = metadata epoch name (length nodes) (record_size bits) in
     let front : List ℕ = (tree_bytes bits nodes ++ replicate 16 0) ++ section in
-    is_whole ∙ ap (λ (m : List ℕ). m ++ told) is_more
+    is_whole
+    ∙ ap (λ (n : ℕ). (((tree ++ replicate 16 0) ++ section) ++ marker)
+    ++ metadata epoch name n (record_size bits)) counted
     ∙ ap (λ (t : List ℕ). (((t ++ replicate 16 0) ++ section) ++ marker) ++ told) is_tree
     ∙ append_assoc front marker told
     ∙ ap (λ (f : List ℕ). f ++ (marker ++ told))
@@ -336,6 +304,22 @@ nodes_fit bits pairs number root (id ∷ ids) fits k inside =
     let at : get_or (map_list f (id ∷ ids)) k (0, 0) ≡ f (get_or (id ∷ ids) k id) =
     get_or-map f (id ∷ ids) k id (0, 0) (omega (arith, inside, length-mapped f (id ∷ ids))) in
     subst (NodeFits bits) (sym at) (fits _, fits _)
+
+-- the numbers that a writer holds fit where its greatest does
+pub number_fits : (bits : Bits) (numbers : Numbers) → length numbers.nodes ≤ numbers.count
+    → ((k : ℕ) → numbers.count + 16 + slice_index numbers.starts.items k < limit bits)
+    → (rec : Rec) → number_of numbers rec < limit bits
+number_fits bits numbers keys low rec =
+    record_number-lt numbers.count (limit bits) numbers.nodes numbers.places numbers.starts.items
+    rec (omega (arith, keys, low 0)) (omega (arith, low 0)) low
+
+pub numbers_fit : (bits : Bits) (pairs : List Pair) (numbers : Numbers) (root : Rec)
+    (ids : List NodeId) → length numbers.nodes ≤ numbers.count
+    → ((k : ℕ) → numbers.count + 16 + slice_index numbers.starts.items k < limit bits)
+    → (k : ℕ) → k < length (nodes_from pairs (number_of numbers) root ids)
+    → NodeFits bits (get_or (nodes_from pairs (number_of numbers) root ids) k (0, 0))
+numbers_fit bits pairs numbers root ids keys low =
+    nodes_fit bits pairs (number_of numbers) root ids (number_fits bits numbers keys low)
 
 pub length-nodes_from : (pairs : List Pair) (number : Rec → ℕ) (root : Rec) (ids : List NodeId)
     → length (nodes_from pairs number root ids) ≡ max 1 (length ids)

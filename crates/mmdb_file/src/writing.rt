@@ -28,7 +28,7 @@ use crate::fault::FileFault;
 use crate::laws::written_file_is_walked;
 use crate::marker::MARKER;
 use crate::metadata::{Meta, metadata_of};
-use crate::nodes::{nodes_of, put_nodes};
+use crate::nodes::push_nodes;
 use crate::numbers::Numbers;
 use geo_addr::Memory;
 use geo_terms::Places;
@@ -37,6 +37,9 @@ use mmdb_data::{Packer, encode};
 use mmdb_tree::{Bits, record_bits};
 use std::alloc::Global;
 use trie_core::{NodeId, Rec, Root, Store};
+
+// Room for the bytes that are neither nodes nor data, so that a file is not moved as it grows.
+const END_ROOM: usize = 512;
 
 /// A file that was written, and its counts.
 #[derive(Debug, Drop)]
@@ -248,8 +251,8 @@ fn written(
         → NodeFits bits
         (slice_index_or (nodes_from store.now (number_of numbers.now) root ids.now) k (0, 0)) }
 {
-    let nodes = nodes_of(alloc, store, root, ids, numbers)?;
-    file_bytes(alloc, bits, nodes.as_slice(), section, meta)
+    let tree = tree_of_nodes(alloc, store, root, ids, numbers, bits, section.len())?;
+    file_bytes(alloc, tree, bits, ids.len().max(1) as u32, section, meta)
 }
 
 fn bits_for(nodes: usize, section_len: usize) -> Option<Bits>
@@ -262,24 +265,24 @@ fn bits_for(nodes: usize, section_len: usize) -> Option<Bits>
     record_bits(nodes as u64, section_len as u64)
 }
 
+/// The file that begins with these bytes of the tree's nodes.
 fn file_bytes(
     alloc: Global,
+    tree: Vec<u8>,
     bits: Bits,
-    nodes: &[(u32, u32)],
+    nodes: u32,
     section: &[u8],
     meta: &Meta,
 ) -> Result<Vec<u8>, Memory>
-    requires few { length nodes.now < 2 ^ 32 }
-    requires fits { (k : ℕ) → k < length nodes.now
-        → NodeFits bits (slice_index_or nodes.now k (0, 0)) }
     requires name { length meta.now.name ≤ 64 }
-    ensures bytes { IfOk result
-        (λ bytes. bytes.items ≡ file_of bits nodes.now section.now meta.now.epoch meta.now.name) }
+    ensures bytes { IfOk result (λ bytes. bytes.items
+        ≡ (((tree.items ++ replicate 16 0) ++ section.now) ++ marker)
+        ++ metadata meta.now.epoch meta.now.name nodes (record_size bits)) }
     ensures typed { IfOk result (λ _. (meta.now.epoch < 2 ^ 64) × IsUtf8 meta.now.name) }
 {
-    let mut bytes = tree_of_nodes(alloc, bits, nodes)?;
+    let mut bytes = tree;
     push_section(&mut bytes, section)?;
-    push_metadata(alloc, &mut bytes, meta, nodes.len() as u32, bits)?;
+    push_metadata(alloc, &mut bytes, meta, nodes, bits)?;
     Ok(bytes)
 }
 
@@ -315,13 +318,27 @@ fn push_metadata(
     Ok(())
 }
 
-fn tree_of_nodes(alloc: Global, bits: Bits, nodes: &[(u32, u32)]) -> Result<Vec<u8>, Memory>
-    requires few { length nodes.now < 2 ^ 32 }
-    requires fits { (k : ℕ) → k < length nodes.now
-        → NodeFits bits (slice_index_or nodes.now k (0, 0)) }
-    ensures { IfOk result (λ tree. tree.items ≡ tree_bytes bits nodes.now) }
+/// The bytes of the tree's nodes, with room for all that follows them in the file.
+fn tree_of_nodes(
+    alloc: Global,
+    store: &Store,
+    root: Rec,
+    ids: &[NodeId],
+    numbers: &Numbers,
+    bits: Bits,
+    section_len: usize,
+) -> Result<Vec<u8>, Memory>
+    requires of { AreOf store.now ids.now }
+    requires short { section_len < 2 ^ 63 }
+    requires ids { length ids.now ≤ numbers.now.count }
+    requires keys { length numbers.now.nodes ≤ numbers.now.count }
+    requires low { (k : ℕ)
+        → numbers.now.count + 16 + slice_index numbers.now.starts.items k < limit bits }
+    ensures { IfOk result (λ tree. tree.items
+        ≡ tree_bytes bits (nodes_from store.now (number_of numbers.now) root ids.now)) }
 {
-    let mut tree = vec![in alloc; 0; nodes.len() * bits.width()]?;
-    put_nodes(&mut tree, bits, nodes);
+    let room = ids.len().max(1) * bits.width() + section_len + END_ROOM;
+    let mut tree = Vec::with_capacity(alloc, room)?;
+    push_nodes(&mut tree, bits, store, root, ids, numbers)?;
     Ok(tree)
 }

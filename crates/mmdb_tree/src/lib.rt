@@ -7,4 +7,4 @@ mod node;
 
 pub use bits::{Bits, record_bits};
 pub use laws::{node_reads_back, tree_reads_back};
-pub use node::{get_record, put_node};
+pub use node::{get_record, push_node};

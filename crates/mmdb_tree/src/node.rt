@@ -1,35 +1,35 @@
 //! Writing and reading a node of the search tree.
-ghost use Rattle.std.specs.Prelude.{◌≡◌, ◌+◌, ◌*◌, ◌<◌, ◌≤◌, ◌++◌, length, take, drop};
+ghost use Rattle.std.specs.Prelude.{◌≡◌, ◌+◌, ◌*◌, ◌<◌, ◌≤◌, ◌++◌, length, OnOk, OnErr};
 ghost use Rattle.mmdb_tree.specs.Nodes.{limit, node_bytes, node_record, width};
 
 use crate::bits::Bits;
 use byteorder::{BigEndian, ByteOrder};
+use std::alloc::AllocError;
 
-/// Writes node `n` with its two records; every other byte of the tree stays.
-pub fn put_node(tree: &mut [u8], bits: Bits, n: u32, left: u32, right: u32)
-    requires within { n * width bits + width bits ≤ length tree.old }
+/// Appends a node with its two records.
+pub fn push_node(tree: &mut Vec<u8>, bits: Bits, left: u32, right: u32) -> Result<(), AllocError>
     requires left_fits { left < limit bits }
     requires right_fits { right < limit bits }
-    ensures { tree.new ≡ take (n * width bits) tree.old
-        ++ (node_bytes bits left right ++ drop (n * width bits + width bits) tree.old) }
+    ensures appended { OnOk result (tree.new.items
+        ≡ tree.old.items ++ node_bytes bits left right) }
+    ensures refused { OnErr result (tree.new.items ≡ tree.old.items) }
 {
-    let start = n as usize * bits.width();
-    let node = &mut tree[start..start + bits.width()];
+    // All bits at the head of one word, so that few steps write its bytes.
+    let (left, right) = (u64::from(left), u64::from(right));
     match bits {
         Bits::B24 => {
-            BigEndian::write_u24(node, left);
-            BigEndian::write_u24(&mut node[3..], right);
+            let word = left * (1 << 40) + right * (1 << 16);
+            tree.extend_from_slice(&word.to_be_bytes()[..6])
         }
         Bits::B28 => {
-            let mut words = [0; 8];
-            BigEndian::write_u32(&mut words, left);
-            BigEndian::write_u32(&mut words[4..], right);
-            let [a, b, c, d, e, f, g, h] = words;
-            node.copy_from_slice(&[b, c, d, a * 16 + e, f, g, h]);
+            let word = left % (1 << 24) * (1 << 40)
+                + left / (1 << 24) * (1 << 36)
+                + right * (1 << 8);
+            tree.extend_from_slice(&word.to_be_bytes()[..7])
         }
         Bits::B32 => {
-            BigEndian::write_u32(node, left);
-            BigEndian::write_u32(&mut node[4..], right);
+            let word = left * (1 << 32) + right;
+            tree.extend_from_slice(&word.to_be_bytes())
         }
     }
 }

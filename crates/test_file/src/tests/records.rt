@@ -1,14 +1,17 @@
 //! Records of nodes and their sizes. The digits of two records are those of seven bytes, and the
 //! nodes, 16 and the data section together stay below 2^24, 2^28 and 2^32.
-use mmdb_tree::{Bits, get_record, put_node, record_bits};
+use mmdb_tree::{Bits, get_record, push_node, record_bits};
+use std::test::Fail;
 
 #[test]
-fn the_middle_byte_is_shared(rt: HostRuntime) {
-    let mut tree = [0u8; 9];
-    put_node(&mut tree[1..8], Bits::B28, 0, 0x123_4567, 0x89A_BCDE);
-    assert!(rt; tree == [0, 0x23, 0x45, 0x67, 0x18, 0x9A, 0xBC, 0xDE, 0]);
-    assert!(rt; get_record(&tree[1..8], Bits::B28, 0, false) == 0x123_4567);
-    assert!(rt; get_record(&tree[1..8], Bits::B28, 0, true) == 0x89A_BCDE);
+fn the_middle_byte_is_shared(rt: HostRuntime) -> Result<(), Fail> {
+    let mut tree = Vec::new(rt.alloc());
+    push_node(&mut tree, Bits::B28, 0xFED_CBA9, 0x876_5432)?;
+    push_node(&mut tree, Bits::B28, 0x123_4567, 0x89A_BCDE)?;
+    assert!(rt; tree[7..] == [0x23, 0x45, 0x67, 0x18, 0x9A, 0xBC, 0xDE]);
+    assert!(rt; get_record(&tree, Bits::B28, 1, false) == 0x123_4567);
+    assert!(rt; get_record(&tree, Bits::B28, 1, true) == 0x89A_BCDE);
+    Ok(())
 }
 
 // How many nodes there are, the bytes of the data section, and the bits of a record.
