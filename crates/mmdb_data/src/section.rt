@@ -12,8 +12,9 @@ ghost use Rattle.mmdb_data.specs.Packing.{full_by, shorter_pointer, part_by, key
 ghost use Rattle.mmdb_data.specs.FullValues.{mixed};
 ghost use Rattle.mmdb_data.specs.Section.{packed_of};
 
-use crate::full_values::{FullValues, mixed};
+use crate::full_values::mixed;
 use crate::kind::Kind;
+use crate::noted_values::NotedValues;
 use crate::value::Value;
 use crate::writing::{put_head, put_sized, put_value};
 use byteorder::{BigEndian, ByteOrder};
@@ -25,7 +26,7 @@ use std::alloc::Global;
 pub(crate) struct Section {
     pub(crate) bytes: Vec<u8>,
     /// Where each value stands in full, by its spelling, in the order in which they ended.
-    pub(crate) full: FullValues,
+    pub(crate) full: NotedValues,
     /// What is looked up or appended next. It is reused, so that looking up takes no memory.
     pub(crate) piece: Vec<u8>,
 }
@@ -43,7 +44,7 @@ impl Section {
     {
         Section {
             bytes: Vec::new(alloc),
-            full: FullValues::new(alloc),
+            full: NotedValues::new(alloc),
             piece: Vec::new(alloc),
         }
     }
@@ -144,10 +145,16 @@ impl Section {
             (packed_of self.new ≡ key_part key.now (packed_of self.old)) }
         ensures kept { IsKept (packed_of self.old) (packed_of self.new) }
     {
+        if let Some(to) = self.full.known_key(key) {
+            return self.append_pointer(to);
+        }
         self.spell_key(key)?;
         let found = self.found();
         match shorter(found.at, &self.piece) {
-            Some(to) => self.append_pointer(to),
+            Some(to) => {
+                self.full.learn(key, to)?;
+                self.append_pointer(to)
+            }
             None => self.append_key_full(found),
         }
     }
