@@ -16,6 +16,7 @@ pub mod Keys
 pub mod Packs
 pub mod Keeps
 pub mod Table
+pub mod KnownKeys
 pub mod PackedReads
 pub mod Appending
 pub mod Nested

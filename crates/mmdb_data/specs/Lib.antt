@@ -8,3 +8,4 @@ pub mod Member
 pub mod FullValues
 pub mod Section
 pub mod Laws
+pub mod KnownKeys

@@ -67,15 +67,15 @@ impl FullValues {
         self.list.len()
     }
 
-    /// The offset of the spelling.
-    pub(crate) fn get(&self, spelled: &Vec<u8>) -> Option<u64>
+    /// The offset of the spelling, which is mixed to `first`.
+    pub(crate) fn get(&self, spelled: &Vec<u8>, first: u64) -> Option<u64>
+        requires { first ≡ mixed spelled.now.items }
         ensures { result ≡ lookup (pointwise nat_eq spelled.now.items) self.now }
     {
         let (list, table) = (self.list.as_slice(), &self.table);
         if table.slots.is_empty() {
             return searched(list, spelled.as_slice());
         }
-        let first = mixed(spelled.as_slice());
         let slot = slot_by(first, table.slots.len());
         if let Some(answer) = said(list, table.slots[slot], spelled.as_slice()) {
             return answer;
@@ -90,9 +90,10 @@ impl FullValues {
         table.others.get(spelled).copied()
     }
 
-    /// Puts a new spelling last.
-    pub(crate) fn push(&mut self, spelled: Vec<u8>, at: u64) -> Result<(), Memory>
-        requires { lookup (pointwise nat_eq spelled.items) self.old ≡ None }
+    /// Puts a new spelling last, which is mixed to `first`.
+    pub(crate) fn push(&mut self, spelled: Vec<u8>, first: u64, at: u64) -> Result<(), Memory>
+        requires new { lookup (pointwise nat_eq spelled.items) self.old ≡ None }
+        requires first { first ≡ mixed spelled.items }
         ensures pushed { OnOk result (self.new ≡ self.old ++ (spelled.items, at) ∷ []) }
         ensures err { OnErr result (self.new ≡ self.old) }
     {
@@ -107,7 +108,7 @@ impl FullValues {
             self.table = table_of(self.alloc, self.list.as_slice())?;
         }
         self.list.reserve(1)?;
-        note(&mut self.table, number as u32, &spelled, at)?;
+        note(&mut self.table, number as u32, &spelled, first, at)?;
         self.list.push_reserved((spelled, at));
         Ok(())
     }
@@ -151,8 +152,8 @@ const FIRST_SLOTS: usize = 64;
 /// The most spellings that a slot can tell apart.
 const MOST_NUMBERS: usize = 0xffff_ffff;
 
-// What a spelling is mixed to.
-fn mixed(spelled: &[u8]) -> u64
+/// What a spelling is mixed to.
+pub(crate) fn mixed(spelled: &[u8]) -> u64
     ensures { result ≡ mixed spelled.now }
 {
     let mut hasher = FoldHasher::default();
@@ -220,20 +221,26 @@ fn table_of(alloc: Global, list: &[(Vec<u8>, u64)]) -> Result<Table, Memory>
     table.slots.resize(8 * list.len() + FIRST_SLOTS, 0)?;
     for number in 0..list.len() {
         let (spelled, at) = &list[number];
-        note(&mut table, number as u32, spelled, *at)?;
+        note(&mut table, number as u32, spelled, mixed(spelled), *at)?;
     }
     Ok(table)
 }
 
-// Notes the number of a new spelling at the first free one of its slots, or else at its rank, or
-// else the spelling among the others.
-fn note(table: &mut Table, number: u32, spelled: &Vec<u8>, at: u64) -> Result<(), Memory>
+// Notes the number of a new spelling, mixed to `first`, at the first free one of its slots, or else
+// at its rank, or else the spelling among the others.
+fn note(
+    table: &mut Table,
+    number: u32,
+    spelled: &Vec<u8>,
+    first: u64,
+    at: u64,
+) -> Result<(), Memory>
+    requires first { first ≡ mixed spelled.now.items }
     requires some { 1 < length table.old.slots.items }
     requires few { number + 1 < 2 ^ 32 }
     ensures put { OnOk result (IsPut table.old table.new number spelled.now at) }
     ensures err { OnErr result (IsAlike table.old table.new) }
 {
-    let first = mixed(spelled.as_slice());
     let slot = slot_by(first, table.slots.len());
     if table.slots[slot] == 0 {
         table.slots[slot] = number + 1;

@@ -9,6 +9,7 @@ mod kind;
 mod laws;
 mod leaves;
 mod member;
+mod noted_values;
 mod packer;
 mod packing;
 mod packing_members;

@@ -1,15 +1,16 @@
 //! Values with their parts, each part a pointer where one is shorter.
 
-ghost use Rattle.std.specs.Prelude.{◌≡◌, OnOk, is_some};
+ghost use Rattle.std.specs.Prelude.{◌≡◌, OnOk};
 ghost use Rattle.mmdb_data.specs.ValueTree.{IsNarrow, MembersAreNarrow, ItemsAreNarrow, IsTyped};
 ghost use Rattle.mmdb_data.specs.Spelling.{spelling};
 ghost use Rattle.mmdb_data.specs.View.{value_tree, items_view, members_view};
 ghost use Rattle.mmdb_data.specs.Packing.{offset_of, part_by, content_in, members_in, items_in};
 ghost use Rattle.mmdb_data.specs.Packing.{in_full, IsKept};
+ghost use Rattle.mmdb_data.specs.FullValues.{mixed};
 ghost use Rattle.mmdb_data.specs.Section.{packed_of};
 
 use crate::kind::Kind;
-use crate::section::{Section, shorter};
+use crate::section::{Found, Section, shorter};
 use crate::value::Value;
 use geo_addr::{Memory, Text};
 
@@ -22,8 +23,8 @@ pub(crate) fn append_top(section: &mut Section, value: &Value) -> Result<(), Mem
     ensures typed { OnOk result (IsTyped (value_tree value.now)) }
 {
     section.spell(value)?;
-    let is_known = section.found().is_some();
-    append_full(section, value, is_known)
+    let found = section.found();
+    append_full(section, value, found)
 }
 
 #[cycle(packing)]
@@ -36,29 +37,30 @@ fn append_part(section: &mut Section, value: &Value) -> Result<(), Memory>
 {
     section.spell(value)?;
     let found = section.found();
-    match shorter(found, &section.piece) {
+    match shorter(found.at, &section.piece) {
         Some(to) => section.append_pointer(to),
-        None => append_full(section, value, found.is_some()),
+        None => append_full(section, value, found),
     }
 }
 
 #[cycle(packing)]
-fn append_full(section: &mut Section, value: &Value, is_known: bool) -> Result<(), Memory>
+fn append_full(section: &mut Section, value: &Value, found: Found) -> Result<(), Memory>
     requires narrow { IsNarrow (value_tree value.now) }
     requires spelled { section.old.piece.items ≡ spelling (value_tree value.now) }
-    requires known { is_known
-        ≡ is_some (offset_of (spelling (value_tree value.now)) (packed_of section.old)) }
+    requires known { found.at
+        ≡ offset_of (spelling (value_tree value.now)) (packed_of section.old) }
+    requires mixed { found.mixed ≡ mixed (spelling (value_tree value.now)) }
     ensures appended { OnOk result
         (packed_of section.new ≡ in_full (value_tree value.now) (packed_of section.old)) }
     ensures kept { IsKept (packed_of section.old) (packed_of section.new) }
 {
-    if is_known {
+    if found.at.is_some() {
         return append_content(section, value);
     }
     let at = section.bytes.len() as u64;
     let spelled = section.piece.clone()?;
     append_content(section, value)?;
-    section.note(spelled, at)
+    section.note(spelled, found.mixed, at)
 }
 
 #[cycle(packing)]

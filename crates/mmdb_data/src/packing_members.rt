@@ -1,16 +1,17 @@
 //! A map whose members borrow their texts, each part a pointer where one is shorter.
 
-ghost use Rattle.std.specs.Prelude.{◌≡◌, ◌++◌, OnOk, is_some};
+ghost use Rattle.std.specs.Prelude.{◌≡◌, ◌++◌, OnOk};
 ghost use Rattle.mmdb_data.specs.ValueTree.{map as map_tree, IsNarrow, MembersAreNarrow};
 ghost use Rattle.mmdb_data.specs.Spelling.{spelling, members_spelling};
 ghost use Rattle.mmdb_data.specs.Member.{nested, member_list, around_in, HasNarrowKey};
 ghost use Rattle.mmdb_data.specs.Packing.{offset_of, part_by, content_in, members_in, in_full};
 ghost use Rattle.mmdb_data.specs.Packing.{IsKept};
+ghost use Rattle.mmdb_data.specs.FullValues.{mixed};
 ghost use Rattle.mmdb_data.specs.Section.{packed_of};
 
 use crate::kind::Kind;
 use crate::member::{Around, Member, put_nested};
-use crate::section::{Section, shorter};
+use crate::section::{Found, Section, shorter};
 use crate::writing::{put_head, put_sized};
 use geo_addr::Memory;
 
@@ -22,8 +23,8 @@ pub(crate) fn append_map(section: &mut Section, members: &[Member<'_>]) -> Resul
     ensures kept { IsKept (packed_of section.old) (packed_of section.new) }
 {
     spell_map(section, members)?;
-    let is_known = section.found().is_some();
-    append_map_full(section, members, is_known)
+    let found = section.found();
+    append_map_full(section, members, found)
 }
 
 fn spell_map(section: &mut Section, members: &[Member<'_>]) -> Result<(), Memory>
@@ -60,23 +61,24 @@ fn put_member_list(out: &mut Vec<u8>, members: &[Member<'_>]) -> Result<(), Memo
 fn append_map_full(
     section: &mut Section,
     members: &[Member<'_>],
-    is_known: bool,
+    found: Found,
 ) -> Result<(), Memory>
     requires narrow { IsNarrow (map_tree (member_list members.now)) }
     requires spelled { section.old.piece.items ≡ spelling (map_tree (member_list members.now)) }
-    requires known { is_known ≡ is_some
-        (offset_of (spelling (map_tree (member_list members.now))) (packed_of section.old)) }
+    requires known { found.at
+        ≡ offset_of (spelling (map_tree (member_list members.now))) (packed_of section.old) }
+    requires mixed { found.mixed ≡ mixed (spelling (map_tree (member_list members.now))) }
     ensures appended { OnOk result (packed_of section.new
         ≡ in_full (map_tree (member_list members.now)) (packed_of section.old)) }
     ensures kept { IsKept (packed_of section.old) (packed_of section.new) }
 {
-    if is_known {
+    if found.at.is_some() {
         return append_map_content(section, members);
     }
     let at = section.bytes.len() as u64;
     let spelled = section.piece.clone()?;
     append_map_content(section, members)?;
-    section.note(spelled, at)
+    section.note(spelled, found.mixed, at)
 }
 
 fn append_map_content(section: &mut Section, members: &[Member<'_>]) -> Result<(), Memory>
@@ -113,9 +115,9 @@ fn append_nested(section: &mut Section, around: &[Around<'_>], text: &str) -> Re
     section.piece.clear();
     put_nested(&mut section.piece, around, text)?;
     let found = section.found();
-    match shorter(found, &section.piece) {
+    match shorter(found.at, &section.piece) {
         Some(to) => section.append_pointer(to),
-        None => append_nested_full(section, around, text, found.is_some()),
+        None => append_nested_full(section, around, text, found),
     }
 }
 
@@ -124,23 +126,24 @@ fn append_nested_full(
     section: &mut Section,
     around: &[Around<'_>],
     text: &str,
-    is_known: bool,
+    found: Found,
 ) -> Result<(), Memory>
     requires narrow { IsNarrow (nested around.now text.now) }
     requires spelled { section.old.piece.items ≡ spelling (nested around.now text.now) }
-    requires known { is_known
-        ≡ is_some (offset_of (spelling (nested around.now text.now)) (packed_of section.old)) }
+    requires known { found.at
+        ≡ offset_of (spelling (nested around.now text.now)) (packed_of section.old) }
+    requires mixed { found.mixed ≡ mixed (spelling (nested around.now text.now)) }
     ensures appended { OnOk result (packed_of section.new
         ≡ in_full (nested around.now text.now) (packed_of section.old)) }
     ensures kept { IsKept (packed_of section.old) (packed_of section.new) }
 {
-    if is_known {
+    if found.at.is_some() {
         return append_nested_content(section, around, text);
     }
     let at = section.bytes.len() as u64;
     let spelled = section.piece.clone()?;
     append_nested_content(section, around, text)?;
-    section.note(spelled, at)
+    section.note(spelled, found.mixed, at)
 }
 
 #[cycle(nesting)]

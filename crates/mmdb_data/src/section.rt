@@ -1,7 +1,7 @@
 //! The bytes of a packed data section, and where values stand in full.
 
 ghost use Rattle.std.specs.Prelude.{◌≡◌, ◌≤◌, ◌<◌, ◌^◌, ◌++◌, ◌∷◌, None, OnOk, OnErr, length};
-ghost use Rattle.std.specs.Prelude.{option_map, is_some};
+ghost use Rattle.std.specs.Prelude.{option_map};
 ghost use Rattle.std.specs.Int.{bytes_high_first};
 ghost use Rattle.mmdb_data.specs.ValueTree.{most, IsNarrow, IsTyped};
 ghost use Rattle.mmdb_data.specs.Kinds.{kind_code};
@@ -9,10 +9,12 @@ ghost use Rattle.mmdb_data.specs.Spelling.{head, sized, spelling};
 ghost use Rattle.mmdb_data.specs.View.{value_tree};
 ghost use Rattle.mmdb_data.specs.Packing.{pointer, nothing_packed, offset_of, with_bytes, noted};
 ghost use Rattle.mmdb_data.specs.Packing.{full_by, shorter_pointer, part_by, key_part, IsKept};
+ghost use Rattle.mmdb_data.specs.FullValues.{mixed};
 ghost use Rattle.mmdb_data.specs.Section.{packed_of};
 
-use crate::full_values::FullValues;
+use crate::full_values::mixed;
 use crate::kind::Kind;
+use crate::noted_values::NotedValues;
 use crate::value::Value;
 use crate::writing::{put_head, put_sized, put_value};
 use byteorder::{BigEndian, ByteOrder};
@@ -24,9 +26,16 @@ use std::alloc::Global;
 pub(crate) struct Section {
     pub(crate) bytes: Vec<u8>,
     /// Where each value stands in full, by its spelling, in the order in which they ended.
-    pub(crate) full: FullValues,
+    pub(crate) full: NotedValues,
     /// What is looked up or appended next. It is reused, so that looking up takes no memory.
     pub(crate) piece: Vec<u8>,
+}
+
+/// Where a spelling stands in full, if it does, and what it is mixed to.
+#[derive(Clone, Copy)]
+pub(crate) struct Found {
+    pub(crate) at: Option<u64>,
+    pub(crate) mixed: u64,
 }
 
 impl Section {
@@ -35,7 +44,7 @@ impl Section {
     {
         Section {
             bytes: Vec::new(alloc),
-            full: FullValues::new(alloc),
+            full: NotedValues::new(alloc),
             piece: Vec::new(alloc),
         }
     }
@@ -60,10 +69,15 @@ impl Section {
     }
 
     /// Where the value that the piece spells stands in full.
-    pub(crate) fn found(&self) -> Option<u64>
-        ensures { result ≡ offset_of self.now.piece.items (packed_of self.now) }
+    pub(crate) fn found(&self) -> Found
+        ensures at { result.at ≡ offset_of self.now.piece.items (packed_of self.now) }
+        ensures mixed { result.mixed ≡ mixed self.now.piece.items }
     {
-        self.full.get(&self.piece)
+        let mixed = mixed(&self.piece);
+        Found {
+            at: self.full.get(&self.piece, mixed),
+            mixed,
+        }
     }
 
     pub(crate) fn append(&mut self) -> Result<(), Memory>
@@ -96,31 +110,33 @@ impl Section {
         self.append()
     }
 
-    /// The value is one that stands nowhere in full yet.
-    pub(crate) fn note(&mut self, spelled: Vec<u8>, at: u64) -> Result<(), Memory>
-        requires { offset_of spelled.items (packed_of self.old) ≡ None }
+    /// The value is one that stands nowhere in full yet, and is mixed to `first`.
+    pub(crate) fn note(&mut self, spelled: Vec<u8>, first: u64, at: u64) -> Result<(), Memory>
+        requires new { offset_of spelled.items (packed_of self.old) ≡ None }
+        requires first { first ≡ mixed spelled.items }
         ensures noted { OnOk result
             (packed_of self.new ≡ noted spelled.items at (packed_of self.old)) }
         ensures refused { OnErr result (packed_of self.new ≡ packed_of self.old) }
     {
-        self.full.push(spelled, at)?;
+        self.full.push(spelled, first, at)?;
         Ok(())
     }
 
     /// The key that the piece spells, in full.
-    fn append_key_full(&mut self, is_known: bool) -> Result<(), Memory>
-        requires { is_known ≡ is_some (offset_of self.old.piece.items (packed_of self.old)) }
+    fn append_key_full(&mut self, found: Found) -> Result<(), Memory>
+        requires known { found.at ≡ offset_of self.old.piece.items (packed_of self.old) }
+        requires mixed { found.mixed ≡ mixed self.old.piece.items }
         ensures appended { OnOk result (packed_of self.new
             ≡ full_by self.old.piece.items (with_bytes self.old.piece.items) (packed_of self.old)) }
         ensures kept { IsKept (packed_of self.old) (packed_of self.new) }
     {
-        if is_known {
+        if found.at.is_some() {
             return self.append();
         }
         let at = self.bytes.len() as u64;
         let spelled = self.piece.clone()?;
         self.append()?;
-        self.note(spelled, at)
+        self.note(spelled, found.mixed, at)
     }
 
     pub(crate) fn append_key(&mut self, key: &str) -> Result<(), Memory>
@@ -129,11 +145,17 @@ impl Section {
             (packed_of self.new ≡ key_part key.now (packed_of self.old)) }
         ensures kept { IsKept (packed_of self.old) (packed_of self.new) }
     {
+        if let Some(to) = self.full.known_key(key) {
+            return self.append_pointer(to);
+        }
         self.spell_key(key)?;
         let found = self.found();
-        match shorter(found, &self.piece) {
-            Some(to) => self.append_pointer(to),
-            None => self.append_key_full(found.is_some()),
+        match shorter(found.at, &self.piece) {
+            Some(to) => {
+                self.full.learn(key, to)?;
+                self.append_pointer(to)
+            }
+            None => self.append_key_full(found),
         }
     }
 }

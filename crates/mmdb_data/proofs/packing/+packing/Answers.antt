@@ -1,7 +1,9 @@
 use Rattle.std.proofs.Common.{sym, ap, ◌∙◌, subst, arith}
+use Rattle.std.specs.Prelude.{is_some}
 use Rattle.std.specs.List.{each_same}
 use Rattle.mmdb_data.specs.ValueTree.{IsNarrow}
 use Rattle.mmdb_data.specs.View.{value_tree, items_view, members_view}
+use Rattle.mmdb_data.specs.FullValues.{mixed}
 use Rattle.mmdb_data.specs.Section.{packed_of}
 use Rattle.mmdb_data.proofs.Views.{tree-Map, tree-List, leaf_tree, len-members_view}
 use Rattle.mmdb_data.proofs.Views.{len-items_view}
@@ -44,20 +46,27 @@ append_content-returns-in_ok-append_head-in-List-clause-appended t c =
     c.in_ok-append_head-in-List.ensures.appended
     (rw c.deref-in-List.ensures.value at c.append_items.ensures.appended))
 
-pub append_full-returns-then-is_known-clause-appended
-    : goal.append_full-returns-then-is_known-clause-appended
-append_full-returns-then-is_known-clause-appended t c =
+pub append_full-returns-then-is_some-clause-appended
+    : goal.append_full-returns-then-is_some-clause-appended
+append_full-returns-then-is_some-clause-appended t c =
     known_full c.append_content.result (value_tree c.args.value.now) _ _
-    (sym c.requires.known ∙ c.if-is_known.true) c.append_content.ensures.appended
+    (ap is_some (sym c.requires.known) ∙ sym c.is_some.ensures
+    ∙ c.if-is_some.true) c.append_content.ensures.appended
 
-pub append_full-note-requires : goal.append_full-note-requires
-append_full-note-requires t c =
+pub append_full-note-requires-clause-new : goal.append_full-note-requires-clause-new
+append_full-note-requires-clause-new t c =
     still_unknown (value_tree c.args.value.now) (packed_of c.args.section.now)
     (packed_of c.append_content-2.new.section) c.in_ok-spelled.spelled.items
     (each_same c.args.section.now.piece.items c.in_ok-spelled.spelled.items
     c.in_ok-spelled.ensures.cases.0 ∙ c.requires.spelled)
     c.in_ok-append_content.ensures.appended
-    (sym c.requires.known ∙ c.if-is_known.false)
+    (ap is_some (sym c.requires.known) ∙ sym c.is_some.ensures
+    ∙ c.if-is_some.false)
+
+pub append_full-note-requires-clause-first : goal.append_full-note-requires-clause-first
+append_full-note-requires-clause-first t c =
+    c.requires.mixed ∙ ap mixed (sym (each_same c.args.section.now.piece.items
+    c.in_ok-spelled.spelled.items c.in_ok-spelled.ensures.cases.0 ∙ c.requires.spelled))
 
 pub append_full-returns-clause-appended : goal.append_full-returns-clause-appended
 append_full-returns-clause-appended t c =

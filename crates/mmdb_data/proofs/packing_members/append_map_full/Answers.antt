@@ -1,25 +1,34 @@
-use Rattle.std.proofs.Common.{sym, ◌∙◌}
+use Rattle.std.proofs.Common.{sym, ap, ◌∙◌}
+use Rattle.std.specs.Prelude.{is_some}
 use Rattle.std.specs.List.{each_same}
 use Rattle.mmdb_data.specs.ValueTree.{map}
 use Rattle.mmdb_data.specs.Member.{member_list}
+use Rattle.mmdb_data.specs.FullValues.{mixed}
 use Rattle.mmdb_data.specs.Section.{packed_of}
 use Rattle.mmdb_data.proofs.Appending.{known_full, still_unknown, new_full, kept_either}
 use Rattle.mmdb_data.proofs.packing_members.append_map_full.Goals as goal
 
-pub returns-then-is_known-clause-appended
-    : goal.returns-then-is_known-clause-appended
-returns-then-is_known-clause-appended c =
+pub returns-then-is_some-clause-appended
+    : goal.returns-then-is_some-clause-appended
+returns-then-is_some-clause-appended c =
     known_full c.append_map_content.result (map (member_list c.args.members.now)) _ _
-    (sym c.requires.known ∙ c.if-is_known.true) c.append_map_content.ensures.appended
+    (ap is_some (sym c.requires.known) ∙ sym c.is_some.ensures
+    ∙ c.if-is_some.true) c.append_map_content.ensures.appended
 
-pub note-requires : goal.note-requires
-note-requires c =
+pub note-requires-clause-new : goal.note-requires-clause-new
+note-requires-clause-new c =
     still_unknown (map (member_list c.args.members.now)) (packed_of c.args.section.now)
     (packed_of c.append_map_content-2.new.section) c.in_ok-spelled.spelled.items
     (each_same c.args.section.now.piece.items c.in_ok-spelled.spelled.items
     c.in_ok-spelled.ensures.cases.0 ∙ c.requires.spelled)
     c.in_ok-append_map_content.ensures.appended
-    (sym c.requires.known ∙ c.if-is_known.false)
+    (ap is_some (sym c.requires.known) ∙ sym c.is_some.ensures
+    ∙ c.if-is_some.false)
+
+pub note-requires-clause-first : goal.note-requires-clause-first
+note-requires-clause-first c =
+    c.requires.mixed ∙ ap mixed (sym (each_same c.args.section.now.piece.items
+    c.in_ok-spelled.spelled.items c.in_ok-spelled.ensures.cases.0 ∙ c.requires.spelled))
 
 pub returns-clause-appended
     : goal.returns-clause-appended

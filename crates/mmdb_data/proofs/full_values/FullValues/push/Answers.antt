@@ -64,7 +64,7 @@ invariant_of-self-2 c =
     let put = subst (λ (n : ℕ). IsPut inside.table c.note.new.table n c.args.spelled c.args.at)
     count c.in_ok-note.ensures.put in
     let new : lookup (pointwise nat_eq c.args.spelled.items) entries ≡ None =
-    ap (lookup (pointwise nat_eq c.args.spelled.items)) c.self.view_is ∙ c.requires in
+    ap (lookup (pointwise nat_eq c.args.spelled.items)) c.self.view_is ∙ c.requires.new in
     let pushed : map_list entry_view c.push_reserved.new.self.items
     ≡ entries ++ (c.args.spelled.items, c.args.at) ∷ [] =
     ap (map_list entry_view) (c.push_reserved.ensures.items

@@ -1,4 +1,5 @@
-use Rattle.std.proofs.Common.{sym, subst, ◌∙◌}
+use Rattle.std.proofs.Common.{sym, ap, subst, ◌∙◌}
+use Rattle.std.specs.Prelude.{is_some}
 use Rattle.std.specs.List.{each_same}
 use Rattle.mmdb_data.specs.Packing.{IsKept}
 use Rattle.mmdb_data.specs.Section.{packed_of}
@@ -6,13 +7,13 @@ use Rattle.mmdb_data.proofs.Packs.{with_bytes_kept}
 use Rattle.mmdb_data.proofs.Appending.{known_key, new_key, appended_kept, kept_either}
 use Rattle.mmdb_data.proofs.section.Section.append_key_full.Goals as goal
 
-pub returns-then-is_known-clause-appended : goal.returns-then-is_known-clause-appended
-returns-then-is_known-clause-appended c =
+pub returns-then-is_some-clause-appended : goal.returns-then-is_some-clause-appended
+returns-then-is_some-clause-appended c =
     known_key c.append.result c.args.self.now.piece.items (packed_of c.append.new.self)
-    (packed_of c.args.self.now) (sym c.requires ∙ c.if-is_known.true) c.append.ensures.appended
+    (packed_of c.args.self.now) (ap is_some (sym c.requires.known) ∙ sym c.is_some.ensures ∙ c.if-is_some.true) c.append.ensures.appended
 
-pub returns-then-is_known-clause-kept : goal.returns-then-is_known-clause-kept
-returns-then-is_known-clause-kept c =
+pub returns-then-is_some-clause-kept : goal.returns-then-is_some-clause-kept
+returns-then-is_some-clause-kept c =
     appended_kept c.append.result (packed_of c.args.self.now) (packed_of c.append.new.self)
     c.args.self.now.piece.items c.append.ensures.appended c.append.ensures.refused
 
