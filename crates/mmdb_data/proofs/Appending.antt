@@ -1,13 +1,11 @@
 -- The steps of a packer, seen as what is appended.
-use Rattle.std.proofs.Common.{◌≡◌, ℕ, ◌-◌, ◌≤◌, Bool, true, false, cond, List, [], ◌∷◌, ◌++◌}
-use Rattle.std.proofs.Common.{length, take, drop, Option, Some, None, Result, Ok}
+use Rattle.std.proofs.Common.{◌≡◌, ℕ, Bool, true, false, cond, List, [], ◌∷◌, ◌++◌}
+use Rattle.std.proofs.Common.{length, take, Option, Some, None, Result, Ok}
 use Rattle.std.proofs.Common.{Err, refl, sym, ap, ◌∙◌, subst, All}
 use Rattle.std.specs.Prelude.{OnOk, OnErr, is_some, nat_eq}
 use Rattle.std.specs.Cmp.Lexicographic.{pointwise}
-use Rattle.std.specs.Int.{bytes_high_first}
 use Rattle.std.specs.Map.{lookup}
 use Rattle.std.proofs.lemmas.List.{take_at}
-use Rattle.byteorder.proofs.Bytes.{between-bytes_high_first}
 use Rattle.mmdb_data.specs.ValueTree.{ValueTree, Members, Items, map, list, members_len, items_len}
 use Rattle.mmdb_data.specs.ValueTree.{CanBePacked, IsWithinLimits}
 use Rattle.mmdb_data.specs.Reading.{reads}
@@ -117,11 +115,6 @@ kept_either (Ok x) old mid new spelled at kept ok err =
     subst (IsKept old) (sym ok) (kept_trans old mid (noted spelled at mid) kept
     (noted_kept spelled at mid))
 kept_either (Err e) old mid new spelled at kept ok err = subst (IsKept old) (sym err) kept
-
--- the low bytes of four
-pub low_bytes : (n len : ℕ) → len ≤ 4
-    → take (4 - (4 - len)) (drop (4 - len) (bytes_high_first 4 n)) ≡ bytes_high_first len n
-low_bytes n len few = between-bytes_high_first 4 len n few
 
 -- reading where a value was put
 pub put_reads : (value : ValueTree) (old new : Packed) (at : ℕ) → new ≡ in_full value old

@@ -1,8 +1,7 @@
 //! The bytes of a packed data section, and where values stand in full.
 
-ghost use Rattle.std.specs.Prelude.{◌≡◌, ◌≤◌, ◌<◌, ◌^◌, ◌++◌, ◌∷◌, None, OnOk, OnErr, length};
+ghost use Rattle.std.specs.Prelude.{◌≡◌, ◌≤◌, ◌<◌, ◌^◌, ◌++◌, None, OnOk, OnErr, length};
 ghost use Rattle.std.specs.Prelude.{option_map};
-ghost use Rattle.std.specs.Int.{bytes_high_first};
 ghost use Rattle.mmdb_data.specs.ValueTree.{most, IsNarrow, IsTyped};
 ghost use Rattle.mmdb_data.specs.Kinds.{kind_code};
 ghost use Rattle.mmdb_data.specs.Spelling.{head, sized, spelling};
@@ -17,7 +16,6 @@ use crate::kind::Kind;
 use crate::noted_values::NotedValues;
 use crate::value::Value;
 use crate::writing::{put_head, put_sized, put_value};
-use byteorder::{BigEndian, ByteOrder};
 use geo_addr::Memory;
 use std::alloc::Global;
 
@@ -105,9 +103,7 @@ impl Section {
             (packed_of self.new ≡ with_bytes (pointer to) (packed_of self.old)) }
         ensures refused { OnErr result (packed_of self.new ≡ packed_of self.old) }
     {
-        self.piece.clear();
-        put_pointer(&mut self.piece, to)?;
-        self.append()
+        put_pointer(&mut self.bytes, to)
     }
 
     /// The value is one that stands nowhere in full yet, and is mixed to `first`.
@@ -189,29 +185,23 @@ fn pointer_len(to: u64) -> usize
 
 #[tactic(auto, unfolding(crate::specs::Packing::pointer))]
 fn put_pointer(out: &mut Vec<u8>, to: u32) -> Result<(), Memory>
-    ensures { OnOk result (out.new.items ≡ out.old.items ++ pointer to) }
+    ensures put { OnOk result (out.new.items ≡ out.old.items ++ pointer to) }
+    ensures refused { OnErr result (out.new.items ≡ out.old.items) }
 {
     if to < 2_048 {
-        put_control(out, 32 + (to / 256) as u8, to, 1)
+        out.extend_from_slice(&[32 + (to / 256) as u8, (to % 256) as u8])?;
     } else if to < 526_336 {
         let beyond = to - 2_048;
-        put_control(out, 40 + (beyond / 65_536) as u8, beyond, 2)
+        let (high, low) = ((beyond / 256 % 256) as u8, (beyond % 256) as u8);
+        out.extend_from_slice(&[40 + (beyond / 65_536) as u8, high, low])?;
     } else if to < 134_744_064 {
         let beyond = to - 526_336;
-        put_control(out, 48 + (beyond / 16_777_216) as u8, beyond, 3)
+        let (high, mid) = ((beyond / 65_536 % 256) as u8, (beyond / 256 % 256) as u8);
+        let low = (beyond % 256) as u8;
+        out.extend_from_slice(&[48 + (beyond / 16_777_216) as u8, high, mid, low])?;
     } else {
-        put_control(out, 56, to, 4)
+        let [a, b, c, d] = to.to_be_bytes();
+        out.extend_from_slice(&[56, a, b, c, d])?;
     }
-}
-
-/// The control byte, and so many low bytes of the number.
-fn put_control(out: &mut Vec<u8>, control: u8, n: u32, len: usize) -> Result<(), Memory>
-    requires { len ≤ 4 }
-    ensures { OnOk result (out.new.items ≡ out.old.items ++ control ∷ bytes_high_first len n) }
-{
-    let mut bytes = [0; 4];
-    BigEndian::write_u32(&mut bytes, n);
-    out.push(control)?;
-    out.extend_from_slice(&bytes[4 - len..])?;
     Ok(())
 }
