@@ -7,6 +7,8 @@ use byteorder::{BigEndian, ByteOrder};
 use std::alloc::AllocError;
 
 /// Appends a node with its two records.
+// Each node of a file is one call, and by itself it is not inlined.
+#[inline(always)]
 pub fn push_node(tree: &mut Vec<u8>, bits: Bits, left: u32, right: u32) -> Result<(), AllocError>
     requires left_fits { left < limit bits }
     requires right_fits { right < limit bits }
