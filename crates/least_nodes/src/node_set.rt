@@ -9,6 +9,9 @@ use std::alloc::Global;
 use std::marker::Model;
 use trie_core::NodeId;
 
+/// The most nodes whose positions fit, each plus one, in four bytes.
+const MOST_NODES: usize = 0xffff_ffff;
+
 /// A set of nodes of one store that keeps the order in which they came.
 ///
 /// Contracts see the list of its nodes. A store numbers its nodes from 0 on, so a node is found by
@@ -55,11 +58,13 @@ impl NodeSet {
         if self.next[number as usize] != 0 {
             return Ok(false);
         }
-        let Ok(next) = u32::try_from(self.ids.len() + 1) else {
+        let len = self.ids.len();
+        if len == MOST_NODES {
             return Err(Memory);
-        };
-        self.ids.push(id)?;
-        self.next[number as usize] = next;
+        }
+        self.ids.reserve(1)?;
+        self.ids.push_reserved(id);
+        self.next[number as usize] = len as u32 + 1;
         Ok(true)
     }
 

@@ -16,21 +16,21 @@ pub fn push_node(tree: &mut Vec<u8>, bits: Bits, left: u32, right: u32) -> Resul
         ≡ tree.old.items ++ node_bytes bits left right) }
     ensures refused { OnErr result (tree.new.items ≡ tree.old.items) }
 {
-    // All bits at the head of one word, so that few steps write its bytes.
-    let (left, right) = (u64::from(left), u64::from(right));
+    // Bytes are cut from whole words, so that few steps write them.
     match bits {
         Bits::B24 => {
-            let word = left * (1 << 40) + right * (1 << 16);
-            tree.extend_from_slice(&word.to_be_bytes()[..6])
+            let [a, b, c, d] = (left * 256 + right / (1 << 16)).to_be_bytes();
+            let [e, f] = ((right % (1 << 16)) as u16).to_be_bytes();
+            tree.extend_from_slice(&[a, b, c, d, e, f])
         }
         Bits::B28 => {
-            let word = left % (1 << 24) * (1 << 40)
-                + left / (1 << 24) * (1 << 36)
-                + right * (1 << 8);
-            tree.extend_from_slice(&word.to_be_bytes()[..7])
+            let tops = left / (1 << 24) * 16 + right / (1 << 24);
+            let [a, b, c, d] = (left % (1 << 24) * 256 + tops).to_be_bytes();
+            let [_, e, f, g] = right.to_be_bytes();
+            tree.extend_from_slice(&[a, b, c, d, e, f, g])
         }
         Bits::B32 => {
-            let word = left * (1 << 32) + right;
+            let word = u64::from(left) * (1 << 32) + u64::from(right);
             tree.extend_from_slice(&word.to_be_bytes())
         }
     }

@@ -33,22 +33,22 @@ returns-then-index-ne0-clause-noted c =
     ids longer found c.args.id n v number within read some in
     (subst (λ (xs : List NodeId). Contains xs c.args.id) c.self.view_is has, c.self.view_is)
 
-pub invariant_of-self-in_default : goal.invariant_of-self-in_default
-invariant_of-self-in_default c =
+pub invariant_of-self-then-len-eq-MOST_NODES : goal.invariant_of-self-then-len-eq-MOST_NODES
+invariant_of-self-then-len-eq-MOST_NODES c =
     let ids = c.self.inside.ids.items in
     let next = c.self.inside.next.items in
     IsFoundBy-zeros node_number same_node same_node_equality node_numbers_differ
     ids next c.self.invariant _ _ c.make_room.ensures.zeros
 
-pub invariant_of-self-in_err-push : goal.invariant_of-self-in_err-push
-invariant_of-self-in_err-push c =
+pub invariant_of-self-in_err-reserve : goal.invariant_of-self-in_err-reserve
+invariant_of-self-in_err-reserve c =
     let ids = c.self.inside.ids.items in
     let next = c.self.inside.next.items in
     let longer = c.make_room.new.next.items in
     let found = IsFoundBy-zeros node_number same_node same_node_equality node_numbers_differ
     ids next c.self.invariant _ _ c.make_room.ensures.zeros in
     subst (λ (xs : List NodeId). IsFoundBy node_number xs longer)
-    (sym c.in_err-push.ensures.items) found
+    (sym c.in_err-reserve.ensures.items) found
 
 pub invariant_of-self-2 : goal.invariant_of-self-2
 invariant_of-self-2 c =
@@ -63,12 +63,15 @@ invariant_of-self-2 c =
     let v = c.index.result.now in
     let read = c.index.ensures in
     let none = c.if-index-ne0.false in
-    let last : c.in-Ok.next ≡ length ids + 1 = omega (arith, c.in-Ok.ensures, c.len.ensures) in
+    let last : c.len-len.result + 1 ≡ length ids + 1 = omega (arith, c.len-len.ensures) in
     let is = IsFoundBy-put node_number same_node same_node_equality node_numbers_differ
     ids longer found c.args.id n v number within read none in
-    let put = is c.in-Ok.next last (omega (arith, c.in-Ok.ensures)) in
-    let items = sym c.in_ok-push.ensures.items in
-    subst (λ (xs : List NodeId). IsFoundBy node_number xs (set longer n c.in-Ok.next)) items put
+    let put =
+    is (c.len-len.result + 1) last (omega (arith, last, found.few, c.if-len-eq-MOST_NODES.false)) in
+    let grown = ap (λ (xs : List NodeId). xs ++ c.args.id ∷ []) c.in_ok-reserve.ensures.items in
+    let items = sym (c.push_reserved.ensures.items ∙ grown) in
+    subst (λ (xs : List NodeId). IsFoundBy node_number xs (set longer n (c.len-len.result + 1)))
+    items put
 
 pub returns-clause-noted : goal.returns-clause-noted
 returns-clause-noted c =
@@ -87,4 +90,5 @@ returns-clause-noted c =
     ids longer found c.args.id n v number within read none in
     let grown = ap (λ (xs : List NodeId). xs ++ c.args.id ∷ []) c.self.view_is in
     let missing = subst (λ (xs : List NodeId). Contains xs c.args.id → ⊥) c.self.view_is new in
-    (missing, c.in_ok-push.ensures.items ∙ grown)
+    let items = ap (λ (xs : List NodeId). xs ++ c.args.id ∷ []) c.in_ok-reserve.ensures.items in
+    (missing, c.push_reserved.ensures.items ∙ items ∙ grown)
