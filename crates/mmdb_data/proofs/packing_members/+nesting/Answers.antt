@@ -24,7 +24,8 @@ append_nested_full-note-requires-clause-new t c =
     (ap is_some (sym c.requires.1.1.1.1.0) ∙ sym c.is_some.ensures
     ∙ c.if-is_some.false)
 
-pub append_nested_full-note-requires-clause-first : goal.append_nested_full-note-requires-clause-first
+pub append_nested_full-note-requires-clause-first
+    : goal.append_nested_full-note-requires-clause-first
 append_nested_full-note-requires-clause-first t c =
     c.requires.1.1.1.1.1 ∙ ap mixed (sym (each_same c.args.section.now.piece.items
     c.in_ok-spelled.spelled.items c.in_ok-spelled.ensures.cases.0 ∙ c.requires.1.1.1.0))

@@ -10,7 +10,9 @@ use Rattle.mmdb_data.proofs.section.Section.append_key_full.Goals as goal
 pub returns-then-is_some-clause-appended : goal.returns-then-is_some-clause-appended
 returns-then-is_some-clause-appended c =
     known_key c.append.result c.args.self.now.piece.items (packed_of c.append.new.self)
-    (packed_of c.args.self.now) (ap is_some (sym c.requires.known) ∙ sym c.is_some.ensures ∙ c.if-is_some.true) c.append.ensures.appended
+    (packed_of c.args.self.now)
+    (ap is_some (sym c.requires.known) ∙ sym c.is_some.ensures ∙ c.if-is_some.true)
+    c.append.ensures.appended
 
 pub returns-then-is_some-clause-kept : goal.returns-then-is_some-clause-kept
 returns-then-is_some-clause-kept c =
