@@ -153,7 +153,9 @@ pub(crate) fn put_sized(out: &mut Vec<u8>, kind: Kind, content: &[u8]) -> Result
     Ok(())
 }
 
+// A text of a file is one call and its head none, which is inlined with all that a short one takes.
 #[tactic(auto, unfolding(crate::specs::Spelling::head))]
+#[inline(always)]
 pub(crate) fn put_head(out: &mut Vec<u8>, kind: Kind, size: usize) -> Result<(), Memory>
     requires { size ≤ most }
     ensures { OnOk result (out.new.items ≡ out.old.items ++ head (kind_code kind) size) }
@@ -163,6 +165,7 @@ pub(crate) fn put_head(out: &mut Vec<u8>, kind: Kind, size: usize) -> Result<(),
 }
 
 #[tactic(auto, unfolding(crate::specs::Spelling::kind_bytes))]
+#[inline(always)]
 fn put_kind(out: &mut Vec<u8>, kind: Kind, size_code: u8) -> Result<(), Memory>
     requires { size_code < 32 }
     ensures { OnOk result (out.new.items ≡ out.old.items ++ kind_bytes (kind_code kind) size_code) }
@@ -177,6 +180,7 @@ fn put_kind(out: &mut Vec<u8>, kind: Kind, size_code: u8) -> Result<(), Memory>
 }
 
 #[tactic(auto, unfolding(crate::specs::Spelling::size_code))]
+#[inline(always)]
 fn code_of(size: usize) -> u8
     ensures value { result ≡ size_code size }
     ensures small { result < 32 }
@@ -193,6 +197,7 @@ fn code_of(size: usize) -> u8
 }
 
 #[tactic(auto, unfolding(crate::specs::Spelling::size_bytes))]
+#[inline(always)]
 fn put_size(out: &mut Vec<u8>, size: usize) -> Result<(), Memory>
     requires { size ≤ most }
     ensures { OnOk result (out.new.items ≡ out.old.items ++ size_bytes size) }
@@ -208,6 +213,7 @@ fn put_size(out: &mut Vec<u8>, size: usize) -> Result<(), Memory>
     }
 }
 
+#[inline(never)]
 fn put_number(out: &mut Vec<u8>, n: usize, len: usize) -> Result<(), Memory>
     requires some { 0 < len }
     requires few { len ≤ 3 }
