@@ -1,7 +1,7 @@
 -- Lemmas on a walk through a store that passes over what it has seen.
 use Rattle.std.proofs.Common.{◌≡◌, ℕ, ◌<◌, ◌≤◌, inl, inr, Bool, true, false, nat_eq, List, [], ◌∷◌}
-use Rattle.std.proofs.Common.{◌++◌, ◌+◌, ◌-◌, filter, length, Contains, refl, sym, ◌∙◌, ap, subst, arith}
-use Rattle.std.proofs.Common.{rules}
+use Rattle.std.proofs.Common.{◌++◌, ◌+◌, ◌-◌, filter, length, Contains, refl, sym, ◌∙◌, ap, subst}
+use Rattle.std.proofs.Common.{arith, rules}
 use Rattle.std.proofs.lemmas.List.{length-map, map-append, length_push}
 use Rattle.std.proofs.lemmas.List.Elements.{All-contains, All-push, filter-append}
 use Rattle.trie_core.specs.declared.node.NodeId.{NodeId}
@@ -20,7 +20,8 @@ use Rattle.least_nodes.specs.Laws.{IsFewest}
 use Rattle.least_nodes.specs.Order.{trees_of, AreOf, nodes_after, places_after, IsDoneBelow}
 use Rattle.least_nodes.specs.Order.{IsNoted, same_node}
 use Rattle.least_nodes.proofs.Elements.{In, In_last, In-left, In-append, In-map, In-from_map}
-use Rattle.least_nodes.proofs.Elements.{In-from_Contains, Contains-from_In, each_once-new, each_once-old}
+use Rattle.least_nodes.proofs.Elements.{In-from_Contains, Contains-from_In, each_once-new}
+use Rattle.least_nodes.proofs.Elements.{each_once-old}
 use Rattle.least_nodes.proofs.Elements.{each_once-known, each_once-append, In-each_once}
 use Rattle.least_nodes.proofs.Elements.{In-each_once-seen, In-each_once-new, In-filter}
 use Rattle.least_nodes.proofs.Elements.{In-from_filter, filter-each_once, IsDistinct-from_none}
@@ -221,14 +222,16 @@ module _ (pairs : List Pair) where
       let fresh : In t seen → ⊥ = tree_new sound ids id known node-of new-node.0 in
       let after : nodes_after (seen ++ t ∷ []) t ≡ nodes_after seen t =
       nodes_after-noted seen t _ _ means fresh in
+      let pushed : IsDoneBelow (height t - 1) (seen ++ t ∷ []) places =
+      IsDoneBelow-push (height t) (height t - 1) seen places t (omega arith)
+      (omega (arith, ap height means)) done' in
       record {
         known =
             subst (AreOf pairs) (sym new-node.1)
             (All-push (λ (x : NodeId). IsOf pairs (Node x)) ids id known node-of);
         noted = subst (λ xs. Contains xs id) (sym new-node.1) (Contains-from_In
             id_impl.eq-value.it id_equality id (ids ++ id ∷ []) (In_last id ids));
-        done = subst (λ ts. IsDoneBelow (height t - 1) ts places) (sym trees) (IsDoneBelow-push
-            (height t) (height t - 1) seen places t (omega arith) (omega (arith, ap height means)) done');
+        done = subst (λ ts. IsDoneBelow (height t - 1) ts places) (sym trees) pushed;
         nodes_are =
             ap (λ ts. nodes_after ts t) trees ∙ after ∙ ap (nodes_after seen) (sym tree);
         places_are = ap (places_after places) (sym tree);
