@@ -69,7 +69,7 @@ nodes_after-new seen l r new =
     ∙ each_once-append (tree_eq nat_eq) tree_equality (seen ++ node l r ∷ []) (preorder l)
     (preorder r)
 
--- neither does one through a node that was
+-- and so does one through a node that was
 nodes_after-old : (seen : List (Tree ℕ)) (l r : Tree ℕ) → In (node l r) seen
     → nodes_after seen (node l r) ≡ nodes_after (nodes_after seen l) r
 nodes_after-old seen l r old =
@@ -150,7 +150,7 @@ IsDoneBelow-push n m nodes places t le high done u has low =
       ]
     ]
 
--- and so need not one of lower nodes
+-- what holds up to a height holds up to a lower one
 pub IsDoneBelow-lower : (n m : ℕ) (nodes : List (Tree ℕ)) (places : List ℕ) → m ≤ n
     → IsDoneBelow n nodes places → IsDoneBelow m nodes places
 IsDoneBelow-lower n m nodes places le done u has low = done u has (omega (arith, le, low))

@@ -153,7 +153,7 @@ pub(crate) fn put_sized(out: &mut Vec<u8>, kind: Kind, content: &[u8]) -> Result
     Ok(())
 }
 
-// A text of a file is one call and its head none, which is inlined with all that a short one takes.
+// Each value of a file has a head, so it is inlined with all that a short size takes.
 #[tactic(auto, unfolding(crate::specs::Spelling::head))]
 #[inline(always)]
 pub(crate) fn put_head(out: &mut Vec<u8>, kind: Kind, size: usize) -> Result<(), Memory>

@@ -6,7 +6,8 @@ use crate::bits::Bits;
 use byteorder::{BigEndian, ByteOrder};
 use std::alloc::AllocError;
 
-/// Appends a node with its two records.
+/// Appends a node with its two records of so many bits each (MaxMind DB 2.0, "Binary Search Tree
+/// Section"). An error is want of memory.
 // Each node of a file is one call, and by itself it is not inlined.
 #[inline(always)]
 pub fn push_node(tree: &mut Vec<u8>, bits: Bits, left: u32, right: u32) -> Result<(), AllocError>
