@@ -11,7 +11,6 @@ use Rattle.mmdb_data.specs.ValueTree.{CanBePacked, IsWithinLimits}
 use Rattle.mmdb_data.specs.Reading.{reads}
 use Rattle.mmdb_data.specs.Spelling.{head, spelling}
 use Rattle.mmdb_data.specs.Packing.{Packed, nothing_packed, offset_of, with_bytes, noted}
-use Rattle.mmdb_data.specs.Packing.{full_by}
 use Rattle.mmdb_data.specs.Packing.{content_in, members_in, items_in, in_full, all_in_full, IsKept}
 use Rattle.mmdb_data.proofs.Views.{IsLeaf, leaf_content}
 use Rattle.mmdb_data.proofs.Packs.{kept_self, kept_trans, noted_kept, with_bytes_kept}
@@ -77,19 +76,6 @@ known_full (Ok x) value new old known is =
     ((content_in value old).full ++ (spelling value, length old.bytes) ∷ [])))
     (ap is_some (own_offset value old) ∙ known))
 known_full (Err e) value new old known is = tt
-
--- a key that is known is not noted again, and another one is
-pub known_key : {T E : Type 0} (r : Result T E) (key : List ℕ) (new old : Packed)
-    → is_some (offset_of key old) ≡ true → OnOk r (new ≡ with_bytes key old)
-    → OnOk r (new ≡ full_by key (with_bytes key) old)
-known_key (Ok x) key new old known is = is ∙ sym (rw known refl)
-known_key (Err e) key new old known is = tt
-
-pub new_key : {T E : Type 0} (r : Result T E) (key : List ℕ) (new mid old : Packed)
-    (spelled : List ℕ) (at : ℕ) → spelled ≡ key → at ≡ length old.bytes → mid ≡ with_bytes key old
-    → OnOk r (new ≡ noted spelled at mid) → OnOk r (new ≡ full_by key (with_bytes key) old)
-new_key (Ok x) key new mid old spelled at is at_is mid_is h = h ∙ rw (is, at_is, mid_is) refl
-new_key (Err e) key new mid old spelled at is at_is mid_is h = tt
 
 none_from : (r : Option ℕ) → is_some r ≡ false → r ≡ None
 none_from None h = refl

@@ -15,6 +15,7 @@ pub mod Pointed
 pub mod Keys
 pub mod Packs
 pub mod Keeps
+pub mod SpelledTexts
 pub mod Table
 pub mod KnownKeys
 pub mod PackedReads

@@ -4,19 +4,21 @@ use Rattle.std.proofs.Common.{cond}
 use Rattle.std.proofs.Common.{true≢false, List, [], ◌∷◌, ◌++◌, length, get_or, slice_get, set, take}
 use Rattle.std.proofs.Common.{drop}
 use Rattle.std.proofs.Common.{replicate, Option, Some, None, refl, sym, ap, subst, ◌∙◌, arith}
-use Rattle.std.proofs.Common.{length-append, map as map_list}
+use Rattle.std.proofs.Common.{length-append}
 use Rattle.std.proofs.lemmas.Bool.Decides.{nat_tests}
 use Rattle.std.proofs.lemmas.Grind.{get_or_default_zero}
-use Rattle.std.proofs.lemmas.Option.{slice_get_read}
-use Rattle.std.specs.Prelude.{nat_eq, option_map}
-use Rattle.std.specs.BTreeMap.{BTreeMap, get, get_by}
+use Rattle.std.specs.Prelude.{nat_eq}
+use Rattle.std.specs.BTreeMap.{BTreeMap, get, Updates}
+use Rattle.std.specs.Cmp.{eq_by_cmp_equiv}
 use Rattle.std.specs.Cmp.Lexicographic.{pointwise, slice_cmp, texts_ties, bytes_decides}
+use Rattle.std.specs.Cmp.Lexicographic.{nat_list_cmp_total}
 use Rattle.std.specs.Global.{Vec}
-use Rattle.std.specs.Map.{lookup}
+use Rattle.std.specs.Map.{lookup, KeepsOthers, IsKeyTest, AreApart}
 use Rattle.std.specs.Option.{unwrap_or}
-use Rattle.std.specs.Ordering.{nat_cmp, is_eq}
+use Rattle.std.specs.Ordering.{nat_cmp, is_eq, eq_by_cmp}
+use Rattle.std.specs.declared.cmp.Ordering.{Ordering}
 use Rattle.mmdb_data.specs.declared.full_values.Table.{Table}
-use Rattle.mmdb_data.specs.FullValues.{Entries, entry_view, bytes_cmp, mixed, mixed_again, slot_by}
+use Rattle.mmdb_data.specs.FullValues.{Entries, get_by_bytes, mixed, mixed_again, slot_by}
 use Rattle.mmdb_data.specs.FullValues.{Spot, slot, ranked, held, spots_of, said_or, told, look}
 use Rattle.mmdb_data.specs.FullValues.{AreNew, IsTable, IsOther, IsHeld, IsPutAt, IsPut, IsAlike}
 use Rattle.mmdb_data.proofs.Keeps.{lookup-push, lookup-stays, lookup-new}
@@ -125,6 +127,9 @@ module _ (entries : Entries) (table : Table) where
       by_spot zero r is = refl
       by_spot (suc k) r is = by_entry k (slice_get entries k) r refl is
 
+abbrev bytes_cmp : Vec ℕ → Vec ℕ → Ordering
+bytes_cmp a b = slice_cmp nat_cmp a.items b.items
+
 itself : (x : List ℕ) → pointwise nat_eq x x ≡ true
 itself x = (bytes_decides x x).1 refl
 
@@ -149,15 +154,12 @@ told_entry : (entries : Entries) (x : List ℕ) (k : ℕ) (e : List ℕ × ℕ)
     → told entries x (suc k) r ≡ cond (pointwise nat_eq x e.0) (Some e.1) r
 told_entry entries x k e at r = ap (λ (f : Option (List ℕ × ℕ)). said_or x f r) at
 
-abbrev get_by_bytes : List ℕ → BTreeMap (Vec ℕ) ℕ → Option ℕ
-get_by_bytes z others = get_by (λ (k : Vec ℕ). slice_cmp nat_cmp z k.items) others
-
 -- ---- one more
 
-module _ (entries : Entries) (old new : Table) (x : Vec ℕ) (at : ℕ)
-    (first : lookup (pointwise nat_eq x.items) entries ≡ None) where
+module _ (entries : Entries) (old new : Table) (x : List ℕ) (at : ℕ)
+    (first : lookup (pointwise nat_eq x) entries ≡ None) where
   abbrev more : Entries
-  more = entries ++ (x.items, at) ∷ []
+  more = entries ++ (x, at) ∷ []
 
   abbrev Put : List Spot → Type 0
   Put ps = IsPutAt old new (length entries) x at ps
@@ -187,17 +189,17 @@ module _ (entries : Entries) (old new : Table) (x : Vec ℕ) (at : ℕ)
   ]
 
   -- what the others hold is old, or the new spelling
-  other_old_or_new : (ps : List Spot) → Put ps → (y : Vec ℕ) (a : ℕ)
-      → get bytes_cmp new.others y ≡ Some a
-      → (get bytes_cmp old.others y ≡ Some a)
-      ⊎ ((pointwise nat_eq x.items y.items ≡ true) × (a ≡ at))
+  other_old_or_new : (ps : List Spot) → Put ps → (y : List ℕ) (a : ℕ)
+      → get_by_bytes y new.others ≡ Some a
+      → (get_by_bytes y old.others ≡ Some a)
+      ⊎ ((pointwise nat_eq x y ≡ true) × (a ≡ at))
   other_old_or_new [] put y a is =
-      by (pointwise nat_eq x.items y.items) refl (sym (put.1 y) ∙ is)
+      by (pointwise nat_eq x y) refl (sym (put.1 y) ∙ is)
     where
-      by : (b : Bool) → pointwise nat_eq x.items y.items ≡ b
-          → cond b (Some at) (get bytes_cmp old.others y) ≡ Some a
-          → (get bytes_cmp old.others y ≡ Some a)
-          ⊎ ((pointwise nat_eq x.items y.items ≡ true) × (a ≡ at))
+      by : (b : Bool) → pointwise nat_eq x y ≡ b
+          → cond b (Some at) (get_by_bytes y old.others) ≡ Some a
+          → (get_by_bytes y old.others ≡ Some a)
+          ⊎ ((pointwise nat_eq x y ≡ true) × (a ≡ at))
       by true same h = inr (same, (let e : a ≡ at = cc in e))
       by false differs h = inl h
   other_old_or_new (q ∷ ps) put y a is = elim put [
@@ -205,11 +207,11 @@ module _ (entries : Entries) (old new : Table) (x : Vec ℕ) (at : ℕ)
     | inr rest ↦ other_old_or_new ps rest.1 y a is
   ]
 
-  other_stays : (ps : List Spot) → Put ps → (y : Vec ℕ) (a : ℕ)
-      → pointwise nat_eq x.items y.items ≡ false → get bytes_cmp old.others y ≡ Some a
-      → get bytes_cmp new.others y ≡ Some a
+  other_stays : (ps : List Spot) → Put ps → (y : List ℕ) (a : ℕ)
+      → pointwise nat_eq x y ≡ false → get_by_bytes y old.others ≡ Some a
+      → get_by_bytes y new.others ≡ Some a
   other_stays [] put y a differs is =
-      put.1 y ∙ ap (λ (b : Bool). cond b (Some at) (get bytes_cmp old.others y)) differs ∙ is
+      put.1 y ∙ ap (λ (b : Bool). cond b (Some at) (get_by_bytes y old.others)) differs ∙ is
   other_stays (q ∷ ps) put y a differs is = elim put [
     | inl free ↦ free.1.others y ∙ is
     | inr rest ↦ other_stays ps rest.1 y a differs is
@@ -229,75 +231,75 @@ module _ (entries : Entries) (old new : Table) (x : Vec ℕ) (at : ℕ)
         e.0,
         e.1,
         λ r. ap (λ (v : ℕ). told more y v r) (taken_stays ps put p k is)
-            ∙ told_entry more y k e.0 (slice_get-push entries (x.items, at) k e.0 e.1) r,
+            ∙ told_entry more y k e.0 (slice_get-push entries (x, at) k e.0 e.1) r,
       )
 
   -- the new one is found
   look_new : Within → (ps : List Spot) → Put ps
-      → look more new (get bytes_cmp new.others x) x.items ps ≡ Some at
+      → look more new (get_by_bytes x new.others) x ps ≡ Some at
   look_new within [] put =
-      put.1 x ∙ ap (λ (b : Bool). cond b (Some at) (get bytes_cmp old.others x)) (itself x.items)
+      put.1 x ∙ ap (λ (b : Bool). cond b (Some at) (get_by_bytes x old.others)) (itself x)
   look_new within (p ∷ ps) put = elim put [
     | inl free ↦
-        let rest = look more new (get bytes_cmp new.others x) x.items ps in
-        ap (λ (v : ℕ). told more x.items v rest) free.1.here
-        ∙ told_entry more x.items (length entries) (x.items, at)
-        (slice_get-last entries (x.items, at)) rest
-        ∙ ap (λ (b : Bool). cond b (Some at) rest) (itself x.items)
+        let rest = look more new (get_by_bytes x new.others) x ps in
+        ap (λ (v : ℕ). told more x v rest) free.1.here
+        ∙ told_entry more x (length entries) (x, at)
+        (slice_get-last entries (x, at)) rest
+        ∙ ap (λ (b : Bool). cond b (Some at) rest) (itself x)
     | inr rest ↦ by (held old p) refl rest.0 (look_new within ps rest.1)
   ]
     where
       by : (v : ℕ) → held old p ≡ v → held old p ≢ 0
-          → look more new (get bytes_cmp new.others x) x.items ps ≡ Some at
-          → look more new (get bytes_cmp new.others x) x.items (p ∷ ps) ≡ Some at
+          → look more new (get_by_bytes x new.others) x ps ≡ Some at
+          → look more new (get_by_bytes x new.others) x (p ∷ ps) ≡ Some at
       by zero is some inner = absurd (some is)
       by (suc k) is some inner =
-          let t = told_taken within (p ∷ ps) put x.items p k is in
-          let rest = look more new (get bytes_cmp new.others x) x.items ps in
+          let t = told_taken within (p ∷ ps) put x p k is in
+          let rest = look more new (get_by_bytes x new.others) x ps in
           t.2 rest
           ∙ ap (λ (b : Bool). cond b (Some t.0.1) rest)
-          (not_true (pointwise nat_eq x.items t.0.0)
-          (λ same. entry_found (pointwise nat_eq x.items) entries k t.0 t.1 same first))
+          (not_true (pointwise nat_eq x t.0.0)
+          (λ same. entry_found (pointwise nat_eq x) entries k t.0 t.1 same first))
           ∙ inner
 
   -- what was found is found still
-  look_stays : Within → (qs : List Spot) → Put qs → (y : Vec ℕ) (a : ℕ)
-      → (get bytes_cmp old.others y ≡ Some a → get bytes_cmp new.others y ≡ Some a)
-      → (ps : List Spot) → look entries old (get bytes_cmp old.others y) y.items ps ≡ Some a
-      → look more new (get bytes_cmp new.others y) y.items ps ≡ Some a
+  look_stays : Within → (qs : List Spot) → Put qs → (y : List ℕ) (a : ℕ)
+      → (get_by_bytes y old.others ≡ Some a → get_by_bytes y new.others ≡ Some a)
+      → (ps : List Spot) → look entries old (get_by_bytes y old.others) y ps ≡ Some a
+      → look more new (get_by_bytes y new.others) y ps ≡ Some a
   look_stays within qs put y a other [] is = other is
   look_stays within qs put y a other (p ∷ ps) is =
       by (held old p) refl is (look_stays within qs put y a other ps)
     where
       before : Option ℕ
-      before = look entries old (get bytes_cmp old.others y) y.items ps
+      before = look entries old (get_by_bytes y old.others) y ps
 
       after : Option ℕ
-      after = look more new (get bytes_cmp new.others y) y.items ps
+      after = look more new (get_by_bytes y new.others) y ps
 
       by_test : (b : Bool) (n : ℕ) → (before ≡ Some a → after ≡ Some a)
           → cond b (Some n) before ≡ Some a → cond b (Some n) after ≡ Some a
       by_test true n inner h = h
       by_test false n inner h = inner h
 
-      by : (v : ℕ) → held old p ≡ v → told entries y.items (held old p) before ≡ Some a
+      by : (v : ℕ) → held old p ≡ v → told entries y (held old p) before ≡ Some a
           → (before ≡ Some a → after ≡ Some a)
-          → told more y.items (held new p) after ≡ Some a
+          → told more y (held new p) after ≡ Some a
       by zero v-is h inner =
           let f : None ≡ Some a =
-          sym (ap (λ (v : ℕ). told entries y.items v before) v-is) ∙ h in
+          sym (ap (λ (v : ℕ). told entries y v before) v-is) ∙ h in
           absurd (cc)
       by (suc k) v-is h inner =
-          let t = told_taken within qs put y.items p k v-is in
+          let t = told_taken within qs put y p k v-is in
           t.2 after
-          ∙ by_test (pointwise nat_eq y.items t.0.0) t.0.1 inner
-          (sym (told_entry entries y.items k t.0 t.1 before)
-          ∙ sym (ap (λ (v : ℕ). told entries y.items v before) v-is) ∙ h)
+          ∙ by_test (pointwise nat_eq y t.0.0) t.0.1 inner
+          (sym (told_entry entries y k t.0 t.1 before)
+          ∙ sym (ap (λ (v : ℕ). told entries y v before) v-is) ∙ h)
 
-module _ (entries : Entries) (old : Table) (table : IsTable entries old) (x : Vec ℕ) (at : ℕ)
-    (first : lookup (pointwise nat_eq x.items) entries ≡ None)
+module _ (entries : Entries) (old : Table) (table : IsTable entries old) (x : List ℕ) (at : ℕ)
+    (first : lookup (pointwise nat_eq x) entries ≡ None)
     (new : Table) (put : IsPut old new (length entries) x at) where
-  pub table_longer : IsTable (entries ++ (x.items, at) ∷ []) new
+  pub table_longer : IsTable (entries ++ (x, at) ∷ []) new
   table_longer = record {
     some = omega (arith, put.len, table.some);
     within = within;
@@ -306,86 +308,112 @@ module _ (entries : Entries) (old : Table) (table : IsTable entries old) (x : Ve
   }
     where
       longer : Entries
-      longer = entries ++ (x.items, at) ∷ []
+      longer = entries ++ (x, at) ∷ []
 
       len : ℕ
       len = length old.slots.items
 
       qs : List Spot
-      qs = spots_of x.items len
+      qs = spots_of x len
 
       within : (p : Spot) (k : ℕ) → held new p ≡ suc k → k < length longer
       within p k is = elim (spot_old_or_new entries old new x at first qs put.put p k is) [
         | inl before ↦ omega (
           arith,
           table.within p k before,
-          length-append entries ((x.items, at) ∷ []),
+          length-append entries ((x, at) ∷ []),
         )
-        | inr last ↦ omega (arith, last, length-append entries ((x.items, at) ∷ []))
+        | inr last ↦ omega (arith, last, length-append entries ((x, at) ∷ []))
       ]
 
-      same_spelling : (y : Vec ℕ) → pointwise nat_eq x.items y.items ≡ true → x.items ≡ y.items
-      same_spelling y h = (bytes_decides x.items y.items).0 h
+      same_spelling : (y : List ℕ) → pointwise nat_eq x y ≡ true → x ≡ y
+      same_spelling y h = (bytes_decides x y).0 h
 
-      of : (y : Vec ℕ) (a : ℕ) → get bytes_cmp new.others y ≡ Some a
-          → lookup (pointwise nat_eq y.items) longer ≡ Some a
+      of : (y : List ℕ) (a : ℕ) → get_by_bytes y new.others ≡ Some a
+          → lookup (pointwise nat_eq y) longer ≡ Some a
       of y a is = elim (other_old_or_new entries old new x at first qs put.put y a is) [
         | inl before ↦
-            lookup-stays (pointwise nat_eq y.items) entries ((x.items, at) ∷ []) a
+            lookup-stays (pointwise nat_eq y) entries ((x, at) ∷ []) a
             (table.of y a before)
         | inr last ↦
             let e = same_spelling y last.0 in
             subst (λ (z : List ℕ). lookup (pointwise nat_eq z) longer ≡ Some a) e
-            (lookup-new (pointwise nat_eq x.items) entries x.items at first (itself x.items)
+            (lookup-new (pointwise nat_eq x) entries x at first (itself x)
             ∙ ap Some (sym last.1))
       ]
 
-      by_offset : (y : Vec ℕ) (b : Bool) → pointwise nat_eq x.items y.items ≡ b
-          → (r : Option ℕ) → lookup (pointwise nat_eq y.items) entries ≡ r
-          → look longer new (get bytes_cmp new.others y) y.items (spots_of y.items len)
-          ≡ lookup (pointwise nat_eq y.items) longer
+      by_offset : (y : List ℕ) (b : Bool) → pointwise nat_eq x y ≡ b
+          → (r : Option ℕ) → lookup (pointwise nat_eq y) entries ≡ r
+          → look longer new (get_by_bytes y new.others) y (spots_of y len)
+          ≡ lookup (pointwise nat_eq y) longer
       by_offset y true equal r is = new_one
         where
-          e : x.items ≡ y.items
+          e : x ≡ y
           e = same_spelling y equal
 
-          new_one : look longer new (get bytes_cmp new.others y) y.items (spots_of y.items len)
-              ≡ lookup (pointwise nat_eq y.items) longer
+          new_one : look longer new (get_by_bytes y new.others) y (spots_of y len)
+              ≡ lookup (pointwise nat_eq y) longer
           new_one =
               subst (λ (z : List ℕ). look longer new (get_by_bytes z new.others) z
               (spots_of z len) ≡ lookup (pointwise nat_eq z) longer) e
               (look_new entries old new x at first table.within qs put.put
-              ∙ sym (lookup-new (pointwise nat_eq x.items) entries x.items at first
-              (itself x.items)))
+              ∙ sym (lookup-new (pointwise nat_eq x) entries x at first
+              (itself x)))
       by_offset y false differs (Some a) is =
           look_stays entries old new x at first table.within qs put.put y a
           (other_stays entries old new x at first qs put.put y a differs)
-          (spots_of y.items len) (table.finds y ∙ is)
-          ∙ sym (lookup-stays (pointwise nat_eq y.items) entries ((x.items, at) ∷ []) a is)
+          (spots_of y len) (table.finds y ∙ is)
+          ∙ sym (lookup-stays (pointwise nat_eq y) entries ((x, at) ∷ []) a is)
       by_offset y false differs None is =
-          let none : lookup (pointwise nat_eq y.items) longer ≡ None =
-          lookup-push (pointwise nat_eq y.items) entries (x.items, at)
-          (turned x.items y.items differs) ∙ is in
-          look_none longer new (get bytes_cmp new.others y) y.items (spots_of y.items len) none
-          (none_of (get bytes_cmp new.others y) (λ a h.
+          let none : lookup (pointwise nat_eq y) longer ≡ None =
+          lookup-push (pointwise nat_eq y) entries (x, at)
+          (turned x y differs) ∙ is in
+          look_none longer new (get_by_bytes y new.others) y (spots_of y len) none
+          (none_of (get_by_bytes y new.others) (λ a h.
           let f : None ≡ Some a = sym none ∙ of y a h in absurd (cc)))
           ∙ sym none
 
-      finds : (y : Vec ℕ) → look longer new (get bytes_cmp new.others y) y.items
-          (spots_of y.items (length new.slots.items)) ≡ lookup (pointwise nat_eq y.items) longer
+      finds : (y : List ℕ) → look longer new (get_by_bytes y new.others) y
+          (spots_of y (length new.slots.items)) ≡ lookup (pointwise nat_eq y) longer
       finds y =
-          rw put.len (by_offset y (pointwise nat_eq x.items y.items) refl
-          (lookup (pointwise nat_eq y.items) entries) refl)
+          rw put.len (by_offset y (pointwise nat_eq x y) refl
+          (lookup (pointwise nat_eq y) entries) refl)
 
 -- what the map holds once a spelling was put there
-pub other_put : (x key : Vec ℕ) (at : ℕ) (old new : BTreeMap (Vec ℕ) ℕ) → key.items ≡ x.items
-    → ((y : Vec ℕ) → get bytes_cmp new y
-    ≡ cond (is_eq (bytes_cmp key y)) (Some at) (get bytes_cmp old y)) → IsOther x at old new
-other_put x key at old new same put y =
-    put y
-    ∙ ap (λ (b : Bool). cond b (Some at) (get bytes_cmp old y))
-    (ap (λ (z : List ℕ). is_eq (slice_cmp nat_cmp z y.items)) same
-    ∙ sym (texts_ties x.items y.items))
+kept_others : {K X : Type 0} (eq : K → K → Bool) (test : K → Bool) (old new : List (K × X))
+    → KeepsOthers eq test old new → (other : K → Bool) → IsKeyTest eq other → AreApart test other
+    → lookup other new ≡ lookup other old
+unfolding KeepsOthers
+kept_others eq test old new kept = kept
+
+module _ (x : List ℕ) (key : Vec ℕ) (at : ℕ) (old new : BTreeMap (Vec ℕ) ℕ) (same : key.items ≡ x)
+    (put : Updates bytes_cmp old new key (Some at)) where
+  here_put : get_by_bytes x new ≡ Some at
+  here_put = subst (λ (z : List ℕ). get_by_bytes z new ≡ Some at) same put.1
+
+  apart_from : (y : List ℕ) → pointwise nat_eq x y ≡ false → (k : Vec ℕ)
+      → is_eq (slice_cmp nat_cmp key.items k.items) ≡ true
+      → is_eq (slice_cmp nat_cmp y k.items) ≡ false
+  apart_from y differs k is =
+      let own : x ≡ k.items =
+      sym same ∙ (bytes_decides key.items k.items).0 (texts_ties key.items k.items ∙ is) in
+      sym (texts_ties y k.items)
+      ∙ subst (λ (z : List ℕ). pointwise nat_eq y z ≡ false) own (turned x y differs)
+
+  pub other_put : IsOther x at old new
+  other_put y = by (pointwise nat_eq x y) refl
+    where
+      by : (b : Bool) → pointwise nat_eq x y ≡ b
+          → get_by_bytes y new ≡ cond b (Some at) (get_by_bytes y old)
+      by true equal =
+          subst (λ (z : List ℕ). get_by_bytes z new ≡ Some at) ((bytes_decides x y).0 equal)
+          here_put
+      by false differs =
+          kept_others (eq_by_cmp bytes_cmp) (λ (k : Vec ℕ). is_eq (bytes_cmp key k))
+          old.entries new.entries put.3
+          (λ (k : Vec ℕ). is_eq (slice_cmp nat_cmp y k.items))
+          (λ a b. (eq_by_cmp_equiv nat_list_cmp_total).congr y a.items b.items)
+          (apart_from y differs)
 
 -- ---- what a note does
 
@@ -400,7 +428,7 @@ held_slot old new n p within slots ranks others = record {
     set_here old.slots.items p (n + 1) within,
   );
   elsewhere = elsewhere;
-  others = λ y. ap (λ (m : BTreeMap (Vec ℕ) ℕ). get bytes_cmp m y) others;
+  others = λ y. ap (get_by_bytes y) others;
 }
   where
     elsewhere : (q : Spot) → q ≢ slot p → held new q ≡ held old q
@@ -421,7 +449,7 @@ held_rank old new n r slots ranks others = record {
       ∙ ap (λ (b : Bool). cond b (Some (n + 1)) (get nat_cmp old.ranks r)) own)
       ∙ (let next : n + 1 ≡ suc n = omega arith in next);
   elsewhere = elsewhere;
-  others = λ y. ap (λ (m : BTreeMap (Vec ℕ) ℕ). get bytes_cmp m y) others;
+  others = λ y. ap (get_by_bytes y) others;
 }
   where
     own : is_eq (nat_cmp r r) ≡ true
@@ -442,11 +470,11 @@ held_rank old new n r slots ranks others = record {
 read : (slots : List ℕ) (p v : ℕ) → p < length slots → v ≡ get_or slots p v → get_or slots p 0 ≡ v
 read slots p v within is = sym (get_or_default_zero slots p v within) ∙ sym is
 
-module _ (old new : Table) (n : ℕ) (x : Vec ℕ) (at p v : ℕ)
-    (is : p ≡ slot_by (mixed x.items) (length old.slots.items))
+module _ (old new : Table) (n : ℕ) (x : List ℕ) (at p v : ℕ)
+    (is : p ≡ slot_by (mixed x) (length old.slots.items))
     (fits : p + 1 < length old.slots.items) (first : v ≡ get_or old.slots.items p v) where
   abbrev spots : List Spot
-  spots = slot p ∷ slot (p + 1) ∷ ranked (mixed_again x.items) ∷ []
+  spots = slot p ∷ slot (p + 1) ∷ ranked (mixed_again x) ∷ []
 
   put_of : length new.slots.items ≡ length old.slots.items → IsPutAt old new n x at spots
       → IsPut old new n x at
@@ -454,7 +482,7 @@ module _ (old new : Table) (n : ℕ) (x : Vec ℕ) (at p v : ℕ)
     len = len;
     put =
         subst (λ (k : ℕ). IsPutAt old new n x at
-        (slot k ∷ slot (k + 1) ∷ ranked (mixed_again x.items) ∷ [])) is put;
+        (slot k ∷ slot (k + 1) ∷ ranked (mixed_again x) ∷ [])) is put;
   }
 
   first_read : get_or old.slots.items p 0 ≡ v
@@ -479,7 +507,7 @@ module _ (old new : Table) (n : ℕ) (x : Vec ℕ) (at p v : ℕ)
         put_of (ap length slots ∙ length-set old.slots.items (p + 1) (n + 1))
         (inr (taken, inl (second_read ∙ free, held_slot old new n (p + 1) fits slots ranks others)))
 
-    module _ (full : w ≢ 0) (r u : ℕ) (rank : r ≡ mixed_again x.items)
+    module _ (full : w ≢ 0) (r u : ℕ) (rank : r ≡ mixed_again x)
         (third : u ≡ held old (ranked r)) (slots : new.slots.items ≡ old.slots.items) where
       behind : IsPutAt old new n x at (ranked r ∷ []) → IsPut old new n x at
       behind put =
@@ -509,40 +537,24 @@ module _ (old new : Table) (n : ℕ) (x : Vec ℕ) (at p v : ℕ)
 
 -- ---- what a spot says
 
-viewed : (list : List (Vec ℕ × ℕ)) (k : ℕ)
-    → slice_get (map_list entry_view list) k ≡ option_map entry_view (slice_get list k)
-viewed [] k = refl
-viewed (e ∷ list) zero = refl
-viewed (e ∷ list) (suc k) = viewed list k
-
-said_entry : (list : List (Vec ℕ × ℕ)) (v k : ℕ) (x : List ℕ) → v ≡ k + 1 → (rest : Option ℕ)
-    → told (map_list entry_view list) x v rest
-    ≡ said_or x (option_map entry_view (slice_get list k)) rest
-said_entry list v k x is rest =
-    ap (λ (n : ℕ). told (map_list entry_view list) x n rest)
-    (let e : v ≡ suc k = omega (arith, is) in e)
-    ∙ ap (λ (f : Option (List ℕ × ℕ)). said_or x f rest) (viewed list k)
-
 -- where the entry is the spelling's, its offset, and else nothing
-module _ (list : List (Vec ℕ × ℕ)) (v k : ℕ) (x : List ℕ) (e : Vec ℕ × ℕ) (is : v ≡ k + 1)
-    (within : k < length list) (entry : e ≡ get_or list k e) where
-  by_entry_test : (rest : Option ℕ) → told (map_list entry_view list) x v rest
-      ≡ cond (pointwise nat_eq x e.0.items) (Some e.1) rest
+module _ (entries : Entries) (v k : ℕ) (x own : List ℕ) (at : ℕ) (is : v ≡ k + 1)
+    (entry : slice_get entries k ≡ Some (own, at)) where
+  by_entry_test : (rest : Option ℕ) → told entries x v rest
+      ≡ cond (pointwise nat_eq x own) (Some at) rest
   by_entry_test rest =
-      said_entry list v k x is rest
-      ∙ ap (λ (f : Option (Vec ℕ × ℕ)). said_or x (option_map entry_view f) rest)
-      (slice_get_read list (length list) k e refl within entry)
+      ap (λ (n : ℕ). told entries x n rest) (let e : v ≡ suc k = omega (arith, is) in e)
+      ∙ told_entry entries x k (own, at) entry rest
 
-  pub said_here : true ≡ pointwise nat_eq e.0.items x → (rest : Option ℕ)
-      → told (map_list entry_view list) x v rest ≡ Some e.1
+  pub said_here : true ≡ pointwise nat_eq own x → (rest : Option ℕ)
+      → told entries x v rest ≡ Some at
   said_here same rest =
-      by_entry_test rest ∙ ap (λ (b : Bool). cond b (Some e.1) rest) (turned_true x e.0.items same)
+      by_entry_test rest ∙ ap (λ (b : Bool). cond b (Some at) rest) (turned_true x own same)
 
-  pub said_on : false ≡ pointwise nat_eq e.0.items x → (rest : Option ℕ)
-      → told (map_list entry_view list) x v rest ≡ rest
+  pub said_on : false ≡ pointwise nat_eq own x → (rest : Option ℕ) → told entries x v rest ≡ rest
   said_on differs rest =
       by_entry_test rest
-      ∙ ap (λ (b : Bool). cond b (Some e.1) rest) (turned e.0.items x (sym differs))
+      ∙ ap (λ (b : Bool). cond b (Some at) rest) (turned own x (sym differs))
 
 -- ---- none, and one after the other
 
@@ -557,8 +569,8 @@ table_empty table m some slots ranks others = record {
   some = omega (arith, some, long_zeros m, ap length slots);
   within = λ p k is. absurd (omega (arith, is, nothing p));
   of = λ y a is. let f : None ≡ Some a = sym (none y) ∙ is in absurd (cc);
-  finds = λ y. look_none [] table (get bytes_cmp table.others y) y.items
-      (spots_of y.items (length table.slots.items)) refl (none y);
+  finds = λ y. look_none [] table (get_by_bytes y table.others) y
+      (spots_of y (length table.slots.items)) refl (none y);
 }
   where
     nothing : (p : Spot) → held table p ≡ 0
@@ -566,9 +578,10 @@ table_empty table m some slots ranks others = record {
     nothing (ranked r) =
         ap (λ (es : List (ℕ × ℕ)). unwrap_or (lookup (λ (k : ℕ). is_eq (nat_cmp r k)) es) 0) ranks
 
-    none : (y : Vec ℕ) → get bytes_cmp table.others y ≡ None
+    none : (y : List ℕ) → get_by_bytes y table.others ≡ None
     none y =
-        ap (λ (es : List (Vec ℕ × ℕ)). lookup (λ (k : Vec ℕ). is_eq (bytes_cmp y k)) es) others
+        ap (λ (es : List (Vec ℕ × ℕ)). lookup (λ (k : Vec ℕ).
+        is_eq (slice_cmp nat_cmp y k.items)) es) others
 
 take_all : (entries : Entries) → take (length entries) entries ≡ entries
 take_all [] = refl
@@ -627,37 +640,35 @@ new_taken entries n news i e at =
 
 -- ---- one look after the other
 
-here_or_on : (x : List ℕ) (list : List (Vec ℕ × ℕ)) (i : ℕ) (e : Vec ℕ × ℕ) → i < length list
-    → e ≡ get_or list i e
-    → lookup (pointwise nat_eq x) (map_list entry_view (drop i list))
-    ≡ cond (pointwise nat_eq x e.0.items) (Some e.1)
-    (lookup (pointwise nat_eq x) (map_list entry_view (drop (suc i) list)))
-here_or_on x [] i e within is = absurd (omega (arith, within))
-here_or_on x (z ∷ list) zero e within is =
-    ap (λ (y : Vec ℕ × ℕ). cond (pointwise nat_eq x y.0.items) (Some y.1)
-    (lookup (pointwise nat_eq x) (map_list entry_view list))) (sym is)
-here_or_on x (z ∷ list) (suc i) e within is = here_or_on x list i e (omega (arith, within)) is
+here_or_on : (test : List ℕ → Bool) (entries : Entries) (i : ℕ) (own : List ℕ) (at : ℕ)
+    → slice_get entries i ≡ Some (own, at)
+    → lookup test (drop i entries)
+    ≡ cond (test own) (Some at) (lookup test (drop (suc i) entries))
+here_or_on test [] i own at is = absurd cc
+here_or_on test (z ∷ entries) zero own at is =
+    let same : z ≡ (own, at) = cc in
+    ap (λ (e : List ℕ × ℕ). cond (test e.0) (Some e.1) (lookup test entries)) same
+here_or_on test (z ∷ entries) (suc i) own at is = here_or_on test entries i own at is
 
-pub search_here : (x : List ℕ) (list : List (Vec ℕ × ℕ)) (i : ℕ) (e : Vec ℕ × ℕ) → i < length list
-    → e ≡ get_or list i e → true ≡ pointwise nat_eq e.0.items x
-    → Some e.1 ≡ lookup (pointwise nat_eq x) (map_list entry_view (drop i list))
-search_here x list i e within is same =
-    sym (here_or_on x list i e within is
-    ∙ ap (λ (b : Bool). cond b (Some e.1)
-    (lookup (pointwise nat_eq x) (map_list entry_view (drop (suc i) list))))
-    (turned_true x e.0.items same))
+module _ (x : List ℕ) (entries : Entries) (i : ℕ) (own : List ℕ) (at : ℕ)
+    (is : slice_get entries i ≡ Some (own, at)) where
+  abbrev later : Option ℕ
+  later = lookup (pointwise nat_eq x) (drop (suc i) entries)
 
-pub search_on : (x : List ℕ) (list : List (Vec ℕ × ℕ)) (i : ℕ) (e : Vec ℕ × ℕ) → i < length list
-    → e ≡ get_or list i e → false ≡ pointwise nat_eq e.0.items x
-    → lookup (pointwise nat_eq x) (map_list entry_view (drop (i + 1) list))
-    ≡ lookup (pointwise nat_eq x) (map_list entry_view (drop i list))
-search_on x list i e within is differs =
-    ap (λ (k : ℕ). lookup (pointwise nat_eq x) (map_list entry_view (drop k list)))
-    (let next : i + 1 ≡ suc i = omega arith in next)
-    ∙ sym (here_or_on x list i e within is
-    ∙ ap (λ (b : Bool). cond b (Some e.1)
-    (lookup (pointwise nat_eq x) (map_list entry_view (drop (suc i) list))))
-    (turned e.0.items x (sym differs)))
+  pub search_here : true ≡ pointwise nat_eq own x
+      → Some at ≡ lookup (pointwise nat_eq x) (drop i entries)
+  search_here same =
+      sym (here_or_on (pointwise nat_eq x) entries i own at is
+      ∙ ap (λ (b : Bool). cond b (Some at) later) (turned_true x own same))
+
+  pub search_on : false ≡ pointwise nat_eq own x
+      → lookup (pointwise nat_eq x) (drop (i + 1) entries)
+      ≡ lookup (pointwise nat_eq x) (drop i entries)
+  search_on differs =
+      ap (λ (k : ℕ). lookup (pointwise nat_eq x) (drop k entries))
+      (let next : i + 1 ≡ suc i = omega arith in next)
+      ∙ sym (here_or_on (pointwise nat_eq x) entries i own at is
+      ∙ ap (λ (b : Bool). cond b (Some at) later) (turned own x (sym differs)))
 
 -- ---- the table of a list, entry by entry
 
@@ -671,29 +682,17 @@ take_next (z ∷ entries) (suc n) y at =
     let rest = take_next entries n y at in
     (ap (λ (es : Entries). z ∷ es) rest.0, ap suc rest.1)
 
-pub table_next : (list : List (Vec ℕ × ℕ)) (n : ℕ) (e : Vec ℕ × ℕ) (old new : Table)
-    → n < length list → e ≡ get_or list n e
-    → AreNew (map_list entry_view list) → IsTable (take n (map_list entry_view list)) old
-    → IsPut old new n e.0 e.1 → IsTable (take (n + 1) (map_list entry_view list)) new
-table_next list n e old new within is news table put =
-    let entries : Entries = map_list entry_view list in
-    let read : slice_get entries n ≡ Some (entry_view e) =
-    viewed list n ∙ ap (option_map entry_view) (slice_get_read list
-    (length list) n e refl within is) in
-    let next = take_next entries n (entry_view e) read in
+pub table_next : (entries : Entries) (n : ℕ) (x : List ℕ) (at : ℕ) (old new : Table)
+    → slice_get entries n ≡ Some (x, at) → AreNew entries → IsTable (take n entries) old
+    → IsPut old new n x at → IsTable (take (n + 1) entries) new
+table_next entries n x at old new read news table put =
+    let next = take_next entries n (x, at) read in
     let count : n ≡ length (take n entries) = sym next.1 in
-    let one : take (n + 1) entries ≡ take n entries ++ (e.0.items, e.1) ∷ [] =
+    let one : take (n + 1) entries ≡ take n entries ++ (x, at) ∷ [] =
     ap (λ (k : ℕ). take k entries) (let k : n + 1 ≡ suc n = omega arith in k) ∙ next.0 in
     subst (λ (es : Entries). IsTable es new) (sym one)
-    (table_longer (take n entries) old table e.0 e.1 (news n (entry_view e) read) new
-    (subst (λ (k : ℕ). IsPut old new k e.0 e.1) count put))
-
--- a list longer by one
-pub viewed_push : (list : List (Vec ℕ × ℕ)) (x : Vec ℕ) (at : ℕ)
-    → map_list entry_view (list ++ (x, at) ∷ []) ≡ map_list entry_view list ++ (x.items, at) ∷ []
-viewed_push [] x at = refl
-viewed_push (e ∷ list) x at =
-    ap (λ (es : Entries). entry_view e ∷ es) (viewed_push list x at)
+    (table_longer (take n entries) old table x at (news n (x, at) read) new
+    (subst (λ (k : ℕ). IsPut old new k x at) count put))
 
 -- the same of a table that holds the same
 pub table_alike : (entries : Entries) (old new : Table) → IsAlike old new → IsTable entries old
@@ -705,10 +704,10 @@ table_alike entries old new alike table = record {
   finds = λ x. found x;
 }
   where
-    gives : (x : Vec ℕ) → get bytes_cmp new.others x ≡ get bytes_cmp old.others x
+    gives : (x : List ℕ) → get_by_bytes x new.others ≡ get_by_bytes x old.others
     gives x =
-        ap (λ (es : List (Vec ℕ × ℕ)). lookup (λ (k : Vec ℕ). is_eq (bytes_cmp x k)) es)
-        alike.others
+        ap (λ (es : List (Vec ℕ × ℕ)). lookup (λ (k : Vec ℕ).
+        is_eq (slice_cmp nat_cmp x k.items)) es) alike.others
 
     holds : (p : Spot) → held new p ≡ held old p
     holds (slot p) = ap (λ (s : List ℕ). get_or s p 0) alike.slots
@@ -723,12 +722,12 @@ table_alike entries old new alike table = record {
         ap (λ (v : ℕ). told entries x v (look entries new other x ps)) (holds p)
         ∙ ap (told entries x (held old p)) (looks other x ps)
 
-    found : (x : Vec ℕ) → look entries new (get bytes_cmp new.others x) x.items
-        (spots_of x.items (length new.slots.items)) ≡ lookup (pointwise nat_eq x.items) entries
+    found : (x : List ℕ) → look entries new (get_by_bytes x new.others) x
+        (spots_of x (length new.slots.items)) ≡ lookup (pointwise nat_eq x) entries
     found x =
-        looks (get bytes_cmp new.others x) x.items (spots_of x.items (length new.slots.items))
-        ∙ ap (λ (r : Option ℕ). look entries old r x.items
-        (spots_of x.items (length new.slots.items))) (gives x)
-        ∙ ap (λ (n : ℕ). look entries old (get bytes_cmp old.others x) x.items
-        (spots_of x.items n)) (ap length alike.slots)
+        looks (get_by_bytes x new.others) x (spots_of x (length new.slots.items))
+        ∙ ap (λ (r : Option ℕ). look entries old r x
+        (spots_of x (length new.slots.items))) (gives x)
+        ∙ ap (λ (n : ℕ). look entries old (get_by_bytes x old.others) x
+        (spots_of x n)) (ap length alike.slots)
         ∙ table.finds x

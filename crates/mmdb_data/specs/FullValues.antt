@@ -1,9 +1,9 @@
 -- How the values that stand in full are found: at two slots of their spellings, by a second number
 -- of theirs, or in an ordered map.
-use Rattle.std.specs.Prelude.{◌≡◌, ◌≢◌, ◌⊎◌, ℕ, zero, suc, ◌+◌, ◌-◌, ◌*◌, ◌%◌, ◌^◌, ◌<◌, cond}
-use Rattle.std.specs.Prelude.{nat_eq, List, [], ◌∷◌, length, get_or, slice_get, take, Option, Some}
-use Rattle.std.specs.Prelude.{None}
-use Rattle.std.specs.BTreeMap.{BTreeMap, get}
+use Rattle.std.specs.Prelude.{◌≡◌, ◌≢◌, ◌⊎◌, ℕ, zero, suc, ◌+◌, ◌-◌, ◌*◌, ◌%◌, ◌^◌, ◌<◌, ◌≤◌}
+use Rattle.std.specs.Prelude.{cond, nat_eq, List, [], ◌∷◌, length, get_or, slice_get, take, drop}
+use Rattle.std.specs.Prelude.{Option, Some, None}
+use Rattle.std.specs.BTreeMap.{BTreeMap, get, get_by}
 use Rattle.std.specs.Cmp.Lexicographic.{pointwise, slice_cmp}
 use Rattle.std.specs.Global.{Vec}
 use Rattle.std.specs.Hash.FoldHasher as folding
@@ -11,18 +11,26 @@ use Rattle.std.specs.Int.{w64, to_le_bytes}
 use Rattle.std.specs.Map.{lookup}
 use Rattle.std.specs.Option.{unwrap_or}
 use Rattle.std.specs.Ordering.{nat_cmp}
-use Rattle.std.specs.declared.cmp.Ordering.{Ordering}
 use Rattle.mmdb_data.specs.declared.full_values.Table.{Table}
+use Rattle.mmdb_data.specs.declared.spelled_list.Spelled.{Spelled}
 
 -- spellings with their offsets
 abbrev pub Entries : Type 0
 Entries = List (List ℕ × ℕ)
 
-abbrev pub entry_view : Vec ℕ × ℕ → List ℕ × ℕ
-entry_view entry = (entry.0.items, entry.1)
+-- a spelling stands among these bytes
+pub record IsWithin (texts : List ℕ) (spelled : Spelled) : Type 0 where
+  pub start : spelled.start ≤ spelled.end
+  pub end : spelled.end ≤ length texts
 
-abbrev pub bytes_cmp : Vec ℕ → Vec ℕ → Ordering
-bytes_cmp a b = slice_cmp nat_cmp a.items b.items
+-- the spelling that stands there, with its offset
+abbrev pub spelled_in : List ℕ → Spelled → List ℕ × ℕ
+spelled_in texts spelled =
+    (take (spelled.end - spelled.start) (drop spelled.start texts), spelled.at)
+
+-- what a map says of a spelling
+abbrev pub get_by_bytes : List ℕ → BTreeMap (Vec ℕ) ℕ → Option ℕ
+get_by_bytes x others = get_by (λ (key : Vec ℕ). slice_cmp nat_cmp x key.items) others
 
 -- what a spelling is mixed to
 unfoldable pub mixed : List ℕ → ℕ
@@ -82,33 +90,33 @@ AreNew entries = (i : ℕ) (entry : List ℕ × ℕ) → slice_get entries i ≡
 pub record IsTable (entries : Entries) (table : Table) : Type 0 where
   pub some : 1 < length table.slots.items
   pub within : (p : Spot) (k : ℕ) → held table p ≡ suc k → k < length entries
-  pub of : (x : Vec ℕ) (at : ℕ) → get bytes_cmp table.others x ≡ Some at
-      → lookup (pointwise nat_eq x.items) entries ≡ Some at
-  pub finds : (x : Vec ℕ) → look entries table (get bytes_cmp table.others x) x.items
-      (spots_of x.items (length table.slots.items)) ≡ lookup (pointwise nat_eq x.items) entries
+  pub of : (x : List ℕ) (at : ℕ) → get_by_bytes x table.others ≡ Some at
+      → lookup (pointwise nat_eq x) entries ≡ Some at
+  pub finds : (x : List ℕ) → look entries table (get_by_bytes x table.others) x
+      (spots_of x (length table.slots.items)) ≡ lookup (pointwise nat_eq x) entries
 
 -- a spelling with its offset went to the others
-abbrev pub IsOther : Vec ℕ → ℕ → BTreeMap (Vec ℕ) ℕ → BTreeMap (Vec ℕ) ℕ → Type 0
-IsOther x at old new = (y : Vec ℕ) → get bytes_cmp new y
-    ≡ cond (pointwise nat_eq x.items y.items) (Some at) (get bytes_cmp old y)
+abbrev pub IsOther : List ℕ → ℕ → BTreeMap (Vec ℕ) ℕ → BTreeMap (Vec ℕ) ℕ → Type 0
+IsOther x at old new = (y : List ℕ) → get_by_bytes y new
+    ≡ cond (pointwise nat_eq x y) (Some at) (get_by_bytes y old)
 
 -- the number went to this spot, and nothing else changed
 pub record IsHeld (old new : Table) (n : ℕ) (p : Spot) : Type 0 where
   pub here : held new p ≡ suc n
   pub elsewhere : (q : Spot) → q ≢ p → held new q ≡ held old q
-  pub others : (y : Vec ℕ) → get bytes_cmp new.others y ≡ get bytes_cmp old.others y
+  pub others : (y : List ℕ) → get_by_bytes y new.others ≡ get_by_bytes y old.others
 
 -- the number went to the first free one of these spots, or the spelling to the others
-abbrev pub IsPutAt : Table → Table → ℕ → Vec ℕ → ℕ → List Spot → Type 0
+abbrev pub IsPutAt : Table → Table → ℕ → List ℕ → ℕ → List Spot → Type 0
 IsPutAt old new n x at [] =
     ((q : Spot) → held new q ≡ held old q) × IsOther x at old.others new.others
 IsPutAt old new n x at (p ∷ ps) =
     ((held old p ≡ 0) × IsHeld old new n p) ⊎ ((held old p ≢ 0) × IsPutAt old new n x at ps)
 
 -- the same of the spelling's spots
-pub record IsPut (old new : Table) (n : ℕ) (x : Vec ℕ) (at : ℕ) : Type 0 where
+pub record IsPut (old new : Table) (n : ℕ) (x : List ℕ) (at : ℕ) : Type 0 where
   pub len : length new.slots.items ≡ length old.slots.items
-  pub put : IsPutAt old new n x at (spots_of x.items (length old.slots.items))
+  pub put : IsPutAt old new n x at (spots_of x (length old.slots.items))
 
 -- both hold the same
 pub record IsAlike (old new : Table) : Type 0 where

@@ -1,12 +1,13 @@
 //! Where the values of a section stand in full, by their spellings.
 ghost use Rattle.std.specs.Prelude.{◌≡◌, ◌+◌, ◌^◌, ◌<◌, ◌++◌, ◌∷◌, [], None, Option, ℕ, length};
-ghost use Rattle.std.specs.Prelude.{take, nat_eq, map as map_list, IfOk, OnOk, OnErr};
+ghost use Rattle.std.specs.Prelude.{take, nat_eq, IfOk, OnOk, OnErr};
 ghost use Rattle.std.specs.Option.{unwrap_or};
 ghost use Rattle.std.specs.Cmp.Lexicographic.{pointwise};
 ghost use Rattle.std.specs.Map.{lookup};
 ghost use Rattle.mmdb_data.specs.FullValues.{mixed, mixed_again, slot_by, held, ranked, told};
-ghost use Rattle.mmdb_data.specs.FullValues.{entry_view, AreNew, IsTable, IsPut, IsAlike};
+ghost use Rattle.mmdb_data.specs.FullValues.{AreNew, IsTable, IsPut, IsAlike};
 
+use crate::spelled_list::SpelledList;
 use geo_addr::Memory;
 use std::alloc::Global;
 use std::collections::BTreeMap;
@@ -21,7 +22,7 @@ use std::marker::Model;
 #[derive(Debug, Drop)]
 pub(crate) struct FullValues {
     alloc: Global,
-    list: Vec<(Vec<u8>, u64)>,
+    list: SpelledList,
     table: Table,
 }
 
@@ -36,16 +37,15 @@ struct Table {
 }
 
 impl Model for FullValues {
-    ghost use Rattle.std.specs.Prelude.{◌<◌, ℕ, List, length, map as map_list};
-    ghost use Rattle.mmdb_data.specs.FullValues.{Entries, entry_view, AreNew, IsTable};
+    ghost use Rattle.std.specs.Prelude.{◌<◌, ℕ, length};
+    ghost use Rattle.mmdb_data.specs.FullValues.{Entries, AreNew, IsTable};
 
     ghost Value = { Entries };
 
-    ghost view = { λ s. map_list entry_view s.list.items };
+    ghost view = { λ s. s.list };
 
-    ghost invariant = { λ s. AreNew (map_list entry_view s.list.items)
-        × (0 < length s.table.slots.items
-        → IsTable (map_list entry_view s.list.items) s.table) };
+    ghost invariant = { λ s. AreNew s.list
+        × (0 < length s.table.slots.items → IsTable s.list s.table) };
 }
 
 impl FullValues {
@@ -55,7 +55,7 @@ impl FullValues {
     {
         FullValues {
             alloc,
-            list: Vec::new(alloc),
+            list: SpelledList::new(alloc),
             table: Table::new(alloc),
         }
     }
@@ -68,33 +68,33 @@ impl FullValues {
     }
 
     /// The offset of the spelling, which is mixed to `first`.
-    pub(crate) fn get(&self, spelled: &Vec<u8>, first: u64) -> Option<u64>
-        requires { first ≡ mixed spelled.now.items }
-        ensures { result ≡ lookup (pointwise nat_eq spelled.now.items) self.now }
+    pub(crate) fn get(&self, spelled: &[u8], first: u64) -> Option<u64>
+        requires { first ≡ mixed spelled.now }
+        ensures { result ≡ lookup (pointwise nat_eq spelled.now) self.now }
     {
-        let (list, table) = (self.list.as_slice(), &self.table);
+        let (list, table) = (&self.list, &self.table);
         if table.slots.is_empty() {
-            return searched(list, spelled.as_slice());
+            return searched(list, spelled);
         }
         let slot = slot_by(first, table.slots.len());
-        if let Some(answer) = said(list, table.slots[slot], spelled.as_slice()) {
+        if let Some(answer) = said(list, table.slots[slot], spelled) {
             return answer;
         }
-        if let Some(answer) = said(list, table.slots[slot + 1], spelled.as_slice()) {
+        if let Some(answer) = said(list, table.slots[slot + 1], spelled) {
             return answer;
         }
-        let rank = mixed_again(first, spelled.as_slice());
-        if let Some(answer) = said(list, table.at_rank(rank), spelled.as_slice()) {
+        let rank = mixed_again(first, spelled);
+        if let Some(answer) = said(list, table.at_rank(rank), spelled) {
             return answer;
         }
         table.others.get(spelled).copied()
     }
 
     /// Puts a new spelling last, which is mixed to `first`.
-    pub(crate) fn push(&mut self, spelled: Vec<u8>, first: u64, at: u64) -> Result<(), Memory>
-        requires new { lookup (pointwise nat_eq spelled.items) self.old ≡ None }
-        requires first { first ≡ mixed spelled.items }
-        ensures pushed { OnOk result (self.new ≡ self.old ++ (spelled.items, at) ∷ []) }
+    pub(crate) fn push(&mut self, spelled: &[u8], first: u64, at: u64) -> Result<(), Memory>
+        requires new { lookup (pointwise nat_eq spelled.now) self.old ≡ None }
+        requires first { first ≡ mixed spelled.now }
+        ensures pushed { OnOk result (self.new ≡ self.old ++ (spelled.now, at) ∷ []) }
         ensures err { OnErr result (self.new ≡ self.old) }
     {
         let number = self.list.len();
@@ -105,12 +105,17 @@ impl FullValues {
         let beside = self.table.ranks.len() + self.table.others.len();
         let taken = number.saturating_sub(beside);
         if self.table.slots.len() < 2 * taken + 2 {
-            self.table = table_of(self.alloc, self.list.as_slice())?;
+            self.table = table_of(self.alloc, &self.list)?;
         }
-        self.list.reserve(1)?;
-        note(&mut self.table, number as u32, &spelled, first, at)?;
-        self.list.push_reserved((spelled, at));
-        Ok(())
+        self.list.push(spelled, at)?;
+        let (alloc, table) = (self.alloc, &mut self.table);
+        match note(alloc, table, number as u32, spelled, first, at) {
+            Ok(()) => Ok(()),
+            Err(refused) => {
+                self.list.truncate(number);
+                Err(refused)
+            }
+        }
     }
 
     /// Takes off the last ones, until so many are left.
@@ -185,43 +190,44 @@ fn slot_by(first: u64, len: usize) -> usize
 }
 
 // What a slot or a rank that has this tells of the spelling, if anything.
-fn said(list: &[(Vec<u8>, u64)], held: u32, spelled: &[u8]) -> Option<Option<u64>>
-    ensures { (rest : Option ℕ)
-        → told (map_list entry_view list.now) spelled.now held rest ≡ unwrap_or result rest }
+fn said(list: &SpelledList, held: u32, spelled: &[u8]) -> Option<Option<u64>>
+    ensures { (rest : Option ℕ) → told list.now spelled.now held rest ≡ unwrap_or result rest }
 {
     let Some(number) = held.checked_sub(1) else {
         return Some(None);
     };
     let (own, at) = list.get(number as usize)?;
-    if own.as_slice() == spelled {
-        return Some(Some(*at));
+    if own == spelled {
+        return Some(Some(at));
     }
     None
 }
 
 // The offset of the spelling, by a look at each one.
-fn searched(list: &[(Vec<u8>, u64)], spelled: &[u8]) -> Option<u64>
-    ensures { result ≡ lookup (pointwise nat_eq spelled.now) (map_list entry_view list.now) }
+fn searched(list: &SpelledList, spelled: &[u8]) -> Option<u64>
+    ensures { result ≡ lookup (pointwise nat_eq spelled.now) list.now }
 {
-    for (own, at) in list {
-        if own.as_slice() == spelled {
-            return Some(*at);
+    for number in 0..list.len() {
+        let (own, at) = list.entry(number);
+        if own == spelled {
+            return Some(at);
         }
     }
     None
 }
 
 // A table that finds all spellings of the list, with room for three times as many more.
-fn table_of(alloc: Global, list: &[(Vec<u8>, u64)]) -> Result<Table, Memory>
+fn table_of(alloc: Global, list: &SpelledList) -> Result<Table, Memory>
     requires few { length list.now < 2 ^ 32 }
-    requires new { AreNew (map_list entry_view list.now) }
-    ensures { IfOk result (λ table. IsTable (map_list entry_view list.now) table) }
+    requires new { AreNew list.now }
+    ensures { IfOk result (λ table. IsTable list.now table) }
 {
     let mut table = Table::new(alloc);
     table.slots.resize(8 * list.len() + FIRST_SLOTS, 0)?;
     for number in 0..list.len() {
-        let (spelled, at) = &list[number];
-        note(&mut table, number as u32, spelled, mixed(spelled), *at)?;
+        let (spelled, at) = list.entry(number);
+        let first = mixed(spelled);
+        note(alloc, &mut table, number as u32, spelled, first, at)?;
     }
     Ok(table)
 }
@@ -229,13 +235,14 @@ fn table_of(alloc: Global, list: &[(Vec<u8>, u64)]) -> Result<Table, Memory>
 // Notes the number of a new spelling, mixed to `first`, at the first free one of its slots, or else
 // at its rank, or else the spelling among the others.
 fn note(
+    alloc: Global,
     table: &mut Table,
     number: u32,
-    spelled: &Vec<u8>,
+    spelled: &[u8],
     first: u64,
     at: u64,
 ) -> Result<(), Memory>
-    requires first { first ≡ mixed spelled.now.items }
+    requires first { first ≡ mixed spelled.now }
     requires some { 1 < length table.old.slots.items }
     requires few { number + 1 < 2 ^ 32 }
     ensures put { OnOk result (IsPut table.old table.new number spelled.now at) }
@@ -250,14 +257,14 @@ fn note(
         table.slots[slot + 1] = number + 1;
         return Ok(());
     }
-    let rank = mixed_again(first, spelled.as_slice());
+    let rank = mixed_again(first, spelled);
     if table.at_rank(rank) == 0 {
         if table.ranks.insert(rank, number + 1).is_err() {
             return Err(Memory);
         }
         return Ok(());
     }
-    let key = spelled.clone()?;
+    let key = Vec::from_slice(alloc, spelled)?;
     if table.others.insert(key, at).is_err() {
         return Err(Memory);
     }

@@ -17,6 +17,7 @@ mod reader;
 mod reading;
 mod section;
 mod sizes;
+mod spelled_list;
 mod value;
 mod writing;
 

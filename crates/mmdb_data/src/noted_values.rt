@@ -57,9 +57,9 @@ impl NotedValues {
     }
 
     /// The offset of the spelling, which is mixed to `first`.
-    pub(crate) fn get(&self, spelled: &Vec<u8>, first: u64) -> Option<u64>
-        requires { first ≡ mixed spelled.now.items }
-        ensures { result ≡ lookup (pointwise nat_eq spelled.now.items) self.now }
+    pub(crate) fn get(&self, spelled: &[u8], first: u64) -> Option<u64>
+        requires { first ≡ mixed spelled.now }
+        ensures { result ≡ lookup (pointwise nat_eq spelled.now) self.now }
     {
         self.full.get(spelled, first)
     }
@@ -84,10 +84,10 @@ impl NotedValues {
     }
 
     /// Puts a new spelling last, which is mixed to `first`.
-    pub(crate) fn push(&mut self, spelled: Vec<u8>, first: u64, at: u64) -> Result<(), Memory>
-        requires new { lookup (pointwise nat_eq spelled.items) self.old ≡ None }
-        requires first { first ≡ mixed spelled.items }
-        ensures pushed { OnOk result (self.new ≡ self.old ++ (spelled.items, at) ∷ []) }
+    pub(crate) fn push(&mut self, spelled: &[u8], first: u64, at: u64) -> Result<(), Memory>
+        requires new { lookup (pointwise nat_eq spelled.now) self.old ≡ None }
+        requires first { first ≡ mixed spelled.now }
+        ensures pushed { OnOk result (self.new ≡ self.old ++ (spelled.now, at) ∷ []) }
         ensures err { OnErr result (self.new ≡ self.old) }
     {
         self.full.push(spelled, first, at)

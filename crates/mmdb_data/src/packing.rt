@@ -60,7 +60,7 @@ fn append_full(section: &mut Section, value: &Value, found: Found) -> Result<(),
     let at = section.bytes.len() as u64;
     let spelled = section.piece.clone()?;
     append_content(section, value)?;
-    section.note(spelled, found.mixed, at)
+    section.note(&spelled, found.mixed, at)
 }
 
 #[cycle(packing)]

@@ -78,7 +78,7 @@ fn append_map_full(
     let at = section.bytes.len() as u64;
     let spelled = section.piece.clone()?;
     append_map_content(section, members)?;
-    section.note(spelled, found.mixed, at)
+    section.note(&spelled, found.mixed, at)
 }
 
 fn append_map_content(section: &mut Section, members: &[Member<'_>]) -> Result<(), Memory>
@@ -143,7 +143,7 @@ fn append_nested_full(
     let at = section.bytes.len() as u64;
     let spelled = section.piece.clone()?;
     append_nested_content(section, around, text)?;
-    section.note(spelled, found.mixed, at)
+    section.note(&spelled, found.mixed, at)
 }
 
 #[cycle(nesting)]

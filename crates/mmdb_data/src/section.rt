@@ -107,11 +107,11 @@ impl Section {
     }
 
     /// The value is one that stands nowhere in full yet, and is mixed to `first`.
-    pub(crate) fn note(&mut self, spelled: Vec<u8>, first: u64, at: u64) -> Result<(), Memory>
-        requires new { offset_of spelled.items (packed_of self.old) ≡ None }
-        requires first { first ≡ mixed spelled.items }
+    pub(crate) fn note(&mut self, spelled: &[u8], first: u64, at: u64) -> Result<(), Memory>
+        requires new { offset_of spelled.now (packed_of self.old) ≡ None }
+        requires first { first ≡ mixed spelled.now }
         ensures noted { OnOk result
-            (packed_of self.new ≡ noted spelled.items at (packed_of self.old)) }
+            (packed_of self.new ≡ noted spelled.now at (packed_of self.old)) }
         ensures refused { OnErr result (packed_of self.new ≡ packed_of self.old) }
     {
         self.full.push(spelled, first, at)?;
@@ -126,13 +126,12 @@ impl Section {
             ≡ full_by self.old.piece.items (with_bytes self.old.piece.items) (packed_of self.old)) }
         ensures kept { IsKept (packed_of self.old) (packed_of self.new) }
     {
-        if found.at.is_some() {
-            return self.append();
-        }
         let at = self.bytes.len() as u64;
-        let spelled = self.piece.clone()?;
-        self.append()?;
-        self.note(spelled, found.mixed, at)
+        self.bytes.extend_from_slice(&self.piece)?;
+        if found.at.is_some() {
+            return Ok(());
+        }
+        self.full.push(&self.piece, found.mixed, at)
     }
 
     pub(crate) fn append_key(&mut self, key: &str) -> Result<(), Memory>

@@ -1,5 +1,4 @@
 use Rattle.std.proofs.Common.{◌≡◌, ◌+◌, ◌<◌, length, refl, rules}
-use Rattle.std.specs.List.{each_same}
 use Rattle.mmdb_data.specs.declared.full_values.Table.{Table}
 use Rattle.mmdb_data.specs.FullValues.{mixed, mixed_again, slot_by}
 use Rattle.mmdb_data.proofs.Table.{other_put, put_beside}
@@ -12,12 +11,12 @@ returns-clause-put c =
     record { slots = old.slots; ranks = old.ranks; others = c.insert-2.new.self } in
     let x = c.args.spelled.now in
     let at = c.slot_by-slot.result in
-    let slot : at ≡ slot_by (mixed x.items) (length old.slots.items) = search rules in
+    let slot : at ≡ slot_by (mixed x) (length old.slots.items) = search rules in
     let fits : at + 1 < length old.slots.items = search rules in
-    let rank : c.mixed_again-rank.result ≡ mixed_again x.items = search rules in
+    let rank : c.mixed_again-rank.result ≡ mixed_again x = search rules in
     put_beside old new c.args.number x c.args.at at c.index.result.now slot fits c.index.ensures
     c.if-index-eq0.false c.index-2.result.now c.index-2.ensures c.if-index-eq0-2.false
     c.mixed_again-rank.result c.at_rank.result rank c.at_rank.ensures refl
     c.if-at_rank-eq0.false refl
-    (other_put x c.in_ok-key.key c.args.at old.others c.insert-2.new.self
-    (each_same x.items c.in_ok-key.key.items c.in_ok-key.ensures.cases.0) (search rules))
+    (other_put x c.in_ok-key.key c.args.at old.others c.insert-2.new.self c.in_ok-key.ensures.items
+    (search rules))

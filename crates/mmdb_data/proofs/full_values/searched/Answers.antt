@@ -1,21 +1,15 @@
-use Rattle.std.proofs.Common.{ℕ, List, nat_eq, sym, ap}
-use Rattle.std.proofs.Common.{◌∙◌}
-use Rattle.std.specs.Cmp.Lexicographic.{pointwise}
+use Rattle.std.proofs.Common.{sym, ◌∙◌}
 use Rattle.mmdb_data.proofs.Table.{search_here, search_on}
 use Rattle.mmdb_data.proofs.full_values.searched.Goals as goal
 
 pub returns-then-eq : goal.returns-then-eq
 returns-then-eq c =
-    search_here c.args.spelled.now c.args.list.now c.loop-own.own-index c.loop-own-item.result
-    c.loop-own-test.true c.loop-own-item.is
-    (sym c.if-eq.true ∙ c.eq.ensures
-    ∙ ap (λ (xs : List ℕ). pointwise nat_eq xs c.args.spelled.now) c.as_slice.ensures.value)
-    ∙ c.loop-own.invariant
+    search_here c.args.spelled.now c.args.list.now c.loop-number.number c.entry-at.result.0.now
+    c.entry-at.result.1 c.entry-at.ensures (sym c.if-eq.true ∙ c.eq.ensures)
+    ∙ c.loop-number.invariant
 
-pub loop-own-preserved : goal.loop-own-preserved
-loop-own-preserved c =
-    search_on c.args.spelled.now c.args.list.now c.loop-own.own-index c.loop-own-item.result
-    c.loop-own-test.true c.loop-own-item.is
-    (sym c.if-eq.false ∙ c.eq.ensures
-    ∙ ap (λ (xs : List ℕ). pointwise nat_eq xs c.args.spelled.now) c.as_slice.ensures.value)
-    ∙ c.loop-own.invariant
+pub loop-number-preserved : goal.loop-number-preserved
+loop-number-preserved c =
+    search_on c.args.spelled.now c.args.list.now c.loop-number.number c.entry-at.result.0.now
+    c.entry-at.result.1 c.entry-at.ensures (sym c.if-eq.false ∙ c.eq.ensures)
+    ∙ c.loop-number.invariant

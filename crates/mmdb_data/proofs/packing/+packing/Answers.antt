@@ -56,8 +56,8 @@ append_full-returns-then-is_some-clause-appended t c =
 pub append_full-note-requires-clause-new : goal.append_full-note-requires-clause-new
 append_full-note-requires-clause-new t c =
     still_unknown (value_tree c.args.value.now) (packed_of c.args.section.now)
-    (packed_of c.append_content-2.new.section) c.in_ok-spelled.spelled.items
-    (each_same c.args.section.now.piece.items c.in_ok-spelled.spelled.items
+    (packed_of c.append_content-2.new.section) c.deref.result.now
+    (c.deref.ensures.value ∙ each_same c.args.section.now.piece.items c.in_ok-spelled.spelled.items
     c.in_ok-spelled.ensures.cases.0 ∙ c.requires.spelled)
     c.in_ok-append_content.ensures.appended
     (ap is_some (sym c.requires.known) ∙ sym c.is_some.ensures
@@ -65,15 +65,16 @@ append_full-note-requires-clause-new t c =
 
 pub append_full-note-requires-clause-first : goal.append_full-note-requires-clause-first
 append_full-note-requires-clause-first t c =
-    c.requires.mixed ∙ ap mixed (sym (each_same c.args.section.now.piece.items
-    c.in_ok-spelled.spelled.items c.in_ok-spelled.ensures.cases.0 ∙ c.requires.spelled))
+    c.requires.mixed ∙ ap mixed (sym (c.deref.ensures.value
+    ∙ each_same c.args.section.now.piece.items c.in_ok-spelled.spelled.items
+    c.in_ok-spelled.ensures.cases.0 ∙ c.requires.spelled))
 
 pub append_full-returns-clause-appended : goal.append_full-returns-clause-appended
 append_full-returns-clause-appended t c =
     new_full c.note.result (value_tree c.args.value.now) (packed_of c.note.new.self)
     (packed_of c.append_content-2.new.section)
-    (packed_of c.args.section.now) c.in_ok-spelled.spelled.items c.len-at.result
-    (each_same c.args.section.now.piece.items c.in_ok-spelled.spelled.items
+    (packed_of c.args.section.now) c.deref.result.now c.len-at.result
+    (c.deref.ensures.value ∙ each_same c.args.section.now.piece.items c.in_ok-spelled.spelled.items
     c.in_ok-spelled.ensures.cases.0 ∙ c.requires.spelled)
     (c.len-at.ensures ∙ c.args.section.now.bytes.ok.0)
     c.in_ok-append_content.ensures.appended
@@ -83,7 +84,7 @@ pub append_full-returns-clause-kept : goal.append_full-returns-clause-kept
 append_full-returns-clause-kept t c =
     kept_either c.note.result (packed_of c.args.section.now)
     (packed_of c.append_content-2.new.section)
-    (packed_of c.note.new.self) c.in_ok-spelled.spelled.items c.len-at.result
+    (packed_of c.note.new.self) c.deref.result.now c.len-at.result
     c.in_ok-append_content.ensures.kept c.note.ensures.noted c.note.ensures.refused
 
 pub append_content-returns-in_default-clause-appended

@@ -17,8 +17,8 @@ append_nested_full-returns-then-is_some-clause-appended t c =
 pub append_nested_full-note-requires-clause-new : goal.append_nested_full-note-requires-clause-new
 append_nested_full-note-requires-clause-new t c =
     still_unknown (nested c.args.around.now c.args.text.now) (packed_of c.args.section.now)
-    (packed_of c.append_nested_content-2.new.section) c.in_ok-spelled.spelled.items
-    (each_same c.args.section.now.piece.items c.in_ok-spelled.spelled.items
+    (packed_of c.append_nested_content-2.new.section) c.deref.result.now
+    (c.deref.ensures.value ∙ each_same c.args.section.now.piece.items c.in_ok-spelled.spelled.items
     c.in_ok-spelled.ensures.cases.0 ∙ c.requires.1.1.1.0)
     c.in_ok-append_nested_content.ensures.appended
     (ap is_some (sym c.requires.1.1.1.1.0) ∙ sym c.is_some.ensures
@@ -27,16 +27,17 @@ append_nested_full-note-requires-clause-new t c =
 pub append_nested_full-note-requires-clause-first
     : goal.append_nested_full-note-requires-clause-first
 append_nested_full-note-requires-clause-first t c =
-    c.requires.1.1.1.1.1 ∙ ap mixed (sym (each_same c.args.section.now.piece.items
-    c.in_ok-spelled.spelled.items c.in_ok-spelled.ensures.cases.0 ∙ c.requires.1.1.1.0))
+    c.requires.1.1.1.1.1 ∙ ap mixed (sym (c.deref.ensures.value
+    ∙ each_same c.args.section.now.piece.items c.in_ok-spelled.spelled.items
+    c.in_ok-spelled.ensures.cases.0 ∙ c.requires.1.1.1.0))
 
 pub append_nested_full-returns-clause-appended
     : goal.append_nested_full-returns-clause-appended
 append_nested_full-returns-clause-appended t c =
     new_full c.note.result (nested c.args.around.now c.args.text.now) (packed_of c.note.new.self)
     (packed_of c.append_nested_content-2.new.section)
-    (packed_of c.args.section.now) c.in_ok-spelled.spelled.items c.len-at.result
-    (each_same c.args.section.now.piece.items c.in_ok-spelled.spelled.items
+    (packed_of c.args.section.now) c.deref.result.now c.len-at.result
+    (c.deref.ensures.value ∙ each_same c.args.section.now.piece.items c.in_ok-spelled.spelled.items
     c.in_ok-spelled.ensures.cases.0 ∙ c.requires.1.1.1.0)
     (c.len-at.ensures ∙ c.args.section.now.bytes.ok.0)
     c.in_ok-append_nested_content.ensures.appended
@@ -46,5 +47,5 @@ pub append_nested_full-returns-clause-kept : goal.append_nested_full-returns-cla
 append_nested_full-returns-clause-kept t c =
     kept_either c.note.result (packed_of c.args.section.now)
     (packed_of c.append_nested_content-2.new.section)
-    (packed_of c.note.new.self) c.in_ok-spelled.spelled.items c.len-at.result
+    (packed_of c.note.new.self) c.deref.result.now c.len-at.result
     c.in_ok-append_nested_content.ensures.kept c.note.ensures.noted c.note.ensures.refused

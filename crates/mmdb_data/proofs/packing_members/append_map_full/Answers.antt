@@ -18,8 +18,8 @@ returns-then-is_some-clause-appended c =
 pub note-requires-clause-new : goal.note-requires-clause-new
 note-requires-clause-new c =
     still_unknown (map (member_list c.args.members.now)) (packed_of c.args.section.now)
-    (packed_of c.append_map_content-2.new.section) c.in_ok-spelled.spelled.items
-    (each_same c.args.section.now.piece.items c.in_ok-spelled.spelled.items
+    (packed_of c.append_map_content-2.new.section) c.deref.result.now
+    (c.deref.ensures.value ∙ each_same c.args.section.now.piece.items c.in_ok-spelled.spelled.items
     c.in_ok-spelled.ensures.cases.0 ∙ c.requires.spelled)
     c.in_ok-append_map_content.ensures.appended
     (ap is_some (sym c.requires.known) ∙ sym c.is_some.ensures
@@ -27,16 +27,17 @@ note-requires-clause-new c =
 
 pub note-requires-clause-first : goal.note-requires-clause-first
 note-requires-clause-first c =
-    c.requires.mixed ∙ ap mixed (sym (each_same c.args.section.now.piece.items
-    c.in_ok-spelled.spelled.items c.in_ok-spelled.ensures.cases.0 ∙ c.requires.spelled))
+    c.requires.mixed ∙ ap mixed (sym (c.deref.ensures.value
+    ∙ each_same c.args.section.now.piece.items c.in_ok-spelled.spelled.items
+    c.in_ok-spelled.ensures.cases.0 ∙ c.requires.spelled))
 
 pub returns-clause-appended
     : goal.returns-clause-appended
 returns-clause-appended c =
     new_full c.note.result (map (member_list c.args.members.now)) (packed_of c.note.new.self)
     (packed_of c.append_map_content-2.new.section)
-    (packed_of c.args.section.now) c.in_ok-spelled.spelled.items c.len-at.result
-    (each_same c.args.section.now.piece.items c.in_ok-spelled.spelled.items
+    (packed_of c.args.section.now) c.deref.result.now c.len-at.result
+    (c.deref.ensures.value ∙ each_same c.args.section.now.piece.items c.in_ok-spelled.spelled.items
     c.in_ok-spelled.ensures.cases.0 ∙ c.requires.spelled)
     (c.len-at.ensures ∙ c.args.section.now.bytes.ok.0)
     c.in_ok-append_map_content.ensures.appended
@@ -46,5 +47,5 @@ pub returns-clause-kept : goal.returns-clause-kept
 returns-clause-kept c =
     kept_either c.note.result (packed_of c.args.section.now)
     (packed_of c.append_map_content-2.new.section)
-    (packed_of c.note.new.self) c.in_ok-spelled.spelled.items c.len-at.result
+    (packed_of c.note.new.self) c.deref.result.now c.len-at.result
     c.in_ok-append_map_content.ensures.kept c.note.ensures.noted c.note.ensures.refused
