@@ -66,27 +66,30 @@ appended_kept (Ok x) old new piece ok err =
     subst (IsKept old) (sym ok) (with_bytes_kept piece old)
 appended_kept (Err e) old new piece ok err = subst (IsKept old) (sym err) (kept_self old)
 
--- a value that is known is not noted again
-pub known_full : {T E : Type 0} (r : Result T E) (value : ValueTree) (new old : Packed)
-    → is_some (offset_of (spelling value) old) ≡ true → OnOk r (new ≡ content_in value old)
-    → OnOk r (new ≡ in_full value old)
-known_full (Ok x) value new old known is =
-    is ∙ sym (ap (λ (b : Bool). cond b (content_in value old)
-    (packed_is (content_in value old).bytes
-    ((content_in value old).full ++ (spelling value, length old.bytes) ∷ [])))
-    (ap is_some (own_offset value old) ∙ known))
-known_full (Err e) value new old known is = tt
-
 none_from : (r : Option ℕ) → is_some r ≡ false → r ≡ None
 none_from None h = refl
 none_from (Some at) h = absurd cc
 
-pub still_unknown : (value : ValueTree) (old mid : Packed) (spelled : List ℕ) → spelled
-    ≡ spelling value
-    → mid ≡ content_in value old → is_some (offset_of (spelling value) old) ≡ false
-    → offset_of spelled mid ≡ None
-still_unknown value old mid spelled is mid_is unknown =
-    rw (is, mid_is) (own_offset value old ∙ none_from (offset_of (spelling value) old) unknown)
+-- what was found of a value before its content was appended
+module _ (value : ValueTree) (old mid : Packed) (spelled : List ℕ) (found : Option ℕ)
+    (is : spelled ≡ spelling value) (known : found ≡ offset_of spelled old)
+    (mid_is : mid ≡ content_in value old) where
+  own_found : offset_of (spelling value) (content_in value old) ≡ found
+  own_found =
+      own_offset value old ∙ sym (known ∙ ap (λ (x : List ℕ). offset_of x old) is)
+
+  -- a value that is known is not noted again
+  pub known_full : is_some found ≡ true → mid ≡ in_full value old
+  known_full there =
+      mid_is ∙ sym (ap (λ (b : Bool). cond b (content_in value old)
+      (packed_is (content_in value old).bytes
+      ((content_in value old).full ++ (spelling value, length old.bytes) ∷ [])))
+      (ap is_some own_found ∙ there))
+
+  pub still_unknown : is_some found ≡ false → offset_of spelled mid ≡ None
+  still_unknown missing =
+      ap (λ (x : List ℕ). offset_of x mid) is ∙ ap (offset_of (spelling value)) mid_is
+      ∙ own_found ∙ none_from found missing
 
 pub new_full : {T E : Type 0} (r : Result T E) (value : ValueTree) (new mid old : Packed)
     (spelled : List ℕ) (at : ℕ) → spelled ≡ spelling value → at ≡ length old.bytes

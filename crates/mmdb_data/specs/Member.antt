@@ -34,9 +34,12 @@ abbrev pub HasNarrowKey : Around → Type 0
 HasNarrowKey (Map key) = length key.now ≤ most
 HasNarrowKey InList = Unit {0}
 
+abbrev pub member_value : Member → ValueTree
+member_value m = nested m.around.now m.text.now
+
 -- a member as a pair, and members as those of a map
 abbrev pub member_pair : Member → List ℕ × ValueTree
-member_pair m = (m.key.now, nested m.around.now m.text.now)
+member_pair m = (m.key.now, member_value m)
 
 abbrev pub member_list : List Member → Members
 member_list members = members_of (map_list member_pair members)

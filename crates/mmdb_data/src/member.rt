@@ -1,12 +1,12 @@
 //! Members of a map that borrow their texts.
 
-ghost use Rattle.std.specs.Prelude.{◌≡◌, ◌++◌, OnOk};
-ghost use Rattle.mmdb_data.specs.ValueTree.{IsNarrow};
-ghost use Rattle.mmdb_data.specs.Spelling.{spelling};
-ghost use Rattle.mmdb_data.specs.Member.{nested, around_head, HasNarrowKey};
+ghost use Rattle.std.specs.Prelude.{◌≡◌, ◌+◌, ◌≤◌, ◌<◌, ◌^◌, ◌++◌, OnOk, length, take, drop};
+ghost use Rattle.mmdb_data.specs.ValueTree.{most, IsNarrow};
+ghost use Rattle.mmdb_data.specs.Spelling.{sized, spelling};
+ghost use Rattle.mmdb_data.specs.Member.{nested, member_value, around_head, HasNarrowKey};
 
 use crate::kind::Kind;
-use crate::writing::{put_head, put_sized};
+use crate::writing::{head_len, put_head, put_sized, text_len};
 use geo_addr::Memory;
 
 /// What a value stands in alone: a map, where this is its key, or a list.
@@ -49,5 +49,44 @@ fn put_around(out: &mut Vec<u8>, outer: &Around<'_>) -> Result<(), Memory>
             put_sized(out, Kind::Text, key.as_bytes())
         }
         Around::List => put_head(out, Kind::List, 1),
+    }
+}
+
+/// The spelling of the member's value, behind that of its key, and what stands behind it.
+pub(crate) fn value_in<'a>(spelled: &'a [u8], member: &Member<'_>) -> (&'a [u8], &'a [u8])
+    requires key { length member.now.key.now ≤ most }
+    requires narrow { IsNarrow (member_value member.now) }
+    requires within { length (sized 2 member.now.key.now)
+        + length (spelling (member_value member.now)) ≤ length spelled.now }
+    ensures value { result.0.now ≡ take (length (spelling (member_value member.now)))
+        (drop (length (sized 2 member.now.key.now)) spelled.now) }
+    ensures behind { result.1.now ≡ drop (length (spelling (member_value member.now)))
+        (drop (length (sized 2 member.now.key.now)) spelled.now) }
+{
+    let value = &spelled[text_len(member.key)..];
+    value.split_at(nested_len(member.around, member.text))
+}
+
+/// How many bytes the text takes with all that stands around it.
+#[tactic(auto, using(crate::proofs::Nested::len_wrapped))]
+fn nested_len(around: &[Around<'_>], text: &str) -> usize
+    requires narrow { IsNarrow (nested around.now text.now) }
+    requires fits { length (spelling (nested around.now text.now)) < 2 ^ 63 }
+    ensures { result ≡ length (spelling (nested around.now text.now)) }
+{
+    let [outer, rest @ ..] = around else {
+        return text_len(text);
+    };
+    around_len(outer) + nested_len(rest, text)
+}
+
+/// How many bytes stand before the value.
+pub(crate) fn around_len(outer: &Around<'_>) -> usize
+    requires { HasNarrowKey outer.now }
+    ensures { result ≡ length (around_head outer.now) }
+{
+    match outer {
+        Around::Map(key) => head_len(Kind::Map, 1) + text_len(key),
+        Around::List => head_len(Kind::List, 1),
     }
 }

@@ -11,7 +11,7 @@ ghost use Rattle.mmdb_data.specs.Packing.{nothing_packed, in_full, all_in_full};
 
 use crate::member::Member;
 use crate::packing::append_top;
-use crate::packing_members::append_map;
+use crate::packing_members::{append_map, spell_map};
 use crate::section::Section;
 use crate::value::Value;
 use geo_addr::Memory;
@@ -26,6 +26,8 @@ use std::marker::Model;
 #[derive(Debug, Drop)]
 pub struct Packer {
     section: Section,
+    /// The map that is put. It is reused, so that most maps take no memory for it.
+    spelled: Vec<u8>,
 }
 
 impl Model for Packer {
@@ -44,6 +46,7 @@ impl Packer {
     {
         Packer {
             section: Section::new(alloc),
+            spelled: Vec::new(alloc),
         }
     }
 
@@ -84,8 +87,10 @@ impl Packer {
         ensures at { IfOk result (λ at. at ≡ length self.old.bytes) }
         ensures refused { OnErr result (self.new ≡ self.old) }
     {
+        self.spelled.clear();
+        spell_map(&mut self.spelled, members)?;
         let (len, notes) = (self.section.bytes.len(), self.section.full.len());
-        match append_map(&mut self.section, members) {
+        match append_map(&mut self.section, &self.spelled, members) {
             Ok(()) => Ok(len as u64),
             Err(refused) => {
                 self.section.bytes.truncate(len);

@@ -1,6 +1,6 @@
 //! Values with their parts, each part a pointer where one is shorter.
 
-ghost use Rattle.std.specs.Prelude.{◌≡◌, OnOk};
+ghost use Rattle.std.specs.Prelude.{◌≡◌, OnOk, IfOk};
 ghost use Rattle.mmdb_data.specs.ValueTree.{IsNarrow, MembersAreNarrow, ItemsAreNarrow, IsTyped};
 ghost use Rattle.mmdb_data.specs.Spelling.{spelling};
 ghost use Rattle.mmdb_data.specs.View.{value_tree, items_view, members_view};
@@ -12,7 +12,9 @@ ghost use Rattle.mmdb_data.specs.Section.{packed_of};
 use crate::kind::Kind;
 use crate::section::{Found, Section, shorter};
 use crate::value::Value;
+use crate::writing::put_value;
 use geo_addr::{Memory, Text};
+use std::alloc::Global;
 
 /// The value in full, whether it stands already or not.
 pub(crate) fn append_top(section: &mut Section, value: &Value) -> Result<(), Memory>
@@ -22,9 +24,19 @@ pub(crate) fn append_top(section: &mut Section, value: &Value) -> Result<(), Mem
     ensures kept { IsKept (packed_of section.old) (packed_of section.new) }
     ensures typed { OnOk result (IsTyped (value_tree value.now)) }
 {
-    section.spell(value)?;
-    let found = section.found();
-    append_full(section, value, found)
+    let spelled = spelling_of(section.alloc, value)?;
+    let found = section.found(&spelled);
+    append_full(section, &spelled, value, found)
+}
+
+fn spelling_of(alloc: Global, value: &Value) -> Result<Vec<u8>, Memory>
+    requires { IsNarrow (value_tree value.now) }
+    ensures spelled { IfOk result (λ made. made.items ≡ spelling (value_tree value.now)) }
+    ensures typed { OnOk result (IsTyped (value_tree value.now)) }
+{
+    let mut made = Vec::new(alloc);
+    put_value(&mut made, value)?;
+    Ok(made)
 }
 
 #[cycle(packing)]
@@ -35,38 +47,41 @@ fn append_part(section: &mut Section, value: &Value) -> Result<(), Memory>
         (packed_of section.old)) }
     ensures kept { IsKept (packed_of section.old) (packed_of section.new) }
 {
-    section.spell(value)?;
-    let found = section.found();
-    match shorter(found.at, &section.piece) {
+    let spelled = spelling_of(section.alloc, value)?;
+    let found = section.found(&spelled);
+    match shorter(found.at, &spelled) {
         Some(to) => section.append_pointer(to),
-        None => append_full(section, value, found),
+        None => append_full(section, &spelled, value, found),
     }
 }
 
 #[cycle(packing)]
-fn append_full(section: &mut Section, value: &Value, found: Found) -> Result<(), Memory>
+fn append_full(
+    section: &mut Section,
+    spelled: &[u8],
+    value: &Value,
+    found: Found,
+) -> Result<(), Memory>
     requires narrow { IsNarrow (value_tree value.now) }
-    requires spelled { section.old.piece.items ≡ spelling (value_tree value.now) }
-    requires known { found.at
-        ≡ offset_of (spelling (value_tree value.now)) (packed_of section.old) }
-    requires mixed { found.mixed ≡ mixed (spelling (value_tree value.now)) }
+    requires spelled { spelled.now ≡ spelling (value_tree value.now) }
+    requires known { found.at ≡ offset_of spelled.now (packed_of section.old) }
+    requires mixed { found.mixed ≡ mixed spelled.now }
     ensures appended { OnOk result
         (packed_of section.new ≡ in_full (value_tree value.now) (packed_of section.old)) }
     ensures kept { IsKept (packed_of section.old) (packed_of section.new) }
 {
-    if found.at.is_some() {
-        return append_content(section, value);
-    }
     let at = section.bytes.len() as u64;
-    let spelled = section.piece.clone()?;
-    append_content(section, value)?;
-    section.note(&spelled, found.mixed, at)
+    append_content(section, spelled, value)?;
+    if found.at.is_some() {
+        return Ok(());
+    }
+    section.note(spelled, found.mixed, at)
 }
 
 #[cycle(packing)]
-fn append_content(section: &mut Section, value: &Value) -> Result<(), Memory>
+fn append_content(section: &mut Section, spelled: &[u8], value: &Value) -> Result<(), Memory>
     requires narrow { IsNarrow (value_tree value.now) }
-    requires spelled { section.old.piece.items ≡ spelling (value_tree value.now) }
+    requires spelled { spelled.now ≡ spelling (value_tree value.now) }
     ensures appended { OnOk result
         (packed_of section.new ≡ content_in (value_tree value.now) (packed_of section.old)) }
     ensures kept { IsKept (packed_of section.old) (packed_of section.new) }
@@ -81,7 +96,7 @@ fn append_content(section: &mut Section, value: &Value) -> Result<(), Memory>
             append_items(section, values)
         }
         // A value without parts.
-        _ => section.append(),
+        _ => section.append(spelled),
     }
 }
 

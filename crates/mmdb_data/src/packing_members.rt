@@ -10,34 +10,13 @@ ghost use Rattle.mmdb_data.specs.FullValues.{mixed};
 ghost use Rattle.mmdb_data.specs.Section.{packed_of};
 
 use crate::kind::Kind;
-use crate::member::{Around, Member, put_nested};
+use crate::member::{Around, Member, around_len, put_nested, value_in};
 use crate::section::{Found, Section, shorter};
-use crate::writing::{put_head, put_sized};
+use crate::writing::{head_len, put_head, put_sized};
 use geo_addr::Memory;
 
-/// The map in full, whether it stands already or not.
-pub(crate) fn append_map(section: &mut Section, members: &[Member<'_>]) -> Result<(), Memory>
-    requires { IsNarrow (map_tree (member_list members.now)) }
-    ensures appended { OnOk result (packed_of section.new
-        ≡ in_full (map_tree (member_list members.now)) (packed_of section.old)) }
-    ensures kept { IsKept (packed_of section.old) (packed_of section.new) }
-{
-    spell_map(section, members)?;
-    let found = section.found();
-    append_map_full(section, members, found)
-}
-
-fn spell_map(section: &mut Section, members: &[Member<'_>]) -> Result<(), Memory>
-    requires { IsNarrow (map_tree (member_list members.now)) }
-    ensures spelled { OnOk result
-        (section.new.piece.items ≡ spelling (map_tree (member_list members.now))) }
-    ensures same { packed_of section.new ≡ packed_of section.old }
-{
-    section.piece.clear();
-    put_map(&mut section.piece, members)
-}
-
-fn put_map(out: &mut Vec<u8>, members: &[Member<'_>]) -> Result<(), Memory>
+/// Appends the spelling of the map.
+pub(crate) fn spell_map(out: &mut Vec<u8>, members: &[Member<'_>]) -> Result<(), Memory>
     requires { IsNarrow (map_tree (member_list members.now)) }
     ensures { OnOk result (out.new.items
         ≡ out.old.items ++ spelling (map_tree (member_list members.now))) }
@@ -58,111 +37,127 @@ fn put_member_list(out: &mut Vec<u8>, members: &[Member<'_>]) -> Result<(), Memo
     Ok(())
 }
 
-fn append_map_full(
+/// The map in full, whether it stands already or not, by its spelling.
+pub(crate) fn append_map(
     section: &mut Section,
+    spelled: &[u8],
     members: &[Member<'_>],
-    found: Found,
 ) -> Result<(), Memory>
     requires narrow { IsNarrow (map_tree (member_list members.now)) }
-    requires spelled { section.old.piece.items ≡ spelling (map_tree (member_list members.now)) }
-    requires known { found.at
-        ≡ offset_of (spelling (map_tree (member_list members.now))) (packed_of section.old) }
-    requires mixed { found.mixed ≡ mixed (spelling (map_tree (member_list members.now))) }
+    requires spelled { spelled.now ≡ spelling (map_tree (member_list members.now)) }
     ensures appended { OnOk result (packed_of section.new
         ≡ in_full (map_tree (member_list members.now)) (packed_of section.old)) }
     ensures kept { IsKept (packed_of section.old) (packed_of section.new) }
 {
-    if found.at.is_some() {
-        return append_map_content(section, members);
-    }
+    let found = section.found(spelled);
     let at = section.bytes.len() as u64;
-    let spelled = section.piece.clone()?;
-    append_map_content(section, members)?;
-    section.note(&spelled, found.mixed, at)
+    append_map_content(section, spelled, members)?;
+    if found.at.is_some() {
+        return Ok(());
+    }
+    section.note(spelled, found.mixed, at)
 }
 
-fn append_map_content(section: &mut Section, members: &[Member<'_>]) -> Result<(), Memory>
-    requires { IsNarrow (map_tree (member_list members.now)) }
+fn append_map_content(
+    section: &mut Section,
+    spelled: &[u8],
+    members: &[Member<'_>],
+) -> Result<(), Memory>
+    requires narrow { IsNarrow (map_tree (member_list members.now)) }
+    requires spelled { spelled.now ≡ spelling (map_tree (member_list members.now)) }
     ensures appended { OnOk result (packed_of section.new
         ≡ content_in (map_tree (member_list members.now)) (packed_of section.old)) }
     ensures kept { IsKept (packed_of section.old) (packed_of section.new) }
 {
     section.append_head(Kind::Map, members.len())?;
-    append_member_list(section, members)
+    let (_, behind) = spelled.split_at(head_len(Kind::Map, members.len()));
+    append_member_list(section, behind, members)
 }
 
-fn append_member_list(section: &mut Section, members: &[Member<'_>]) -> Result<(), Memory>
-    requires { MembersAreNarrow (member_list members.now) }
+fn append_member_list(
+    section: &mut Section,
+    spelled: &[u8],
+    members: &[Member<'_>],
+) -> Result<(), Memory>
+    requires narrow { MembersAreNarrow (member_list members.now) }
+    requires spelled { spelled.now ≡ members_spelling (member_list members.now) }
     ensures appended { OnOk result (packed_of section.new
         ≡ members_in (member_list members.now) (packed_of section.old)) }
     ensures kept { IsKept (packed_of section.old) (packed_of section.new) }
 {
+    let mut rest = spelled;
     for member in members {
+        let (value, behind) = value_in(rest, member);
         section.append_key(member.key)?;
-        append_nested(section, member.around, member.text)?;
+        append_nested(section, value, member.around, member.text)?;
+        rest = behind;
     }
     Ok(())
 }
 
 #[cycle(nesting)]
-fn append_nested(section: &mut Section, around: &[Around<'_>], text: &str) -> Result<(), Memory>
-    requires { IsNarrow (nested around.now text.now) }
+fn append_nested(
+    section: &mut Section,
+    spelled: &[u8],
+    around: &[Around<'_>],
+    text: &str,
+) -> Result<(), Memory>
+    requires narrow { IsNarrow (nested around.now text.now) }
+    requires spelled { spelled.now ≡ spelling (nested around.now text.now) }
     ensures appended { OnOk result (packed_of section.new
         ≡ part_by (spelling (nested around.now text.now)) (content_in (nested around.now text.now))
         (packed_of section.old)) }
     ensures kept { IsKept (packed_of section.old) (packed_of section.new) }
 {
-    section.piece.clear();
-    put_nested(&mut section.piece, around, text)?;
-    let found = section.found();
-    match shorter(found.at, &section.piece) {
+    let found = section.found(spelled);
+    match shorter(found.at, spelled) {
         Some(to) => section.append_pointer(to),
-        None => append_nested_full(section, around, text, found),
+        None => append_nested_full(section, spelled, around, text, found),
     }
 }
 
 #[cycle(nesting)]
 fn append_nested_full(
     section: &mut Section,
+    spelled: &[u8],
     around: &[Around<'_>],
     text: &str,
     found: Found,
 ) -> Result<(), Memory>
     requires narrow { IsNarrow (nested around.now text.now) }
-    requires spelled { section.old.piece.items ≡ spelling (nested around.now text.now) }
-    requires known { found.at
-        ≡ offset_of (spelling (nested around.now text.now)) (packed_of section.old) }
-    requires mixed { found.mixed ≡ mixed (spelling (nested around.now text.now)) }
+    requires spelled { spelled.now ≡ spelling (nested around.now text.now) }
+    requires known { found.at ≡ offset_of spelled.now (packed_of section.old) }
+    requires mixed { found.mixed ≡ mixed spelled.now }
     ensures appended { OnOk result (packed_of section.new
         ≡ in_full (nested around.now text.now) (packed_of section.old)) }
     ensures kept { IsKept (packed_of section.old) (packed_of section.new) }
 {
-    if found.at.is_some() {
-        return append_nested_content(section, around, text);
-    }
     let at = section.bytes.len() as u64;
-    let spelled = section.piece.clone()?;
-    append_nested_content(section, around, text)?;
-    section.note(&spelled, found.mixed, at)
+    append_nested_content(section, spelled, around, text)?;
+    if found.at.is_some() {
+        return Ok(());
+    }
+    section.note(spelled, found.mixed, at)
 }
 
 #[cycle(nesting)]
 fn append_nested_content(
     section: &mut Section,
+    spelled: &[u8],
     around: &[Around<'_>],
     text: &str,
 ) -> Result<(), Memory>
     requires narrow { IsNarrow (nested around.now text.now) }
-    requires spelled { section.old.piece.items ≡ spelling (nested around.now text.now) }
+    requires spelled { spelled.now ≡ spelling (nested around.now text.now) }
     ensures appended { OnOk result (packed_of section.new
         ≡ content_in (nested around.now text.now) (packed_of section.old)) }
     ensures kept { IsKept (packed_of section.old) (packed_of section.new) }
 {
     let [outer, rest @ ..] = around else {
-        return section.append();
+        return section.append(spelled);
     };
     append_around(section, outer)?;
-    append_nested(section, rest, text)
+    append_nested(section, &spelled[around_len(outer)..], rest, text)
 }
 
 /// What stands before the value, its key a pointer where one is shorter.

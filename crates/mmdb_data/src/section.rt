@@ -2,10 +2,9 @@
 
 ghost use Rattle.std.specs.Prelude.{◌≡◌, ◌≤◌, ◌<◌, ◌^◌, ◌++◌, None, OnOk, OnErr, length};
 ghost use Rattle.std.specs.Prelude.{option_map};
-ghost use Rattle.mmdb_data.specs.ValueTree.{most, IsNarrow, IsTyped};
+ghost use Rattle.mmdb_data.specs.ValueTree.{most};
 ghost use Rattle.mmdb_data.specs.Kinds.{kind_code};
-ghost use Rattle.mmdb_data.specs.Spelling.{head, sized, spelling};
-ghost use Rattle.mmdb_data.specs.View.{value_tree};
+ghost use Rattle.mmdb_data.specs.Spelling.{head, sized};
 ghost use Rattle.mmdb_data.specs.Packing.{pointer, nothing_packed, offset_of, with_bytes, noted};
 ghost use Rattle.mmdb_data.specs.Packing.{full_by, shorter_pointer, part_by, key_part, IsKept};
 ghost use Rattle.mmdb_data.specs.FullValues.{mixed};
@@ -14,19 +13,19 @@ ghost use Rattle.mmdb_data.specs.Section.{packed_of};
 use crate::full_values::mixed;
 use crate::kind::Kind;
 use crate::noted_values::NotedValues;
-use crate::value::Value;
-use crate::writing::{put_head, put_sized, put_value};
+use crate::writing::{put_head, put_sized};
 use geo_addr::Memory;
 use std::alloc::Global;
 
 /// A data section while it grows.
 #[derive(Debug, Drop)]
 pub(crate) struct Section {
+    pub(crate) alloc: Global,
     pub(crate) bytes: Vec<u8>,
     /// Where each value stands in full, by its spelling, in the order in which they ended.
     pub(crate) full: NotedValues,
-    /// What is looked up or appended next. It is reused, so that looking up takes no memory.
-    pub(crate) piece: Vec<u8>,
+    /// The key that is looked up. It is reused, so that looking up takes no memory.
+    key: Vec<u8>,
 }
 
 /// Where a spelling stands in full, if it does, and what it is mixed to.
@@ -41,49 +40,40 @@ impl Section {
         ensures { packed_of result ≡ nothing_packed }
     {
         Section {
+            alloc,
             bytes: Vec::new(alloc),
             full: NotedValues::new(alloc),
-            piece: Vec::new(alloc),
+            key: Vec::new(alloc),
         }
-    }
-
-    pub(crate) fn spell(&mut self, value: &Value) -> Result<(), Memory>
-        requires { IsNarrow (value_tree value.now) }
-        ensures spelled { OnOk result (self.new.piece.items ≡ spelling (value_tree value.now)) }
-        ensures typed { OnOk result (IsTyped (value_tree value.now)) }
-        ensures same { packed_of self.new ≡ packed_of self.old }
-    {
-        self.piece.clear();
-        put_value(&mut self.piece, value)
     }
 
     fn spell_key(&mut self, key: &str) -> Result<(), Memory>
         requires { length key.now ≤ most }
-        ensures spelled { OnOk result (self.new.piece.items ≡ sized 2 key.now) }
+        ensures spelled { OnOk result (self.new.key.items ≡ sized 2 key.now) }
         ensures same { packed_of self.new ≡ packed_of self.old }
     {
-        self.piece.clear();
-        put_sized(&mut self.piece, Kind::Text, key.as_bytes())
+        self.key.clear();
+        put_sized(&mut self.key, Kind::Text, key.as_bytes())
     }
 
-    /// Where the value that the piece spells stands in full.
-    pub(crate) fn found(&self) -> Found
-        ensures at { result.at ≡ offset_of self.now.piece.items (packed_of self.now) }
-        ensures mixed { result.mixed ≡ mixed self.now.piece.items }
+    /// Where the value of this spelling stands in full.
+    pub(crate) fn found(&self, spelled: &[u8]) -> Found
+        ensures at { result.at ≡ offset_of spelled.now (packed_of self.now) }
+        ensures mixed { result.mixed ≡ mixed spelled.now }
     {
-        let mixed = mixed(&self.piece);
+        let mixed = mixed(spelled);
         Found {
-            at: self.full.get(&self.piece, mixed),
+            at: self.full.get(spelled, mixed),
             mixed,
         }
     }
 
-    pub(crate) fn append(&mut self) -> Result<(), Memory>
+    pub(crate) fn append(&mut self, spelled: &[u8]) -> Result<(), Memory>
         ensures appended { OnOk result
-            (packed_of self.new ≡ with_bytes self.old.piece.items (packed_of self.old)) }
+            (packed_of self.new ≡ with_bytes spelled.now (packed_of self.old)) }
         ensures refused { OnErr result (packed_of self.new ≡ packed_of self.old) }
     {
-        self.bytes.extend_from_slice(&self.piece)?;
+        self.bytes.extend_from_slice(spelled)?;
         Ok(())
     }
 
@@ -91,11 +81,9 @@ impl Section {
         requires { size ≤ most }
         ensures appended { OnOk result
             (packed_of self.new ≡ with_bytes (head (kind_code kind) size) (packed_of self.old)) }
-        ensures refused { OnErr result (packed_of self.new ≡ packed_of self.old) }
+        ensures kept { IsKept (packed_of self.old) (packed_of self.new) }
     {
-        self.piece.clear();
-        put_head(&mut self.piece, kind, size)?;
-        self.append()
+        put_head(&mut self.bytes, kind, size)
     }
 
     pub(crate) fn append_pointer(&mut self, to: u32) -> Result<(), Memory>
@@ -118,20 +106,20 @@ impl Section {
         Ok(())
     }
 
-    /// The key that the piece spells, in full.
+    /// The key that is looked up, in full.
     fn append_key_full(&mut self, found: Found) -> Result<(), Memory>
-        requires known { found.at ≡ offset_of self.old.piece.items (packed_of self.old) }
-        requires mixed { found.mixed ≡ mixed self.old.piece.items }
+        requires known { found.at ≡ offset_of self.old.key.items (packed_of self.old) }
+        requires mixed { found.mixed ≡ mixed self.old.key.items }
         ensures appended { OnOk result (packed_of self.new
-            ≡ full_by self.old.piece.items (with_bytes self.old.piece.items) (packed_of self.old)) }
+            ≡ full_by self.old.key.items (with_bytes self.old.key.items) (packed_of self.old)) }
         ensures kept { IsKept (packed_of self.old) (packed_of self.new) }
     {
         let at = self.bytes.len() as u64;
-        self.bytes.extend_from_slice(&self.piece)?;
+        self.bytes.extend_from_slice(&self.key)?;
         if found.at.is_some() {
             return Ok(());
         }
-        self.full.push(&self.piece, found.mixed, at)
+        self.full.push(&self.key, found.mixed, at)
     }
 
     pub(crate) fn append_key(&mut self, key: &str) -> Result<(), Memory>
@@ -144,8 +132,8 @@ impl Section {
             return self.append_pointer(to);
         }
         self.spell_key(key)?;
-        let found = self.found();
-        match shorter(found.at, &self.piece) {
+        let found = self.found(&self.key);
+        match shorter(found.at, &self.key) {
             Some(to) => {
                 self.full.learn(key, to)?;
                 self.append_pointer(to)

@@ -1,6 +1,7 @@
 //! Writing a value: the fewest size bytes, the fewest bytes of a number, no pointers.
 
-ghost use Rattle.std.specs.Prelude.{◌≡◌, ◌≤◌, ◌<◌, ◌^◌, ◌++◌, ℕ, List, length, OnOk, OnErr, Ok};
+ghost use Rattle.std.specs.Prelude.{◌≡◌, ◌+◌, ◌≤◌, ◌<◌, ◌^◌, ◌++◌, ℕ, List, length, OnOk, OnErr};
+ghost use Rattle.std.specs.Prelude.{Ok};
 ghost use Rattle.std.specs.Int.{bytes_high_first};
 ghost use Rattle.mmdb_data.specs.ValueTree.{most, CanBeSpelled, IsWithinLimits, IsNarrow};
 ghost use Rattle.mmdb_data.specs.ValueTree.{MembersAreNarrow, ItemsAreNarrow, IsTyped};
@@ -10,6 +11,7 @@ ghost use Rattle.mmdb_data.specs.Spelling.{size_code, size_bytes, kind_bytes, he
 ghost use Rattle.mmdb_data.specs.Spelling.{without_zeros as bytes_without_zeros, spelling};
 ghost use Rattle.mmdb_data.specs.Spelling.{members_spelling, items_spelling};
 ghost use Rattle.mmdb_data.specs.Kinds.{kind_code};
+ghost use Rattle.mmdb_data.specs.Packing.{Begins};
 ghost use Rattle.mmdb_data.specs.Reading.{reads};
 ghost use Rattle.mmdb_data.specs.View.{value_tree, items_view, members_view};
 
@@ -158,7 +160,8 @@ pub(crate) fn put_sized(out: &mut Vec<u8>, kind: Kind, content: &[u8]) -> Result
 #[inline(always)]
 pub(crate) fn put_head(out: &mut Vec<u8>, kind: Kind, size: usize) -> Result<(), Memory>
     requires { size ≤ most }
-    ensures { OnOk result (out.new.items ≡ out.old.items ++ head (kind_code kind) size) }
+    ensures put { OnOk result (out.new.items ≡ out.old.items ++ head (kind_code kind) size) }
+    ensures kept { Begins out.old.items out.new.items }
 {
     put_kind(out, kind, code_of(size))?;
     put_size(out, size)
@@ -168,7 +171,9 @@ pub(crate) fn put_head(out: &mut Vec<u8>, kind: Kind, size: usize) -> Result<(),
 #[inline(always)]
 fn put_kind(out: &mut Vec<u8>, kind: Kind, size_code: u8) -> Result<(), Memory>
     requires { size_code < 32 }
-    ensures { OnOk result (out.new.items ≡ out.old.items ++ kind_bytes (kind_code kind) size_code) }
+    ensures put { OnOk result
+        (out.new.items ≡ out.old.items ++ kind_bytes (kind_code kind) size_code) }
+    ensures refused { OnErr result (out.new.items ≡ out.old.items) }
 {
     let code = kind.code();
     if code < 8 {
@@ -200,7 +205,8 @@ fn code_of(size: usize) -> u8
 #[inline(always)]
 fn put_size(out: &mut Vec<u8>, size: usize) -> Result<(), Memory>
     requires { size ≤ most }
-    ensures { OnOk result (out.new.items ≡ out.old.items ++ size_bytes size) }
+    ensures put { OnOk result (out.new.items ≡ out.old.items ++ size_bytes size) }
+    ensures refused { OnErr result (out.new.items ≡ out.old.items) }
 {
     if size < 29 {
         Ok(())
@@ -218,10 +224,50 @@ fn put_number(out: &mut Vec<u8>, n: usize, len: usize) -> Result<(), Memory>
     requires some { 0 < len }
     requires few { len ≤ 3 }
     requires fits { n < 256 ^ len }
-    ensures { OnOk result (out.new.items ≡ out.old.items ++ bytes_high_first len n) }
+    ensures put { OnOk result (out.new.items ≡ out.old.items ++ bytes_high_first len n) }
+    ensures refused { OnErr result (out.new.items ≡ out.old.items) }
 {
     let mut bytes = [0; 3];
     BigEndian::write_uint(&mut bytes, n as u64, len);
     out.extend_from_slice(&bytes[..len])?;
     Ok(())
+}
+
+/// How many bytes a text takes with its head.
+#[tactic(auto, unfolding(crate::specs::Spelling::sized))]
+pub(crate) fn text_len(text: &str) -> usize
+    requires { length text.now ≤ most }
+    ensures value { result ≡ length (sized 2 text.now) }
+    ensures few { result ≤ length text.now + 5 }
+{
+    head_len(Kind::Text, text.len()) + text.len()
+}
+
+/// How many bytes the head takes.
+#[tactic(auto, unfolding(crate::specs::Spelling::head, crate::specs::Spelling::kind_bytes))]
+pub(crate) fn head_len(kind: Kind, size: usize) -> usize
+    ensures value { result ≡ length (head (kind_code kind) size) }
+    ensures few { result ≤ 5 }
+{
+    if kind.code() < 8 {
+        1 + size_len(size)
+    } else {
+        2 + size_len(size)
+    }
+}
+
+#[tactic(auto, unfolding(crate::specs::Spelling::size_bytes))]
+fn size_len(size: usize) -> usize
+    ensures value { result ≡ length (size_bytes size) }
+    ensures few { result ≤ 3 }
+{
+    if size < 29 {
+        0
+    } else if size < 285 {
+        1
+    } else if size < 65_821 {
+        2
+    } else {
+        3
+    }
 }

@@ -1,9 +1,6 @@
 use Rattle.std.proofs.Common.{sym, ap, ◌∙◌, subst, arith}
-use Rattle.std.specs.Prelude.{is_some}
-use Rattle.std.specs.List.{each_same}
 use Rattle.mmdb_data.specs.ValueTree.{IsNarrow}
 use Rattle.mmdb_data.specs.View.{value_tree, items_view, members_view}
-use Rattle.mmdb_data.specs.FullValues.{mixed}
 use Rattle.mmdb_data.specs.Section.{packed_of}
 use Rattle.mmdb_data.proofs.Views.{tree-Map, tree-List, leaf_tree, len-members_view}
 use Rattle.mmdb_data.proofs.Views.{len-items_view}
@@ -49,49 +46,38 @@ append_content-returns-in_ok-append_head-in-List-clause-appended t c =
 pub append_full-returns-then-is_some-clause-appended
     : goal.append_full-returns-then-is_some-clause-appended
 append_full-returns-then-is_some-clause-appended t c =
-    known_full c.append_content.result (value_tree c.args.value.now) _ _
-    (ap is_some (sym c.requires.known) ∙ sym c.is_some.ensures
-    ∙ c.if-is_some.true) c.append_content.ensures.appended
+    known_full (value_tree c.args.value.now) (packed_of c.args.section.now)
+    (packed_of c.append_content.new.section) c.args.spelled.now c.args.found.at
+    c.requires.spelled c.requires.known c.in_ok-append_content.ensures.appended
+    (sym c.is_some.ensures ∙ c.if-is_some.true)
 
 pub append_full-note-requires-clause-new : goal.append_full-note-requires-clause-new
 append_full-note-requires-clause-new t c =
     still_unknown (value_tree c.args.value.now) (packed_of c.args.section.now)
-    (packed_of c.append_content-2.new.section) c.deref.result.now
-    (c.deref.ensures.value ∙ each_same c.args.section.now.piece.items c.in_ok-spelled.spelled.items
-    c.in_ok-spelled.ensures.cases.0 ∙ c.requires.spelled)
-    c.in_ok-append_content.ensures.appended
-    (ap is_some (sym c.requires.known) ∙ sym c.is_some.ensures
-    ∙ c.if-is_some.false)
-
-pub append_full-note-requires-clause-first : goal.append_full-note-requires-clause-first
-append_full-note-requires-clause-first t c =
-    c.requires.mixed ∙ ap mixed (sym (c.deref.ensures.value
-    ∙ each_same c.args.section.now.piece.items c.in_ok-spelled.spelled.items
-    c.in_ok-spelled.ensures.cases.0 ∙ c.requires.spelled))
+    (packed_of c.append_content.new.section) c.args.spelled.now c.args.found.at
+    c.requires.spelled c.requires.known c.in_ok-append_content.ensures.appended
+    (sym c.is_some.ensures ∙ c.if-is_some.false)
 
 pub append_full-returns-clause-appended : goal.append_full-returns-clause-appended
 append_full-returns-clause-appended t c =
     new_full c.note.result (value_tree c.args.value.now) (packed_of c.note.new.self)
-    (packed_of c.append_content-2.new.section)
-    (packed_of c.args.section.now) c.deref.result.now c.len-at.result
-    (c.deref.ensures.value ∙ each_same c.args.section.now.piece.items c.in_ok-spelled.spelled.items
-    c.in_ok-spelled.ensures.cases.0 ∙ c.requires.spelled)
-    (c.len-at.ensures ∙ c.args.section.now.bytes.ok.0)
-    c.in_ok-append_content.ensures.appended
+    (packed_of c.append_content.new.section) (packed_of c.args.section.now)
+    c.args.spelled.now c.len-at.result c.requires.spelled
+    (c.len-at.ensures ∙ c.args.section.now.bytes.ok.0) c.in_ok-append_content.ensures.appended
     c.note.ensures.noted
 
 pub append_full-returns-clause-kept : goal.append_full-returns-clause-kept
 append_full-returns-clause-kept t c =
     kept_either c.note.result (packed_of c.args.section.now)
-    (packed_of c.append_content-2.new.section)
-    (packed_of c.note.new.self) c.deref.result.now c.len-at.result
-    c.in_ok-append_content.ensures.kept c.note.ensures.noted c.note.ensures.refused
+    (packed_of c.append_content.new.section) (packed_of c.note.new.self)
+    c.args.spelled.now c.len-at.result c.in_ok-append_content.ensures.kept
+    c.note.ensures.noted c.note.ensures.refused
 
 pub append_content-returns-in_default-clause-appended
     : goal.append_content-returns-in_default-clause-appended
 append_content-returns-in_default-clause-appended t c =
     leaf_packed c.append.result (value_tree c.args.value.now) (packed_of c.append.new.self)
-    (packed_of c.args.section.now) c.args.section.now.piece.items
+    (packed_of c.args.section.now) c.args.spelled.now
     (leaf_tree c.args.value.now c.in_default.not-Map c.in_default.not-List) c.requires.spelled
     c.append.ensures.appended
 
@@ -99,4 +85,4 @@ pub append_content-returns-in_default-clause-kept
     : goal.append_content-returns-in_default-clause-kept
 append_content-returns-in_default-clause-kept t c =
     appended_kept c.append.result (packed_of c.args.section.now) (packed_of c.append.new.self)
-    c.args.section.now.piece.items c.append.ensures.appended c.append.ensures.refused
+    c.args.spelled.now c.append.ensures.appended c.append.ensures.refused

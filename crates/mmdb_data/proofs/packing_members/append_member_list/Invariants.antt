@@ -1,5 +1,6 @@
 use Rattle.std.proofs.Common.{◌≡◌, drop}
 use Rattle.mmdb_data.specs.ValueTree.{MembersAreNarrow}
+use Rattle.mmdb_data.specs.Spelling.{members_spelling}
 use Rattle.mmdb_data.specs.Packing.{members_in, IsKept}
 use Rattle.mmdb_data.specs.Section.{packed_of}
 use Rattle.mmdb_data.specs.Member.{member_list}
@@ -10,5 +11,6 @@ invariant-loop-member l = record {
   appended : members_in (member_list (drop l.member-index l.members)) (packed_of l.section)
       ≡ members_in (member_list l.members) (packed_of l.initial.section);
   narrow : MembersAreNarrow (member_list (drop l.member-index l.members));
+  spelled : l.rest ≡ members_spelling (member_list (drop l.member-index l.members));
   kept : IsKept (packed_of l.initial.section) (packed_of l.section);
 }

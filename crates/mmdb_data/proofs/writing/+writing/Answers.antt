@@ -25,7 +25,7 @@ put_value-returns-in_ok-put_head-in-Map-clause-spelled t c =
     rw (c.in-Map.is, tree-Map pairs)
     (map_written c.put_members.result _ c.put_head.new.out.items _ c.len.result
     (members_view pairs.items) (c.len.ensures ∙ pairs.ok.0 ∙ sym (len-members_view pairs.items))
-    c.in_ok-put_head-in-Map.ensures
+    c.in_ok-put_head-in-Map.ensures.put
     (rw c.deref.ensures.value at c.put_members.ensures.spelled))
 
 pub put_value-returns-in_ok-put_head-in-List-clause-spelled
@@ -35,5 +35,5 @@ put_value-returns-in_ok-put_head-in-List-clause-spelled t c =
     rw (c.in-List.is, tree-List values)
     (list_written c.put_items.result _ c.put_head-in-List.new.out.items _ c.len-in-List.result
     (items_view values.items) (c.len-in-List.ensures ∙ values.ok.0
-    ∙ sym (len-items_view values.items)) c.in_ok-put_head-in-List.ensures
+    ∙ sym (len-items_view values.items)) c.in_ok-put_head-in-List.ensures.put
     (rw c.deref-in-List.ensures.value at c.put_items.ensures.spelled))
