@@ -2,6 +2,7 @@ pub mod CompactLemmas
 pub mod Elements
 pub mod LaidLemmas
 pub mod ListedLemmas
+pub mod MarksLemmas
 pub mod NumberSetLemmas
 pub mod Positions
 pub mod RenameLemmas

@@ -1,11 +1,12 @@
 -- Lemmas on a set of things with numbers that finds each of them by its number.
 use Rattle.std.proofs.Common.{◌≡◌, ◌≢◌, ◌⊎◌, inl, inr, ℕ, zero, suc, ◌+◌, ◌-◌, ◌^◌, ◌<◌, ◌≤◌}
 use Rattle.std.proofs.Common.{Bool, true, false, List, [], ◌∷◌, ◌++◌, length, get_or, set}
-use Rattle.std.proofs.Common.{replicate, slice_get, Option, Some, None, Contains}
+use Rattle.std.proofs.Common.{replicate, slice_get, Option, Some, None, Contains, nat_lt}
+use Rattle.std.proofs.Common.{get_or-set_same, get_or-set_other}
 use Rattle.std.proofs.Common.{refl, sym, ◌∙◌, ap, subst, subst₂, arith, length-append}
 use Rattle.std.specs.List.{position, position_or_len}
 use Rattle.std.specs.Option.{SomeIff}
-use Rattle.std.proofs.lemmas.Bool.{cases_lt, lt-ltb, false_from_ne_true}
+use Rattle.std.proofs.lemmas.Bool.{cases_lt, lt-ltb, ltb-true, ltb-false, false_from_ne_true}
 use Rattle.std.proofs.lemmas.Option.{slice_get_read, slice_get-get_or}
 use Rattle.std.proofs.lemmas.Option.{slice_get_within, get_or_from_slice_get}
 use Rattle.std.proofs.lemmas.List.Quantifiers.{position-Some}
@@ -13,7 +14,9 @@ use Rattle.std.proofs.lemmas.List.Sums.{position_or_len_is}
 use Rattle.trie_core.specs.Laws.{IsEquality}
 use Rattle.trie_core.proofs.StoreLemmas.{slice_get-append, slice_get-push, slice_get_last}
 use Rattle.trie_core.proofs.StoreLemmas.{slice_get-Contains, Contains-slice_get}
-use Rattle.least_nodes.specs.NumberSet.{StandsFor, IsFoundBy}
+use Rattle.least_nodes.specs.Marks.{is_marked}
+use Rattle.least_nodes.specs.NumberSet.{StandsFor, IsFoundBy, AreMarked}
+use Rattle.least_nodes.proofs.MarksLemmas.{get_or-longer}
 
 -- ---- lists
 
@@ -30,6 +33,12 @@ set_other (x ∷ xs) zero zero y other = absurd (other refl)
 set_other (x ∷ xs) zero (suc m) y other = refl
 set_other (x ∷ xs) (suc n) zero y other = refl
 set_other (x ∷ xs) (suc n) (suc m) y other = set_other xs n m y (λ same. other (ap suc same))
+
+slice_get_some : (xs : List ℕ) (n : ℕ) → 0 < get_or xs n 0
+    → slice_get xs n ≡ Some (get_or xs n 0)
+slice_get_some [] n some = absurd (omega (arith, some))
+slice_get_some (x ∷ xs) zero some = refl
+slice_get_some (x ∷ xs) (suc n) some = slice_get_some xs n some
 
 -- a 0 stands for no position
 none_stands : (k : ℕ) → Some 0 ≡ Some (k + 1) → ⊥
@@ -190,6 +199,66 @@ module _ {X : Type 0} (number_of : X → ℕ) (same : X → X → Bool) (equalit
         no_position id (λ k at.
         let within = slice_get_within next (number_of id) (k + 1) at in
         omega (arith, within, past, number))
+
+  -- ---- what is marked
+
+  module _ (ids : List X) (next words : List ℕ) (found : IsFoundBy number_of ids next)
+      (marked : AreMarked next words) where
+    -- more zeros stand for nothing marked
+    pub AreMarked-zeros : (longer : List ℕ) (m : ℕ) → longer ≡ next ++ replicate m 0
+        → AreMarked longer words
+    AreMarked-zeros longer m is n =
+        marked n ∙ ap (nat_lt 0) (sym (ap (λ xs. get_or xs n 0) is ∙ get_or-longer next m n))
+
+    module _ (id : X) (n : ℕ) (number : n ≡ number_of id) where
+      -- a marked number stands for a position
+      pub Contains-marked : is_marked words n ≡ true → Contains ids id
+      Contains-marked is =
+          let v : ℕ = get_or next n 0 in
+          let some : 0 < v = ltb-true 0 v (sym (marked n) ∙ is) in
+          let stands : StandsFor next (number_of id) (v - 1) =
+          ap (slice_get next) (sym number) ∙ slice_get_some next n some
+          ∙ ap Some (omega (arith, some)) in
+          Contains-slice_get ids (v - 1) id (node_at ids next found id (v - 1) stands)
+
+      none_unmarked : is_marked words n ≡ false → get_or next n 0 ≡ 0
+      none_unmarked is =
+          omega (arith, ltb-false 0 (get_or next n 0) (sym (marked n) ∙ is))
+
+      -- and one that is not marked stands for none
+      pub absent_unmarked : is_marked words n ≡ false → Contains ids id → ⊥
+      absent_unmarked is =
+          absent ids next found id (λ k stands.
+          let read = get_or_from_slice_get next (number_of id) (k + 1) 0 stands in
+          let none = none_unmarked is in
+          omega (arith, read, none, ap (λ m. get_or next m 0) number))
+
+      -- so its node can go last
+      pub IsFoundBy-unmarked : n < length next → is_marked words n ≡ false → (put : ℕ)
+          → put ≡ length ids + 1 → put < 2 ^ 32
+          → IsFoundBy number_of (ids ++ id ∷ []) (set next n put)
+      IsFoundBy-unmarked within is put last few =
+          let free : slice_get next (number_of id) ≡ Some 0 =
+          ap (slice_get next) (sym number)
+          ∙ slice_get_read next (length next) n 0 refl within (sym (none_unmarked is)) in
+          subst₂ (λ i p. IsFoundBy number_of (ids ++ id ∷ []) (set next i p)) (sym number)
+          (sym last) (IsFoundBy-push ids next found id free (omega (arith, last, few)))
+
+    -- a number that is put and marked
+    pub AreMarked-put : (n put : ℕ) (later : List ℕ) → n < length next → 0 < put
+        → is_marked later n ≡ true
+        → ((m : ℕ) → m ≢ n → is_marked later m ≡ is_marked words m)
+        → AreMarked (set next n put) later
+    AreMarked-put n put later within some here others m =
+        elim (equal_or_not m n) [
+          | inl same ↦
+              ap (is_marked later) same ∙ here
+              ∙ sym (ap (λ i. nat_lt 0 (get_or (set next n put) i 0)) same
+              ∙ ap (nat_lt 0) (get_or-set_same next n put 0 within) ∙ lt-ltb 0 put some)
+          | inr other ↦
+              others m other ∙ marked m
+              ∙ ap (nat_lt 0) (sym (get_or-set_other next n m put 0 other))
+        ]
 
   -- ---- what is read at the number of a node
 

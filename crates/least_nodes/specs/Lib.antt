@@ -1,5 +1,6 @@
 pub mod Laws
 pub mod Layout
+pub mod Marks
 pub mod NodeList
 pub mod NumberSet
 pub mod Order

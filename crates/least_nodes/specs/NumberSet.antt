@@ -1,5 +1,7 @@
 -- How a set of things with numbers finds each of them by its number.
-use Rattle.std.specs.Prelude.{◌≡◌, ℕ, ◌+◌, ◌^◌, ◌<◌, List, length, slice_get, Some}
+use Rattle.std.specs.Prelude.{◌≡◌, ℕ, ◌+◌, ◌^◌, ◌<◌, List, length, slice_get, slice_index}
+use Rattle.std.specs.Prelude.{nat_lt, Some}
+use Rattle.least_nodes.specs.Marks.{is_marked}
 
 -- a number stands for a position: the list holds one more than that at the number
 abbrev pub StandsFor : List ℕ → ℕ → ℕ → Type 0
@@ -12,6 +14,10 @@ pub record IsFoundBy {X : Type 0} (number_of : X → ℕ) (xs : List X) (next : 
   pub each : (k : ℕ) (x : X) → slice_get xs k ≡ Some x → StandsFor next (number_of x) k
   pub only : (n k : ℕ) → StandsFor next n k
       → (x : X) × (slice_get xs k ≡ Some x) × (number_of x ≡ n)
+
+-- the marked numbers are those that stand for a position
+abbrev pub AreMarked : List ℕ → (words : List ℕ) → Type 0
+AreMarked next words = (n : ℕ) → is_marked words n ≡ nat_lt 0 (slice_index next n)
 
 -- the number of a place
 abbrev pub own_number : ℕ → ℕ

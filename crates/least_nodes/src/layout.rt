@@ -25,8 +25,8 @@ pub struct Layout {
 }
 
 /// The layout of the tree that the root means. A root that is a leaf has no nodes. The walk goes
-/// through the nodes under the root alone, and takes four bytes for each node of the store up to
-/// the root's, and for each number of a place up to the highest.
+/// through the nodes under the root alone, and takes four bytes and a bit for each node of the
+/// store up to the root's, and four bytes for each number of a place up to the highest.
 pub fn order(alloc: Global, store: &Store, root: Root) -> Result<Layout, Memory>
     requires { IsRootOf store.now root }
     ensures nodes { IfOk result

@@ -4,6 +4,7 @@
 
 pub mod laws;
 mod layout;
+mod marks;
 mod node_set;
 mod place_set;
 mod seen;

@@ -4,6 +4,7 @@ ghost use Rattle.std.specs.Prelude.{IfOk, OnOk, OnErr};
 ghost use Rattle.std.specs.List.{position};
 ghost use Rattle.least_nodes.specs.Order.{same_node, IsNoted};
 
+use crate::marks::Marks;
 use geo_addr::Memory;
 use std::alloc::Global;
 use std::marker::Model;
@@ -21,19 +22,22 @@ pub struct NodeSet {
     ids: Vec<NodeId>,
     // At each number one more than the position of its node, and 0 where the set has none of it.
     next: Vec<u32>,
+    // The numbers that the set has, where a look finds them in less memory.
+    marks: Marks,
 }
 
 impl Model for NodeSet {
     ghost use Rattle.std.specs.Prelude.{List};
     ghost use Rattle.trie_core.specs.declared.node.NodeId.{NodeId};
     ghost use Rattle.trie_core.specs.Store.{node_number};
-    ghost use Rattle.least_nodes.specs.NumberSet.{IsFoundBy};
+    ghost use Rattle.least_nodes.specs.NumberSet.{IsFoundBy, AreMarked};
 
     ghost Value = { List NodeId };
 
     ghost view = { λ s. s.ids.items };
 
-    ghost invariant = { λ s. IsFoundBy node_number s.ids.items s.next.items };
+    ghost invariant = { λ s. IsFoundBy node_number s.ids.items s.next.items
+        × AreMarked s.next.items s.marks.words.items };
 }
 
 impl NodeSet {
@@ -44,6 +48,7 @@ impl NodeSet {
         NodeSet {
             ids: Vec::new(alloc),
             next: Vec::new(alloc),
+            marks: Marks::new(alloc),
         }
     }
 
@@ -54,15 +59,16 @@ impl NodeSet {
         ensures err { OnErr result (self.new ≡ self.old) }
     {
         let number = id.number();
-        make_room(&mut self.next, number)?;
-        if self.next[number as usize] != 0 {
+        if self.marks.has(number) {
             return Ok(false);
         }
         let len = self.ids.len();
         if len == MOST_NODES {
             return Err(Memory);
         }
+        make_room(&mut self.next, number)?;
         self.ids.reserve(1)?;
+        self.marks.put(number)?;
         self.ids.push_reserved(id);
         self.next[number as usize] = len as u32 + 1;
         Ok(true)

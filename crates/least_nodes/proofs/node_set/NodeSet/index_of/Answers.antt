@@ -17,7 +17,7 @@ returns-in_err-next c =
     omega (arith, past, ap length c.deref.ensures.value) in
     let none =
     position_past node_number same_node same_node_equality node_numbers_differ ids next
-    c.self.invariant c.args.id c.number.result c.number.ensures beyond in
+    c.self.invariant.0 c.args.id c.number.result c.number.ensures beyond in
     c.from_residual.ensures ∙ sym none ∙ ap (position (same_node c.args.id)) c.self.view_is
 
 pub returns : goal.returns
@@ -33,6 +33,6 @@ returns c =
     let read = c.in_ok-next.ensures.lookup.1 ∙ same in
     let is =
     position_from_read node_number same_node same_node_equality node_numbers_differ ids next
-    c.self.invariant c.args.id n v c.number.ensures within read in
+    c.self.invariant.0 c.args.id n v c.number.ensures within read in
     is c.checked_sub.result c.checked_sub.ensures
     ∙ ap (position (same_node c.args.id)) c.self.view_is
