@@ -204,7 +204,7 @@ module _ {X : Type 0} (number_of : X → ℕ) (same : X → X → Bool) (equalit
 
   module _ (ids : List X) (next words : List ℕ) (found : IsFoundBy number_of ids next)
       (marked : AreMarked next words) where
-    -- more zeros stand for nothing marked
+    -- zeros behind the list leave the marks as true as they were
     pub AreMarked-zeros : (longer : List ℕ) (m : ℕ) → longer ≡ next ++ replicate m 0
         → AreMarked longer words
     AreMarked-zeros longer m is n =

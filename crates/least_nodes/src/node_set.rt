@@ -16,13 +16,14 @@ const MOST_NODES: usize = 0xffff_ffff;
 /// A set of nodes of one store that keeps the order in which they came.
 ///
 /// Contracts see the list of its nodes. A store numbers its nodes from 0 on, so a node is found by
-/// its number in a list, of four bytes for each number up to the highest that has come.
+/// its number in a list, of four bytes for each number up to the highest that has come, and whether
+/// the set has it is told by a bit more.
 #[derive(Drop)]
 pub struct NodeSet {
     ids: Vec<NodeId>,
     // At each number one more than the position of its node, and 0 where the set has none of it.
     next: Vec<u32>,
-    // The numbers that the set has, where a look finds them in less memory.
+    // Set where `next` is not 0: so much less memory stays nearer than `next` does.
     marks: Marks,
 }
 

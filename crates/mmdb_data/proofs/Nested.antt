@@ -1,4 +1,5 @@
--- Members that borrow their texts: how many they are, and one more of them in a section.
+-- Members that borrow their texts: how many they are, where the spelling of a map has each of them,
+-- and one more of them in a section.
 use Rattle.std.proofs.Common.{◌≡◌, ℕ, suc, ◌+◌, ◌<◌, ◌≤◌, List, [], ◌∷◌, ◌++◌, length, take, drop}
 use Rattle.std.proofs.Common.{get_or, refl, sym, ap, ◌∙◌, subst, arith, add-one, append_assoc}
 use Rattle.std.proofs.Common.{append-nil, length-append}

@@ -34,6 +34,7 @@ abbrev pub HasNarrowKey : Around → Type 0
 HasNarrowKey (Map key) = length key.now ≤ most
 HasNarrowKey InList = Unit {0}
 
+-- the value of a member
 abbrev pub member_value : Member → ValueTree
 member_value m = nested m.around.now m.text.now
 
